@@ -1,0 +1,3 @@
+pub mod CopyLaws
+pub mod EqualLaws
+pub mod NumberLaws

@@ -1,0 +1,27 @@
+-- Strings of bytes and the numbers that they stand for. A byte is a number below 256, a string a list of them; numbers are big-endian.
+use mathlib.Core.Bool.{Bool, true, false, _&&_}
+use mathlib.Core.List.{List, [], _∷_, _++_}
+use Prim.Native.Nat.{ℕ, zero, suc, _+_, _*_, _/_, _%_, _^_}
+use lib.Dec.{eqb}
+use lib.ListN.{length, take, drop}
+
+-- x as k bytes, modulo 256 ^ k
+unfoldable pub bytes : ℕ → ℕ → List ℕ
+bytes zero x = []
+bytes (suc k) x = bytes k (x / 256) ++ (x % 256 ∷ [])
+
+-- the number that a string of bytes stands for
+unfoldable pub number : List ℕ → ℕ
+number [] = 0
+number (b ∷ bs) = b * 256 ^ length bs + number bs
+
+-- the k bytes of s from index i on
+abbrev pub part : ℕ → ℕ → List ℕ → List ℕ
+part i k s = take k (drop i s)
+
+-- whether two strings are the same
+unfoldable pub equal : List ℕ → List ℕ → Bool
+equal [] [] = true
+equal [] (y ∷ ys) = false
+equal (x ∷ xs) [] = false
+equal (x ∷ xs) (y ∷ ys) = eqb x y && equal xs ys
