@@ -1,0 +1,31 @@
+-- The digest's bytes, one word after the other.
+use mathlib.Core.Path.{_≡_, refl, sym, ap, ap₂, _∙_}
+use mathlib.Core.List.{List, [], _∷_, _++_, append-assoc, append-nil}
+use Prim.Native.Nat.{ℕ, _+_, _*_, _≤_, _<_}
+use native.Mathlib.Numerals.{add-one}
+use native.Mathlib.Omega.{arith}
+use lib.ListN.{length, getD, take}
+use lib.Seq.{take-suc, take-all, take-paste, take-length, paste}
+use Rattle.octets.specs.Octets.{bytes}
+use Rattle.octets.proofs.NumberLaws.{length-bytes}
+use Rattle.sha256.specs.Sha256.{concatenated}
+
+snoc : (ws : List ℕ) (x : ℕ) → concatenated (ws ++ (x ∷ [])) ≡ concatenated ws ++ bytes 4 x
+unfolding concatenated
+snoc [] x = append-nil (bytes 4 x)
+snoc (w ∷ ws) x = ap (λ (r : List ℕ). bytes 4 w ++ r) (snoc ws x) ∙ sym (append-assoc (bytes 4 w) (concatenated ws) (bytes 4 x))
+
+module _ (h out : List ℕ) (i : ℕ) (e : take (4 * i) out ≡ concatenated (take i h)) where
+  pub concatenated-more : (b : List ℕ) → i < length h → 4 * i + 4 ≤ length out → b ≡ bytes 4 (getD h i 0)
+      → take (4 * (i + 1)) (paste out (4 * i) b (length b)) ≡ concatenated (take (i + 1) h)
+  concatenated-more b l k f =
+      let n : length b ≡ 4 = ap length f ∙ length-bytes 4 (getD h i 0) in
+      let m : 4 * (i + 1) ≡ 4 * i + length b = omega arith in
+      let t : take (i + 1) h ≡ take i h ++ (getD h i 0 ∷ []) = rw (add-one i) (take-suc h i 0 l) in
+      rw m
+      (take-paste out (4 * i) b (length b) (omega arith) (omega arith)
+      ∙ ap₂ {C = List ℕ} (λ (x y : List ℕ). x ++ y) e (take-length b ∙ f)
+      ∙ sym (snoc (take i h) (getD h i 0)) ∙ ap concatenated (sym t))
+
+  pub concatenated-all : length h ≡ 8 → length out ≡ 32 → 8 ≤ i → out ≡ concatenated h
+  concatenated-all l k g = sym (take-all (4 * i) out (omega arith)) ∙ e ∙ ap concatenated (take-all i h (omega arith))

@@ -1,0 +1,110 @@
+-- The padding: its zero bits are the least that do, its length, and the last block or two.
+use mathlib.Core.Path.{_≡_, refl, sym, ap, ap₂, _∙_}
+use mathlib.Core.List.{List, [], _∷_, _++_, append-assoc, append-nil}
+use Prim.Native.Nat.{ℕ, zero, suc, _+_, _*_, _-_, _/_, _%_, _^_, _≤_, _<_}
+use native.Mathlib.Omega.{arith}
+use lib.ListN.{length, take, drop, drop-of-length-le, set, replicate, length-append, length-replicate, replicate-append-replicate}
+use lib.Seq.{paste, take-length, take-all, take-at, drop-at, set-at, take-append-add}
+use Rattle.octets.specs.Octets.{bytes}
+use Rattle.octets.proofs.NumberLaws.{length-bytes, bytes-mod}
+use Rattle.sha256.specs.Sha256.{zeroBits, padding, pad, hashValue, block, compress, digest, concatenated}
+use Rattle.sha256.specs.Context.{Pending}
+use Rattle.sha256.proofs.HashLaws.{digest-pending, length-rest}
+
+-- the standard's words: the smallest non-negative solution k of l + 1 + k ≡ 448 modulo 512
+pub zero-bits : (l : ℕ) → ((l + 1 + zeroBits l) % 512 ≡ 448) × ((k : ℕ) → (l + 1 + k) % 512 ≡ 448 → zeroBits l ≤ k)
+unfolding zeroBits
+zero-bits l = (omega arith, λ k e. omega arith)
+
+zero-bytes : (n : ℕ) → zeroBits (8 * n) / 8 ≡ (119 - n % 64) % 64
+unfolding zeroBits
+zero-bytes n = omega arith
+
+-- a padded message has (length + 9) / 64 blocks, rounded up
+pub length-pad : (m : List ℕ) → length (pad m) ≡ 64 * ((length m + 9 + 63) / 64)
+unfolding pad padding
+length-pad m =
+    let z = zeroBits (8 * length m) / 8 in
+    length-append m ((0x80 ∷ replicate z 0) ++ bytes 8 (8 * length m))
+    ∙ ap (λ (k : ℕ). length m + k) (length-append (0x80 ∷ replicate z 0) (bytes 8 (8 * length m)))
+    ∙ omega (arith, length-replicate {A = ℕ} z 0, length-bytes 8 (8 * length m), zero-bytes (length m))
+
+drop-replicate : (k n : ℕ) → k ≤ n → drop {A = ℕ} k (replicate n 0) ≡ replicate (n - k) 0
+drop-replicate k n h =
+    let e : k + (n - k) ≡ n = omega arith in
+    let f : _≡_ {A = List ℕ} (replicate n 0) (replicate k 0 ++ replicate (n - k) 0) = ap (λ (x : ℕ). replicate {A = ℕ} x 0) (sym e) ∙ sym (replicate-append-replicate k (n - k) 0) in
+    rw f (drop-at (replicate k 0) (replicate (n - k) 0) k (length-replicate {A = ℕ} k 0))
+
+-- the bytes left over in a block of zeros, then 0x80
+pub marked : (r : List ℕ) → length r < 64
+    → set (paste (replicate 64 0) 0 r (length r)) (length r) 0x80 ≡ r ++ (0x80 ∷ replicate (63 - length r) 0)
+marked r h =
+    let e : 64 - (0 + length r) ≡ suc (63 - length r) = omega arith in
+    ap (λ (x : List ℕ). set x (length r) 0x80)
+    (ap₂ {C = List ℕ} (λ (x y : List ℕ). x ++ y) (take-length r) (drop-replicate (0 + length r) 64 (omega arith) ∙ ap (λ (k : ℕ). replicate k 0) e))
+    ∙ set-at r 0 (replicate (63 - length r) 0) 0x80 (length r) refl
+
+-- the length in bits: eight bytes hold it modulo 2 ^ 64
+bits : (t n : ℕ) → t ≡ n % 2 ^ 64 → bytes 8 (8 * t) ≡ bytes 8 (8 * n)
+bits t n e =
+    let w : (8 * t) % 256 ^ 8 ≡ (8 * n) % 256 ^ 8 = omega arith in
+    sym (bytes-mod 8 (8 * t)) ∙ ap (bytes 8) w ∙ bytes-mod 8 (8 * n)
+
+hash-one : (h x : List ℕ) → length x ≡ 64 → hashValue h (length x / 64) x ≡ compress h x
+unfolding hashValue block
+hash-one h x e = rw e (ap (compress h) (take-all 64 x (omega arith)))
+
+hash-two : (h x y : List ℕ) → length x ≡ 64 → length y ≡ 64 → hashValue h (length (x ++ y) / 64) (x ++ y) ≡ compress (compress h x) y
+unfolding hashValue block
+hash-two h x y e f =
+    let l : length (x ++ y) ≡ 128 = length-append x y ∙ omega arith in
+    rw (l, take-at x y 64 e, drop-at x y 64 e, take-all 64 y (omega arith))
+
+module _ {h r : List ℕ} {t : ℕ} {m : List ℕ} (p : Pending h r t m) where
+  zeros : (k : ℕ) → k ≡ (119 - length r) % 64 → padding (8 * length m) ≡ (0x80 ∷ replicate k 0) ++ bytes 8 (8 * t)
+  unfolding padding
+  zeros k e =
+      let f : zeroBits (8 * length m) / 8 ≡ k = omega (arith, zero-bytes (length m), length-rest p []) in
+      ap₂ (λ (x : ℕ) (y : List ℕ). (0x80 ∷ replicate x 0) ++ y) f (sym (bits t (length m) (p .count)))
+
+  -- it fits into the block, or takes one more
+  pub digest-one : length r < 56 → (b : List ℕ) → b ≡ r ++ (0x80 ∷ replicate (63 - length r) 0)
+      → concatenated (compress h (take 56 b ++ bytes 8 (8 * t))) ≡ digest m
+  digest-one l b e =
+      let x = take 56 b ++ bytes 8 (8 * t) in
+      let k : 63 - length r ≡ (55 - length r) + 8 = omega arith in
+      let g : take 56 b ≡ r ++ (0x80 ∷ replicate (55 - length r) 0) =
+      ap (take 56) (e ∙ ap (λ (n : ℕ). r ++ (0x80 ∷ replicate n 0)) k
+      ∙ ap (λ (y : List ℕ). r ++ (0x80 ∷ y)) (sym (replicate-append-replicate (55 - length r) 8 0)) ∙ sym (append-assoc r (0x80 ∷ replicate (55 - length r) 0) (replicate 8 0)))
+      ∙ take-at (r ++ (0x80 ∷ replicate (55 - length r) 0)) (replicate 8 0) 56
+      (length-append r (0x80 ∷ replicate (55 - length r) 0) ∙ omega (arith, length-replicate {A = ℕ} (55 - length r) 0)) in
+      let w : x ≡ r ++ padding (8 * length m) =
+      ap (λ (y : List ℕ). y ++ bytes 8 (8 * t)) g ∙ append-assoc r (0x80 ∷ replicate (55 - length r) 0) (bytes 8 (8 * t))
+      ∙ ap (λ (y : List ℕ). r ++ y) (sym (zeros (55 - length r) (omega arith))) in
+      let n : length x ≡ 64 =
+      length-append (take 56 b) (bytes 8 (8 * t))
+      ∙ omega (arith, length-bytes 8 (8 * t), ap length g, length-append r (0x80 ∷ replicate (55 - length r) 0), length-replicate {A = ℕ} (55 - length r) 0) in
+      sym (digest-pending p x w ∙ ap concatenated (hash-one h x n))
+
+  pub digest-two : 56 ≤ length r → length r < 64 → (b z : List ℕ) → b ≡ r ++ (0x80 ∷ replicate (63 - length r) 0) → z ≡ replicate 56 0
+      → concatenated (compress (compress h b) (z ++ bytes 8 (8 * t))) ≡ digest m
+  digest-two l g b z e f =
+      let y = z ++ bytes 8 (8 * t) in
+      let k : 119 - length r ≡ (63 - length r) + 56 = omega arith in
+      let w : b ++ y ≡ r ++ padding (8 * length m) =
+      ap₂ {C = List ℕ} (λ (u v : List ℕ). u ++ (v ++ bytes 8 (8 * t))) e f
+      ∙ append-assoc r (0x80 ∷ replicate (63 - length r) 0) (replicate 56 0 ++ bytes 8 (8 * t))
+      ∙ ap (λ (u : List ℕ). r ++ (0x80 ∷ u)) (sym (append-assoc (replicate (63 - length r) 0) (replicate 56 0) (bytes 8 (8 * t)))
+      ∙ ap (λ (u : List ℕ). u ++ bytes 8 (8 * t)) (replicate-append-replicate (63 - length r) 56 0 ∙ ap (λ (n : ℕ). replicate n 0) (sym k)))
+      ∙ ap (λ (u : List ℕ). r ++ u) (sym (zeros (119 - length r) (omega arith))) in
+      let n : length b ≡ 64 = ap length e ∙ length-append r (0x80 ∷ replicate (63 - length r) 0) ∙ omega (arith, length-replicate {A = ℕ} (63 - length r) 0) in
+      let o : length y ≡ 64 = length-append z (bytes 8 (8 * t)) ∙ omega (arith, ap length f, length-replicate {A = ℕ} 56 0, length-bytes 8 (8 * t)) in
+      sym (digest-pending p (b ++ y) w ∙ ap concatenated (hash-two h b y n o))
+
+-- the length written into the last block
+pub closed : (b l : List ℕ) (t : ℕ) → length b ≡ 64 → l ≡ bytes 8 ((t * 2 ^ 3) % 2 ^ 64) → paste b 56 l (length l) ≡ take 56 b ++ bytes 8 (8 * t)
+closed b l t e f =
+    let g : l ≡ bytes 8 (8 * t) = f ∙ ap (λ (x : ℕ). bytes 8 (x % 2 ^ 64)) (omega arith) ∙ bytes-mod 8 (8 * t) in
+    let n : length l ≡ 8 = ap length g ∙ length-bytes 8 (8 * t) in
+    ap (λ (x : List ℕ). (take 56 b ++ take (length l) l) ++ x) (drop-of-length-le b {i = 56 + length l} (omega arith))
+    ∙ append-nil (take 56 b ++ take (length l) l) ∙ ap (λ (x : List ℕ). take 56 b ++ x) (take-length l ∙ g)

@@ -1,0 +1,25 @@
+use Rattle.sha256.specs.Sha256.{compress}
+use borrow.Author.Needs.{needs}
+use Rattle.sha256.proofs.compress.compress.Statement.{statement}
+use Rattle.sha256.proofs.compress.compress.Tie as tie
+
+schedule-requires : tie.Need-schedule-requires
+schedule-requires c κs = search needs
+
+initialize-requires : tie.Need-initialize-requires
+initialize-requires c κs = search needs
+
+rounds-requires : tie.Need-rounds-requires
+rounds-requires c κs = search needs
+
+sums-requires : tie.Need-sums-requires
+sums-requires c κs = search needs
+
+returns : tie.Need-returns
+unfolding compress
+returns c = cc
+
+pub compress-spec : {M : Type 1} → statement M
+compress-spec =
+    tie.close
+    (tie.spec schedule-requires initialize-requires rounds-requires sums-requires returns)

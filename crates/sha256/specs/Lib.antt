@@ -1,0 +1,3 @@
+pub mod Sha256
+pub mod Working
+pub mod Context

@@ -1,0 +1,50 @@
+// The functions on 32-bit words (FIPS 180-4, 4.1.2) and their sums modulo 2^32.
+ghost use mathlib.Core.Path.{_≡_};
+ghost use Prim.Native.Nat.{_+_};
+ghost use Rattle.sha256.specs.Sha256.{word, Ch, Maj, Σ0, Σ1, σ0, σ1};
+
+pub fn add(x: u32, y: u32) -> u32
+    ensures { λ r. ⌜ r ≡ word (x + y) ⌝ }
+{
+    std::num::wrapping_add_u32(x, y)
+}
+
+pub fn ch(x: u32, y: u32, z: u32) -> u32
+    ensures { λ r. ⌜ r ≡ Ch x y z ⌝ }
+{
+    (x & y) ^ (!x & z)
+}
+
+pub fn maj(x: u32, y: u32, z: u32) -> u32
+    ensures { λ r. ⌜ r ≡ Maj x y z ⌝ }
+{
+    (x & y) ^ (x & z) ^ (y & z)
+}
+
+// Σ0.
+pub fn big0(x: u32) -> u32
+    ensures { λ r. ⌜ r ≡ Σ0 x ⌝ }
+{
+    ((x >> 2) | (x << 30)) ^ ((x >> 13) | (x << 19)) ^ ((x >> 22) | (x << 10))
+}
+
+// Σ1.
+pub fn big1(x: u32) -> u32
+    ensures { λ r. ⌜ r ≡ Σ1 x ⌝ }
+{
+    ((x >> 6) | (x << 26)) ^ ((x >> 11) | (x << 21)) ^ ((x >> 25) | (x << 7))
+}
+
+// σ0.
+pub fn small0(x: u32) -> u32
+    ensures { λ r. ⌜ r ≡ σ0 x ⌝ }
+{
+    ((x >> 7) | (x << 25)) ^ ((x >> 18) | (x << 14)) ^ (x >> 3)
+}
+
+// σ1.
+pub fn small1(x: u32) -> u32
+    ensures { λ r. ⌜ r ≡ σ1 x ⌝ }
+{
+    ((x >> 17) | (x << 15)) ^ ((x >> 19) | (x << 13)) ^ (x >> 10)
+}

@@ -1,0 +1,24 @@
+// SHA-256 (FIPS 180-4) of a message in one call, or in pieces through a `Context`. The files follow the standard: functions (4.1.2), message
+// schedule, rounds and hash value (6.2.2), padding (5.1.1).
+mod compress;
+mod context;
+mod functions;
+mod padding;
+mod rounds;
+mod schedule;
+
+use compress::H0;
+use compress::compress_all;
+pub use context::Context;
+use padding::last;
+ghost use mathlib.Core.Path.{_≡_};
+ghost use Rattle.sha256.specs.Sha256 as spec;
+
+pub fn digest(message: &[u8]) -> [u8; 32]
+    ensures { λ r. ⌜ r ≡ spec.digest (now (message .entry)) ⌝ }
+{
+    let start = H0;
+    let h = compress_all(start, message);
+    let whole = message.len() / 64 * 64;
+    last(h, &message[whole..], message.len() as u64)
+}

@@ -1,0 +1,50 @@
+// The end of a message: its padding (FIPS 180-4, 5.1.1), the last one or two blocks, and the digest's bytes.
+use crate::compress::compress;
+ghost use mathlib.Core.Path.{_≡_};
+ghost use mathlib.Core.List.{List, _++_};
+ghost use Prim.Native.Nat.{ℕ, _*_, _<_};
+ghost use lib.ListN.{length, take};
+ghost use Rattle.octets.specs.Octets.{bytes};
+ghost use Rattle.sha256.specs.Sha256 as spec;
+ghost use Rattle.sha256.specs.Context.{Pending};
+
+// The eight words as bytes.
+fn concatenated(h: [u32; 8]) -> [u8; 32]
+    ensures { λ r. ⌜ r ≡ spec.concatenated h ⌝ }
+{
+    let mut out = [0u8; 32];
+    let mut i: usize = 0;
+    while i < 8 {
+        let b = octets::be32(h[i]);
+        octets::copy(&mut out, 4 * i, &b);
+        i += 1;
+    }
+    out
+}
+
+// The digest after the last block, whose last eight bytes are the message's length in bits.
+fn close(h: [u32; 8], block: [u8; 64], length: u64) -> [u8; 32]
+    ensures { λ r. ⌜ r ≡ spec.concatenated (spec.compress h (take 56 block ++ bytes 8 (8 * length))) ⌝ }
+{
+    let bits = octets::be64(length << 3);
+    let mut b = block;
+    octets::copy(&mut b, 56, &bits);
+    let last = compress(h, &b);
+    concatenated(last)
+}
+
+// The digest of a message of `length` bytes, from the hash value after its whole blocks and the bytes after them.
+pub fn last(h: [u32; 8], rest: &[u8], length: u64) -> [u8; 32]
+    requires { ⌜ lib.ListN.length (now rest) < 64 ⌝ }
+    ensures { λ r. ⌜ ((m : List ℕ) → Pending h (now (rest .entry)) length m → r ≡ spec.digest m) ⌝ }
+{
+    let used = rest.len();
+    let mut b = [0u8; 64];
+    octets::copy(&mut b, 0, rest);
+    b[used] = 0x80;
+    if used < 56 {
+        return close(h, b, length);
+    }
+    let next = compress(h, &b);
+    close(next, [0u8; 64], length)
+}
