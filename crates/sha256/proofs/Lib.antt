@@ -1,3 +1,4 @@
+pub mod Constants
 pub mod ContextLaws
 pub mod DigestLaws
 pub mod HashLaws
