@@ -1,14 +1,14 @@
 -- The digest's bytes, one word after the other.
 use mathlib.Core.Path.{_≡_, refl, sym, ap, ap₂, _∙_}
 use mathlib.Core.List.{List, [], _∷_, _++_, append-assoc, append-nil}
-use Prim.Native.Nat.{ℕ, _+_, _*_, _≤_, _<_}
+use Prim.Native.Nat.{ℕ, zero, suc, _+_, _*_, _/_, _≤_, _<_}
 use native.Mathlib.Numerals.{add-one}
 use native.Mathlib.Omega.{arith}
-use lib.ListN.{length, getD, take}
+use lib.ListN.{length, getD, take, length-append}
 use lib.Seq.{take-suc, take-all, take-paste, take-length, paste}
 use Rattle.octets.specs.Octets.{bytes}
 use Rattle.octets.proofs.NumberLaws.{length-bytes}
-use Rattle.sha256.specs.Sha256.{concatenated}
+use Rattle.sha256.specs.Sha256.{H0, compress, sums, hashValue, pad, concatenated, digest}
 
 snoc : (ws : List ℕ) (x : ℕ) → concatenated (ws ++ (x ∷ [])) ≡ concatenated ws ++ bytes 4 x
 unfolding concatenated
@@ -29,3 +29,19 @@ module _ (h out : List ℕ) (i : ℕ) (e : take (4 * i) out ≡ concatenated (ta
 
   pub concatenated-all : length h ≡ 8 → length out ≡ 32 → 8 ≤ i → out ≡ concatenated h
   concatenated-all l k g = sym (take-all (4 * i) out (omega arith)) ∙ e ∙ ap concatenated (take-all i h (omega arith))
+
+length-concatenated : (ws : List ℕ) → length (concatenated ws) ≡ 4 * length ws
+unfolding concatenated
+length-concatenated [] = refl
+length-concatenated (w ∷ ws) =
+    length-append (bytes 4 w) (concatenated ws) ∙ ap₂ (λ (a b : ℕ). a + b) (length-bytes 4 w) (length-concatenated ws) ∙ omega arith
+
+length-hash : (H : List ℕ) (n : ℕ) (m : List ℕ) → length H ≡ 8 → length (hashValue H n m) ≡ 8
+unfolding hashValue compress sums
+length-hash H zero m e = e
+length-hash H (suc n) m e = refl
+
+-- a digest has 32 bytes
+pub length-digest : (m : List ℕ) → length (digest m) ≡ 32
+unfolding digest H0
+length-digest m = length-concatenated (hashValue H0 (length (pad m) / 64) (pad m)) ∙ ap (λ (k : ℕ). 4 * k) (length-hash H0 (length (pad m) / 64) (pad m) refl)
