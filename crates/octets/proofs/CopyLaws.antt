@@ -1,19 +1,60 @@
 -- Copies and parts.
-use mathlib.Core.Path.{_≡_, refl, ap, _∙_}
-use mathlib.Core.List.{List, [], _++_, append-nil}
-use Prim.Native.Nat.{ℕ, _+_, _-_, _≤_}
+use mathlib.Core.Path.{_≡_, refl, sym, ap, ap₂, _∙_}
+use mathlib.Core.List.{List, [], _∷_, _++_, append-assoc, append-nil}
+use Prim.Native.Nat.{ℕ, zero, suc, _+_, _-_, _≤_}
+use native.Mathlib.Nat.{zero-add}
 use native.Mathlib.Omega.{arith}
-use lib.ListN.{length, take, drop, length-drop, drop-of-length-le}
-use lib.Seq.{paste, take-length, length-take-le}
+use lib.ListN.{length, take, drop, length-append, length-drop, drop-of-length-le}
+use lib.Seq.{paste, take-length, take-all, take-at, take-take, drop-at, drop-drop, length-take-le, take-append-le, drop-append-le}
 use Rattle.octets.specs.Octets.{part}
 
 pub length-part : (s : List ℕ) (i k : ℕ) → i + k ≤ length s → length (part i k s) ≡ k
 length-part s i k h = length-take-le k (drop i s) (rw (length-drop i s) (omega arith))
 
--- a copy over the whole
-pub paste-whole : (d s : List ℕ) → length d ≡ length s → paste d 0 s (length s) ≡ s
-paste-whole d s e = rw (take-length s) (ap (λ (r : List ℕ). s ++ r) (drop-of-length-le d {i = 0 + length s} (omega arith)) ∙ append-nil s)
-
--- the slice s[i..i + k]
+-- the slices s[i..i + k] and s[i..], as the borrow checker states them
 pub part-between : (s : List ℕ) (i k : ℕ) → take (i + k - i) (drop i s) ≡ part i k s
 part-between s i k = let e : i + k - i ≡ k = omega arith in rw e
+
+pub part-from : (s : List ℕ) (i : ℕ) → take (length s - i) (drop i s) ≡ drop i s
+part-from s i = take-all (length s - i) (drop i s) (rw (length-drop i s) (omega arith))
+
+inner : (s : List ℕ) (j n k : ℕ) → j + n ≤ k → take n (drop j (take k s)) ≡ take n (drop j s)
+inner s zero n k h = take-take n k s (omega arith)
+inner s (suc j) n zero h = absurd (omega arith)
+inner [] (suc j) n (suc k) h = refl
+inner (x ∷ s) (suc j) n (suc k) h = inner s j n k (omega arith)
+
+-- a part of a part
+pub part-part : (s : List ℕ) (i k j n : ℕ) → j + n ≤ k → part j n (part i k s) ≡ part (i + j) n s
+part-part s i k j n h = inner (drop i s) j n k h ∙ ap (take n) (drop-drop j i s)
+
+-- a part of x ++ y: within x, or y itself
+pub part-first : (x y : List ℕ) (i k : ℕ) → i + k ≤ length x → part i k (x ++ y) ≡ part i k x
+part-first x y i k h = ap (take k) (drop-append-le i x y (omega arith)) ∙ take-append-le k (drop i x) y (rw (length-drop i x) (omega arith))
+
+pub part-second : (x y : List ℕ) (i k : ℕ) → length x ≡ i → length y ≡ k → part i k (x ++ y) ≡ y
+part-second x y i k e f = ap (take k) (drop-at x y i e) ∙ take-all k y (omega arith)
+
+-- what stands from at on after a copy to at
+pub paste-from : (d s : List ℕ) (at : ℕ) → at ≤ length d → drop at (paste d at s (length s)) ≡ s ++ drop (at + length s) d
+paste-from d s at h =
+    ap (drop at) (append-assoc (take at d) (take (length s) s) (drop (at + length s) d))
+    ∙ drop-at (take at d) (take (length s) s ++ drop (at + length s) d) at (length-take-le at d h)
+    ∙ ap (λ (x : List ℕ). x ++ drop (at + length s) d) (take-length s)
+
+-- a copy to the end
+pub paste-end : (d s : List ℕ) (at : ℕ) → at + length s ≡ length d → paste d at s (length s) ≡ take at d ++ s
+paste-end d s at e =
+    rw (take-length s, drop-of-length-le d {i = at + length s} (omega arith)) (append-nil (take at d ++ s))
+
+-- a copy over the whole
+pub paste-whole : (d s : List ℕ) → length d ≡ length s → paste d 0 s (length s) ≡ s
+paste-whole d s e = paste-end d s 0 (zero-add (length s) ∙ sym e)
+
+-- two copies, one behind the other, that fill the whole
+pub paste-two : (d s t : List ℕ) (at : ℕ) → length s ≡ at → at + length t ≡ length d → paste (paste d 0 s (length s)) at t (length t) ≡ s ++ t
+paste-two d s t at e f =
+    let first : paste d 0 s (length s) ≡ s ++ drop at d = ap₂ {C = List ℕ} (λ (u : List ℕ) (k : ℕ). u ++ drop k d) (take-length s) (zero-add (length s) ∙ e) in
+    ap (λ (x : List ℕ). paste x at t (length t)) first
+    ∙ paste-end (s ++ drop at d) t at (f ∙ sym (length-append s (drop at d) ∙ omega (arith, e, length-drop at d)))
+    ∙ ap (λ (x : List ℕ). x ++ t) (take-at s (drop at d) at e)

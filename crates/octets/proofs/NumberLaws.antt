@@ -7,8 +7,9 @@ use native.Mathlib.Omega.{arith}
 use lib.Arith.{mod-mul, digits-div, digits-mod}
 use lib.Dec.{lit<}
 use lib.ListN.{length, length-append, drop, getD, take}
-use lib.Seq.{drop-cons}
+use lib.Seq.{drop-cons, take-suc, take-length, getD-take, getD-drop}
 use Rattle.octets.specs.Octets.{bytes, number, part}
+use Rattle.octets.proofs.CopyLaws.{length-part}
 
 pub length-bytes : (k x : ℕ) → length (bytes k x) ≡ k
 unfolding bytes
@@ -63,3 +64,32 @@ number-four s i h =
     let b : suc (suc i) ≡ i + 2 = omega arith in
     let d : suc (suc (suc i)) ≡ i + 3 = omega arith in
     rw (part-suc s i 3 (omega arith), part-suc s (suc i) 2 (omega arith), part-suc s (suc (suc i)) 1 (omega arith), part-suc s (suc (suc (suc i))) 0 (omega arith), d, b, a) (omega arith)
+
+-- every element is a byte
+abbrev pub Bytes : List ℕ → Type 0
+Bytes s = (i : ℕ) → i < length s → getD s i 0 < 256
+
+bytes-front : (s : List ℕ) → Bytes s → (n : ℕ) → n ≤ length s → bytes n (number (take n s)) ≡ take n s
+unfolding bytes
+bytes-front s h zero l = refl
+bytes-front s h (suc n) l =
+    let x = getD s n 0 in
+    let e = take-suc s n 0 (omega arith) in
+    let f = ap number e ∙ number-snoc (take n s) x in
+    let b = h n (omega arith) in
+    ap₂ (λ (y z : ℕ). bytes n y ++ (z ∷ []))
+    (ap (λ (y : ℕ). y / 256) f ∙ digits-div (number (take n s)) b)
+    (ap (λ (y : ℕ). y % 256) f ∙ digits-mod (number (take n s)) b)
+    ∙ ap (λ (r : List ℕ). r ++ (x ∷ [])) (bytes-front s h n (omega arith)) ∙ sym e
+
+-- a string of bytes is that of its number
+pub bytes-number : (s : List ℕ) → Bytes s → bytes (length s) (number s) ≡ s
+bytes-number s h =
+    ap (λ (t : List ℕ). bytes (length s) (number t)) (sym (take-length s)) ∙ bytes-front s h (length s) (omega arith) ∙ take-length s
+
+-- so is each part of it
+pub bytes-part : (s : List ℕ) → Bytes s → (i k : ℕ) → i + k ≤ length s → bytes k (number (part i k s)) ≡ part i k s
+bytes-part s h i k l =
+    let n = length-part s i k l in
+    ap (λ (j : ℕ). bytes j (number (part i k s))) (sym n)
+    ∙ bytes-number (part i k s) (λ j g. let j′ : j < k = omega arith in rw (getD-take k (drop i s) j 0 j′, getD-drop i s j 0) (h (i + j) (omega arith)))

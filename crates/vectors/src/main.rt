@@ -1,6 +1,8 @@
 // Outside test data, run through the proved functions. What is printed is held to the file `stdout`.
 mod digests;
+mod signatures;
 
 fn main() {
     digests::run();
+    signatures::run();
 }

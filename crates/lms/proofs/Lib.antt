@@ -1,0 +1,6 @@
+pub mod ChainLaws
+pub mod DigitLaws
+pub mod Examples
+pub mod TableLaws
+pub mod TreeLaws
+pub mod VerdictLaws

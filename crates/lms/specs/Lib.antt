@@ -1,0 +1,5 @@
+pub mod Notation
+pub mod Ots
+pub mod Tree
+pub mod Lms
+pub mod Types

@@ -1,0 +1,50 @@
+// RFC 8554, section 5: the top hash that a leaf's one-time key and its path lead to.
+use crate::hash::D_INTR;
+use crate::hash::D_LEAF;
+use crate::hash::start;
+use sha256::Context;
+ghost use mathlib.Core.Path.{_≡_};
+ghost use Prim.Native.Nat.{_*_, _^_, _≤_, _<_};
+ghost use lib.ListN.{length};
+ghost use Rattle.lms.specs.Tree as spec;
+
+fn leaf(id: &[u8], node: u32, key: &[u8]) -> [u8; 32]
+    requires { ⌜ length (now id) ≡ 16 ⌝ }
+    ensures { λ r. ⌜ r ≡ spec.leafHash (now (id .entry)) node (now (key .entry)) ⌝ }
+{
+    let s = start(id, node, D_LEAF);
+    Context::new().update(&s).update(key).finish()
+}
+
+// The hash of a node's parent, from the node's hash and its sibling's.
+fn parent(id: &[u8], node: u32, sibling: &[u8], hash: &[u8]) -> [u8; 32]
+    requires { ⌜ length (now id) ≡ 16 ⌝ }
+    ensures { λ r. ⌜ r ≡ spec.parent (now (id .entry)) node (now (sibling .entry)) (now (hash .entry)) ⌝ }
+{
+    let s = start(id, node / 2, D_INTR);
+    let context = Context::new().update(&s);
+    if node % 2 == 1 {
+        context.update(sibling).update(hash).finish()
+    } else {
+        context.update(hash).update(sibling).finish()
+    }
+}
+
+// The candidate for the top hash, of leaf q of a tree of the given height.
+pub fn candidate(id: &[u8], q: u32, height: usize, key: &[u8], path: &[u8]) -> [u8; 32]
+    requires { ⌜ (length (now id) ≡ 16) × (height ≤ 25) × (q < 2 ^ height) × (length (now path) ≡ 32 * height) ⌝ }
+    ensures { λ r. ⌜ r ≡ spec.Tc height (now (id .entry)) q (now (key .entry)) (now (path .entry)) ⌝ }
+{
+    let mut node = (1 << height) + q;
+    let mut hash = leaf(id, node, key);
+    let mut i: usize = 0;
+    while node > 1 {
+        let at = 32 * i;
+        let end = at + 32;
+        let next = parent(id, node, &path[at..end], &hash);
+        hash = next;
+        node /= 2;
+        i += 1;
+    }
+    hash
+}
