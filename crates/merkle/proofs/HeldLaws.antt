@@ -1,0 +1,126 @@
+-- The flat array: what is held before and after a message's hashes took the place of the first.
+use mathlib.Core.Path.{_≡_, refl, ap, ap₂, _∙_}
+use mathlib.Core.Bool.{Bool}
+use mathlib.Core.List.{List, [], _∷_, _++_}
+use Prim.Native.Nat.{ℕ, zero, suc, _+_, _-_, _*_, _/_, _≤_, _<_}
+use native.Mathlib.Omega.{arith}
+use lib.ListN.{length, take, drop, replicate, length-drop, length-append, length-replicate}
+use lib.Seq.{paste, length-paste, drop-drop, take-append-le, drop-append-le, take-at, drop-at, take-all}
+use Rattle.octets.specs.Octets.{equal}
+use Rattle.merkle.specs.Limits.{hashLength, maxBlocks, heldBytes}
+use Rattle.merkle.specs.Hash.{climb}
+use Rattle.merkle.specs.Frontier.{carried, held}
+use Rattle.merkle.specs.Held.{joined, hashesIn, heldStart, heldIn, nextHeld, begun, advanced, fits}
+use Rattle.octets.proofs.CopyLaws.{paste-from}
+use Rattle.merkle.proofs.CountLaws.{held-zero, held-all, held-next, room, Counted, counted-most}
+
+pub length-hashesIn : (c : ℕ) (bytes : List ℕ) → length (hashesIn c bytes) ≡ c
+unfolding hashesIn
+length-hashesIn zero bytes = refl
+length-hashesIn (suc c) bytes = ap suc (length-hashesIn c (drop hashLength bytes))
+
+hashesIn-append : (c m : ℕ) (x y : List ℕ) → length x ≡ hashLength * c → hashesIn (c + m) (x ++ y) ≡ hashesIn c x ++ hashesIn m y
+unfolding hashesIn
+hashesIn-append zero m [] y e = let z : 0 + m ≡ m = omega arith in rw z
+hashesIn-append zero m (b ∷ x) y e = absurd (omega arith)
+hashesIn-append (suc c) m x y e =
+    let z : suc c + m ≡ suc (c + m) = omega arith in
+    rw (
+      z,
+      take-append-le hashLength x y (omega arith),
+      drop-append-le hashLength x y (omega arith),
+      hashesIn-append c m (drop hashLength x) y (rw (length-drop hashLength x) (omega arith)),
+    )
+
+-- Hashes of their length, one behind the other.
+pub data Sized : List (List ℕ) → Type 0 where
+  none : Sized []
+  more : {x : List ℕ} {xs : List (List ℕ)} → length x ≡ hashLength → Sized xs → Sized (x ∷ xs)
+
+pub length-joined : {xs : List (List ℕ)} → Sized xs → length (joined xs) ≡ hashLength * length xs
+unfolding joined
+length-joined none = refl
+length-joined (more {x} {xs} e s) = length-append x (joined xs) ∙ omega (arith, e, length-joined s)
+
+pub hashesIn-joined : {xs : List (List ℕ)} → Sized xs → hashesIn (length xs) (joined xs) ≡ xs
+unfolding joined hashesIn
+hashesIn-joined none = refl
+hashesIn-joined (more {x} {xs} e s) =
+    ap₂ {C = List (List ℕ)} (λ u v. u ∷ v) (take-at x (joined xs) hashLength e)
+    (ap (hashesIn (length xs)) (drop-at x (joined xs) hashLength e) ∙ hashesIn-joined s)
+
+-- Before the first block the root is held, after the last nothing.
+pub begun-held : (n : ℕ) (root : List ℕ) → length root ≡ hashLength → heldIn n 0 (begun root) ≡ root ∷ []
+unfolding heldIn heldStart hashesIn begun
+begun-held n root e =
+    rw (held-zero n, drop-at (replicate (heldBytes - hashLength) 0) root (heldBytes - hashLength) (length-replicate {A = ℕ} (heldBytes - hashLength) 0))
+    (ap {B = List (List ℕ)} (λ x. x ∷ []) (take-all hashLength root (omega arith)))
+
+pub length-begun : (root : List ℕ) → length root ≡ hashLength → length (begun root) ≡ heldBytes
+unfolding begun
+length-begun root e = length-append (replicate (heldBytes - hashLength) 0) root ∙ omega (arith, e, length-replicate {A = ℕ} (heldBytes - hashLength) 0)
+
+pub all-held : (n : ℕ) (array : List ℕ) → 0 < n → heldIn n n array ≡ []
+unfolding heldIn hashesIn
+all-held n array pos = rw (held-all n pos)
+
+-- The message's hashes take the place of the first held one, and the others stay.
+pub record Advance (n i : ℕ) (array message : List ℕ) : Type 0 where
+  pub others : List (List ℕ)
+  pub first : heldIn n i array ≡ nextHeld n i array ∷ others
+  pub then : heldIn n (suc i) (advanced n i array message) ≡ hashesIn (carried n (suc i)) message ++ others
+  pub size : length (advanced n i array message) ≡ heldBytes
+
+pub advance : (n i : ℕ) (array message : List ℕ) → i < n → n ≤ maxBlocks → length array ≡ heldBytes → length message ≡ hashLength * carried n (suc i)
+    → Advance n i array message
+unfolding heldIn nextHeld advanced heldStart hashesIn
+advance n i array message h le la lm = go (held n i) refl
+  where
+    go : (m : ℕ) → held n i ≡ m → Advance n i array message
+    go zero e = absurd (let k = room n i h le in let some = k .some in omega arith)
+    go (suc m) e =
+        let k = room n i h le in
+        let most = k .most in
+        let enough = k .enough in
+        let now : held n (suc i) ≡ carried n (suc i) + m = omega (arith, held-next n i h) in
+        let at : heldBytes - hashLength * (carried n (suc i) + m) ≡ heldBytes - hashLength * suc m + hashLength - length message = omega arith in
+        let end : heldBytes - hashLength * suc m + hashLength - length message + length message ≡ heldBytes - hashLength * suc m + hashLength = omega arith in
+        record {
+          others = hashesIn m (drop hashLength (drop (heldBytes - hashLength * suc m) array));
+          first = rw e;
+          then = rw (
+            now,
+            e,
+            at,
+            paste-from array message (heldBytes - hashLength * suc m + hashLength - length message) (omega arith),
+            end,
+            hashesIn-append (carried n (suc i)) m message (drop (heldBytes - hashLength * suc m + hashLength) array) lm,
+            drop-drop hashLength (heldBytes - hashLength * suc m) array,
+          );
+          size = rw e (length-paste array (heldBytes - hashLength * suc m + hashLength - length message) message (length message) (omega arith) (omega arith) ∙ la);
+        }
+
+-- What the code of `next_at`, `fits` and `advance` works out.
+pub start-is : (n i h c : ℕ) → i < n → n ≤ maxBlocks → Counted n i h c
+    → (heldBytes - hashLength * h ≡ heldStart n i) × (heldBytes - hashLength * h + hashLength ≤ heldBytes)
+    × (hashLength * carried n (i + 1) ≤ heldBytes - hashLength * h + hashLength)
+unfolding heldStart
+start-is n i h c lt le e =
+    let k = counted-most n i h c lt le e in
+    let f = e .1 in
+    (ap (λ x. heldBytes - hashLength * x) (e .0), omega arith, omega arith)
+
+pub fits-is : (H : List ℕ → List ℕ) (p q : List ℕ) (n i start : ℕ) (array block message x : List ℕ) (t : Bool) → start ≡ heldStart n i
+    → length message ≡ hashLength * carried n (i + 1) → x ≡ climb H p q block (hashesIn (length message / hashLength) message)
+    → t ≡ equal (take (start + hashLength - start) (drop start array)) x → t ≡ fits H p q n i array block message
+unfolding fits nextHeld
+fits-is H p q n i start array block message x t es lm ex et =
+    let w : start + hashLength - start ≡ hashLength = omega arith in
+    let z : i + 1 ≡ suc i = omega arith in
+    let c : length message / hashLength ≡ carried n (suc i) = omega (arith, ap (carried n) z) in
+    et ∙ rw (w, es, ex, c)
+
+pub advanced-is : (n i start : ℕ) (array message r : List ℕ) → start ≡ heldStart n i → r ≡ paste array (start + hashLength - length message) message (length message)
+    → r ≡ advanced n i array message
+unfolding advanced
+advanced-is n i start array message r e er = er ∙ rw e

@@ -1,0 +1,16 @@
+pub mod ShapeLaws
+pub mod FrontierLaws
+pub mod CoverLaws
+pub mod HashLaws
+pub mod BindingLaws
+pub mod LoadingLaws
+pub mod BlockLaws
+pub mod PathLaws
+pub mod PathBindingLaws
+pub mod EarlyLaws
+pub mod CountLaws
+pub mod HeldLaws
+pub mod RunLaws
+pub mod TreeLaws
+pub mod ClimbLaws
+pub mod SiblingLaws

@@ -1,0 +1,39 @@
+-- The cases of document 01 that are marked for proof, in one table, with its numbering: messages from 1, held hashes after 0, 1, .. blocks; and its tree
+-- over three blocks.
+use mathlib.Core.Path.{_≡_, refl}
+use mathlib.Core.Bool.{true, false}
+use mathlib.Core.List.{List, [], _∷_, _++_}
+use Prim.Native.Nat.{ℕ, zero, suc}
+use lib.Dec.{leb}
+use Rattle.merkle.specs.Limits.{maxBlocks}
+use Rattle.merkle.specs.Blocks.{blockCount}
+use Rattle.merkle.specs.Shape.{size, leastFrom, depth, split, build, shape}
+use Rattle.merkle.specs.Hash.{hash}
+use Rattle.merkle.specs.Frontier.{largest, rightSiblings, siblings, carried, messageLength, frontier, held}
+
+-- f at first, first + 1, .. : as many values as asked for
+unfoldable pub values : ℕ → ℕ → (ℕ → ℕ) → List ℕ
+values zero first f = []
+values (suc many) first f = f first ∷ values many (suc first) f
+
+pub starred :
+    (values 1 1 (carried 1) ≡ 0 ∷ [])
+    × (values 3 1 (carried 3) ≡ 2 ∷ 0 ∷ 0 ∷ [])
+    × (values 5 1 (carried 5) ≡ 3 ∷ 0 ∷ 1 ∷ 0 ∷ 0 ∷ [])
+    × (values 7 1 (carried 7) ≡ 3 ∷ 0 ∷ 1 ∷ 0 ∷ 2 ∷ 0 ∷ 0 ∷ [])
+    × (values 8 1 (carried 8) ≡ 3 ∷ 0 ∷ 1 ∷ 0 ∷ 2 ∷ 0 ∷ 1 ∷ 0 ∷ [])
+    × (values 9 0 (held 8) ≡ 1 ∷ 3 ∷ 2 ∷ 2 ∷ 1 ∷ 2 ∷ 1 ∷ 1 ∷ 0 ∷ [])
+    × (values 4 0 (held 3) ≡ 1 ∷ 2 ∷ 1 ∷ 0 ∷ [])
+    × (blockCount 256 256 ≡ 1)
+    × (blockCount 256 257 ≡ 2)
+    × (leb (blockCount 256 1048576) maxBlocks ≡ true)
+    × (leb (blockCount 256 1048577) maxBlocks ≡ false)
+    × (messageLength 256 8 1 ≡ 355)
+    × (messageLength 256 8 2 ≡ 259)
+unfolding values size leastFrom depth split build shape largest rightSiblings siblings carried messageLength frontier held blockCount
+starred = (refl, refl, refl, refl, refl, refl, refl, refl, refl, refl, refl, refl, refl)
+
+-- "For n = 3 this is source document 000's figure 2": blocks 1 and 2 under one node, block 3 beside it.
+pub three : (H : List ℕ → List ℕ) (f : ℕ → List ℕ) → hash H [] [] f 0 (shape 3) ≡ H (H (H (f 0) ++ H (f 1)) ++ H (f 2))
+unfolding size leastFrom depth split build shape hash
+three H f = refl

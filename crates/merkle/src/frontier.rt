@@ -1,0 +1,57 @@
+// The frontier's hashes in one flat array, at its end and in block order: the next one needed comes first.
+use crate::counting::count;
+use crate::limits::HASH_LEN;
+use crate::limits::HELD_LEN;
+use crate::path::climb;
+use octets::copy;
+use octets::equal;
+ghost use mathlib.Core.Path.{_≡_};
+ghost use mathlib.Core.List.{[]};
+ghost use Prim.Native.Nat.{_+_, _*_, _≤_, _<_};
+ghost use lib.ListN.{length};
+ghost use Rattle.sha256.specs.Sha256 as sha;
+ghost use Rattle.merkle.specs.Limits.{maxBlocks, hashLength, heldBytes};
+ghost use Rattle.merkle.specs.Frontier.{carried};
+ghost use Rattle.merkle.specs.Held as spec;
+ghost use Rattle.merkle.specs.Held.{heldStart, begun, advanced};
+
+// Before the first block: the root alone.
+pub fn begin(root: &[u8]) -> [u8; HELD_LEN]
+    requires { ⌜ length (now root) ≡ hashLength ⌝ }
+    ensures { λ r. ⌜ r ≡ begun (now (root .entry)) ⌝ }
+{
+    let mut hashes = [0u8; HELD_LEN];
+    copy(&mut hashes, HELD_LEN - HASH_LEN, root);
+    hashes
+}
+
+// Where the next hash needed stands. The next block's siblings have room up to its end.
+fn next_at(n: usize, before: usize) -> usize
+    requires { ⌜ (before < n) × (n ≤ maxBlocks) ⌝ }
+    ensures { λ r. ⌜ (r ≡ heldStart n before) × (r + hashLength ≤ heldBytes) × (hashLength * carried n (before + 1) ≤ r + hashLength) ⌝ }
+{
+    let counts = count(n, before);
+    HELD_LEN - HASH_LEN * counts.held
+}
+
+// Whether the hash worked out from the block after `before` of n and its siblings is the next one held.
+pub fn fits(hashes: &[u8], n: usize, before: usize, block: &[u8], siblings: &[u8]) -> bool
+    requires { ⌜ (length (now hashes) ≡ heldBytes) × (before < n) × (n ≤ maxBlocks) × (length (now siblings) ≡ hashLength * carried n (before + 1)) ⌝ }
+    ensures { λ r. ⌜ r ≡ spec.fits sha.digest [] [] n before (now (hashes .entry)) (now (block .entry)) (now (siblings .entry)) ⌝ }
+{
+    let start = next_at(n, before);
+    let end = start + HASH_LEN;
+    let x = climb(block, siblings);
+    equal(&hashes[start..end], &x)
+}
+
+// The siblings take the place of that one.
+pub fn advance(hashes: [u8; HELD_LEN], n: usize, before: usize, siblings: &[u8]) -> [u8; HELD_LEN]
+    requires { ⌜ (before < n) × (n ≤ maxBlocks) × (length (now siblings) ≡ hashLength * carried n (before + 1)) ⌝ }
+    ensures { λ r. ⌜ r ≡ advanced n before hashes (now (siblings .entry)) ⌝ }
+{
+    let to = next_at(n, before) + HASH_LEN - siblings.len();
+    let mut next = hashes;
+    copy(&mut next, to, siblings);
+    next
+}

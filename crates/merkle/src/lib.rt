@@ -1,0 +1,21 @@
+// The Merkle tree over the blocks of an image or of the flash. Only our own crates call this one, and meet its `requires`.
+mod counting;
+mod frontier;
+mod limits;
+mod node;
+mod path;
+mod tree;
+
+pub use counting::Counts;
+pub use counting::count;
+pub use frontier::advance;
+pub use frontier::begin;
+pub use frontier::fits;
+pub use limits::HASH_LEN;
+pub use limits::HELD_LEN;
+pub use limits::MAX_BLOCKS;
+pub use limits::MAX_HELD;
+pub use path::climb;
+pub use path::write_siblings;
+pub use tree::root;
+pub use tree::root_with;

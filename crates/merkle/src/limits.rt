@@ -1,0 +1,12 @@
+// The limits, each in one place; specs/Limits.antt has the same numbers for the contracts.
+
+// The most blocks of an image.
+pub const MAX_BLOCKS: usize = 4096;
+
+// The bytes of a hash.
+pub const HASH_LEN: usize = 32;
+
+// The most hashes that are held, and their bytes: 384.
+pub const MAX_HELD: usize = 12;
+
+pub const HELD_LEN: usize = MAX_HELD * HASH_LEN;

@@ -1,0 +1,55 @@
+// The hash of the tree over blocks in the flash, one of them replaced. Nothing is copied or written.
+use crate::node::node;
+use crate::node::split;
+use sha256::digest;
+ghost use mathlib.Core.Path.{_≡_};
+ghost use mathlib.Core.List.{[]};
+ghost use Prim.Native.Nat.{ℕ, _+_, _-_, _*_, _≤_, _<_};
+ghost use lib.ListN.{length};
+ghost use Rattle.sha256.specs.Sha256 as sha;
+ghost use Rattle.merkle.specs.Blocks.{cut, overlay};
+ghost use Rattle.merkle.specs.Shape.{shape};
+ghost use Rattle.merkle.specs.Hash.{hash};
+
+// The hash of the first block. It is shorter than len where the flash ends within it.
+fn leaf(flash: &[u8], len: usize, at: usize, block: &[u8]) -> [u8; 32]
+    ensures { λ r. ⌜ r ≡ sha.digest (overlay (cut len (now (flash .entry))) at (now (block .entry)) 0) ⌝ }
+{
+    if at == 0 {
+        return digest(block);
+    }
+    if len < flash.len() {
+        return digest(&flash[..len]);
+    }
+    digest(flash)
+}
+
+// Block `at` of n, counted from block k on; n, which is none of them, where it comes before block k.
+pub fn behind(at: usize, k: usize, n: usize) -> usize
+    ensures { λ r. ⌜ ((j : ℕ) → k + j < n → (j ≡ r → k + j ≡ at) × (k + j ≡ at → j ≡ r)) ⌝ }
+{
+    if at < k { n } else { at - k }
+}
+
+// The hash of the tree over n blocks of len bytes of the flash, with block `at` (blocks before it) replaced. Where `at` is not below n, none is replaced.
+pub fn root_with(flash: &[u8], len: usize, n: usize, at: usize, block: &[u8]) -> [u8; 32]
+    requires { ⌜ (0 < n) × ((n - 1) * len ≤ length (now flash)) ⌝ }
+    ensures { λ r. ⌜ r ≡ hash sha.digest [] [] (overlay (cut len (now (flash .entry))) at (now (block .entry))) 0 (shape n) ⌝ }
+{
+    if n == 1 {
+        return leaf(flash, len, at, block);
+    }
+    let k = split(n);
+    let left = root_with(flash, len, k, at, block);
+    let from = k * len;
+    let right = root_with(&flash[from..], len, n - k, behind(at, k, n), block);
+    node(&left, &right)
+}
+
+// The hash of the tree over n blocks of len bytes of the flash.
+pub fn root(flash: &[u8], len: usize, n: usize) -> [u8; 32]
+    requires { ⌜ (0 < n) × ((n - 1) * len ≤ length (now flash)) ⌝ }
+    ensures { λ r. ⌜ r ≡ hash sha.digest [] [] (cut len (now (flash .entry))) 0 (shape n) ⌝ }
+{
+    root_with(flash, len, n, n, flash)
+}

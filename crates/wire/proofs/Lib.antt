@@ -1,0 +1,4 @@
+pub mod ImageLaws
+pub mod ManifestLaws
+pub mod MessageLaws
+pub mod SizeLaws

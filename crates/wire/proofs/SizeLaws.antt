@@ -1,0 +1,135 @@
+-- What an allowed size says of block length, image length and block count.
+use mathlib.Core.Path.{_≡_, refl, sym, ap, _∙_}
+use mathlib.Core.Logic.{_⊎_, inl, inr}
+use mathlib.Core.Bool.{Bool, true, false, not, _||_, true≢false}
+use Prim.Native.Nat.{ℕ, _+_, _-_, _*_, _/_, _≤_, _<_}
+use native.Mathlib.Nat.{add-div-right, div-mul-le-self, lt-div-mul-add, suc-mul}
+use native.Mathlib.Omega.{arith}
+use lib.Dec.{eqb, ltb}
+use borrow.Author.Tests.{eqb-true, eqb-false, ne-eqb, eq-eqb, ltb-false, not-false}
+use Rattle.merkle.specs.Limits.{maxBlocks}
+use Rattle.merkle.specs.Blocks.{blockCount}
+use Rattle.wire.specs.Size.{allowedLength, wrongSize, outside}
+
+-- the five lengths
+abbrev pub OneOfFive : ℕ → Type 0
+OneOfFive L = (L ≡ 64) ⊎ ((L ≡ 128) ⊎ ((L ≡ 256) ⊎ ((L ≡ 512) ⊎ (L ≡ 1024))))
+
+pub allowed-is : (L : ℕ) → OneOfFive L → true ≡ allowedLength L
+unfolding allowedLength
+allowed-is L (inl e) = rw e
+allowed-is L (inr (inl e)) = rw e
+allowed-is L (inr (inr (inl e))) = rw e
+allowed-is L (inr (inr (inr (inl e)))) = rw e
+allowed-is L (inr (inr (inr (inr e)))) = rw e
+
+pub allowed-not : (L : ℕ) → (OneOfFive L → ⊥) → false ≡ allowedLength L
+unfolding allowedLength
+allowed-not L n =
+    rw (
+      ne-eqb L 64 (λ e. n (inl e)),
+      ne-eqb L 128 (λ e. n (inr (inl e))),
+      ne-eqb L 256 (λ e. n (inr (inr (inl e)))),
+      ne-eqb L 512 (λ e. n (inr (inr (inr (inl e))))),
+      ne-eqb L 1024 (λ e. n (inr (inr (inr (inr e))))),
+    )
+
+or-true : (s t : Bool) → s || t ≡ true → (s ≡ true) ⊎ (t ≡ true)
+or-true true t e = inl refl
+or-true false t e = inr e
+
+pub or-false : (s t : Bool) → s || t ≡ false → (s ≡ false) × (t ≡ false)
+or-false true t e = absurd (true≢false e)
+or-false false t e = (refl, e)
+
+pub length-range : (L : ℕ) → allowedLength L ≡ true → (64 ≤ L) × (L ≤ 1024)
+unfolding allowedLength
+length-range L e = go (or-true (eqb L 64) _ e)
+  where
+    is : (x : ℕ) → 64 ≤ x → x ≤ 1024 → eqb L x ≡ true → (64 ≤ L) × (L ≤ 1024)
+    is x a b q = let w = eqb-true L x q in omega arith
+
+    go4 : (eqb L 512 ≡ true) ⊎ (eqb L 1024 ≡ true) → (64 ≤ L) × (L ≤ 1024)
+    go4 (inl q) = is 512 (omega arith) (omega arith) q
+    go4 (inr q) = is 1024 (omega arith) (omega arith) q
+
+    go3 : (eqb L 256 ≡ true) ⊎ (eqb L 512 || eqb L 1024 ≡ true) → (64 ≤ L) × (L ≤ 1024)
+    go3 (inl q) = is 256 (omega arith) (omega arith) q
+    go3 (inr q) = go4 (or-true (eqb L 512) _ q)
+
+    go2 : (eqb L 128 ≡ true) ⊎ (eqb L 256 || (eqb L 512 || eqb L 1024) ≡ true) → (64 ≤ L) × (L ≤ 1024)
+    go2 (inl q) = is 128 (omega arith) (omega arith) q
+    go2 (inr q) = go3 (or-true (eqb L 256) _ q)
+
+    go : (eqb L 64 ≡ true) ⊎ (eqb L 128 || (eqb L 256 || (eqb L 512 || eqb L 1024)) ≡ true) → (64 ≤ L) × (L ≤ 1024)
+    go (inl q) = is 64 (omega arith) (omega arith) q
+    go (inr q) = go2 (or-true (eqb L 128) _ q)
+
+-- the block count as the code works it out
+pub count-is : (L T : ℕ) → 0 < L → 0 < T → (T - 1) / L + 1 ≡ blockCount L T
+unfolding blockCount
+count-is L T l t =
+    let e : T + (L - 1) ≡ T - 1 + L = omega arith in
+    rw e (sym (add-div-right (T - 1) l))
+
+-- the image ends within the last block
+pub count-bounds : (L T : ℕ) → 0 < L → 0 < T → (0 < blockCount L T) × ((blockCount L T - 1) * L < T) × (T ≤ blockCount L T * L)
+count-bounds L T l t =
+    let q = (T - 1) / L in
+    let n : blockCount L T ≡ q + 1 = sym (count-is L T l t) in
+    let e : q + 1 - 1 ≡ q = omega arith in
+    let f : (q + 1) * L ≡ q * L + L = omega arith in
+    rw n (omega arith, rw e (omega (arith, div-mul-le-self (T - 1) L)), rw f (omega (arith, lt-div-mul-add {a = T - 1} {b = L} l)))
+
+-- all that refusal 5 leaves
+pub record Sized (L T : ℕ) : Type 0 where
+  pub allowed : allowedLength L ≡ true
+  pub least : 64 ≤ L
+  pub most : L ≤ 1024
+  pub some : 0 < T
+  pub first : 0 < blockCount L T
+  pub count : blockCount L T ≤ maxBlocks
+  pub below : (blockCount L T - 1) * L < T
+  pub above : T ≤ blockCount L T * L
+
+pub sized : (L T : ℕ) → wrongSize L T ≡ false → Sized L T
+unfolding wrongSize
+sized L T e =
+    let a = or-false (not (allowedLength L)) _ e in
+    let b = or-false (eqb T 0) _ (a .1) in
+    let ok = not-false (allowedLength L) (a .0) in
+    let r = length-range L ok in
+    let t : 0 < T = omega (arith, eqb-false T 0 (b .0)) in
+    let k = count-bounds L T (omega arith) t in
+    record {
+      allowed = ok;
+      least = r .0;
+      most = r .1;
+      some = t;
+      first = k .0;
+      count = ltb-false maxBlocks (blockCount L T) (b .1);
+      below = k .1;
+      above = k .2;
+    }
+
+pub inside : (n i : ℕ) → outside n i ≡ false → (0 < i) × (i ≤ n)
+unfolding outside
+inside n i e = let a = or-false (eqb i 0) _ e in (omega (arith, eqb-false i 0 (a .0)), ltb-false n i (a .1))
+
+-- refusal 5, in the order in which the code tests
+module _ (L T : ℕ) where
+  pub wrong-empty : T ≡ 0 → true ≡ wrongSize L T
+  unfolding wrongSize
+  wrong-empty e = go (not (allowedLength L))
+    where
+      go : (b : Bool) → true ≡ b || (eqb T 0 || ltb maxBlocks (blockCount L T))
+      go true = refl
+      go false = rw (eq-eqb T 0 e)
+
+  pub wrong-length : false ≡ allowedLength L → true ≡ wrongSize L T
+  unfolding wrongSize
+  wrong-length e = rw (sym e)
+
+  pub wrong-count : (n : ℕ) → (T ≡ 0 → ⊥) → true ≡ allowedLength L → n ≡ blockCount L T → ltb maxBlocks n ≡ wrongSize L T
+  unfolding wrongSize
+  wrong-count n z a e = rw (sym a, ne-eqb T 0 z, e)

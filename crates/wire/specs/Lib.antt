@@ -1,0 +1,5 @@
+pub mod Refusal
+pub mod Size
+pub mod Manifest
+pub mod Image
+pub mod Message

@@ -1,0 +1,22 @@
+-- The manifest (01: slip), 48 bytes: version (2), L (2), model (4), serial (4), T (4), root (32).
+use mathlib.Core.List.{List, _++_}
+use Prim.Native.Nat.{ℕ}
+use Rattle.octets.specs.Octets.{bytes, number, part}
+use Rattle.wire.specs.declared.manifest.Manifest.{Manifest}
+
+abbrev pub manifestLength : ℕ
+manifestLength = 48
+
+unfoldable pub written : Manifest → List ℕ
+written s = bytes 2 (s .version) ++ bytes 2 (s .block) ++ bytes 4 (s .model) ++ bytes 4 (s .serial) ++ bytes 4 (s .image) ++ s .root
+
+unfoldable pub read : List ℕ → Manifest
+read b =
+    record {
+      version = number (part 0 2 b);
+      block = number (part 2 2 b);
+      model = number (part 4 4 b);
+      serial = number (part 8 4 b);
+      image = number (part 12 4 b);
+      root = part 16 32 b;
+    }

@@ -1,0 +1,25 @@
+// The kind of a message: its first byte.
+ghost use mathlib.Core.Path.{_≡_};
+ghost use Rattle.wire.specs.Message as spec;
+
+pub enum Kind {
+    Program,
+    Block,
+    Update,
+    Unknown,
+}
+
+pub fn kind_of(message: &[u8]) -> Kind
+    ensures { λ r. ⌜ r ≡ spec.kind (now (message .entry)) ⌝ }
+{
+    if message.len() == 0 {
+        return Kind::Unknown;
+    }
+    let first = message[0];
+    match first {
+        1 => Kind::Program,
+        2 => Kind::Block,
+        3 => Kind::Update,
+        _ => Kind::Unknown,
+    }
+}

@@ -1,0 +1,53 @@
+// The manifest and its 48 bytes.
+ghost use mathlib.Core.Path.{_≡_};
+ghost use Prim.Native.Nat.{_+_, _≤_};
+ghost use lib.ListN.{length};
+ghost use Rattle.octets.specs.Octets.{part};
+ghost use Rattle.wire.specs.Manifest as spec;
+ghost use Rattle.wire.specs.Manifest.{written};
+
+// 01: the slip.
+pub struct Manifest {
+    pub version: u16,
+    // 01: L, the bytes of a block.
+    pub block: u16,
+    pub model: u32,
+    pub serial: u32,
+    // 01: T, the bytes of the image.
+    pub image: u32,
+    pub root: [u8; 32],
+}
+
+// The manifest whose bytes stand in s from index at on.
+pub fn read(s: &[u8], at: usize) -> Manifest
+    requires { ⌜ at + 48 ≤ length (now s) ⌝ }
+    ensures { λ r. ⌜ r ≡ spec.read (part at 48 (now (s .entry))) ⌝ }
+{
+    Manifest {
+        version: octets::u16_at(s, at),
+        block: octets::u16_at(s, at + 2),
+        model: octets::u32_at(s, at + 4),
+        serial: octets::u32_at(s, at + 8),
+        image: octets::u32_at(s, at + 12),
+        root: octets::bytes32_at(s, at + 16),
+    }
+}
+
+pub fn to_bytes(manifest: Manifest) -> [u8; 48]
+    ensures { λ r. ⌜ r ≡ written manifest ⌝ }
+{
+    let version = octets::be16(manifest.version);
+    let block = octets::be16(manifest.block);
+    let model = octets::be32(manifest.model);
+    let serial = octets::be32(manifest.serial);
+    let image = octets::be32(manifest.image);
+    let root = manifest.root;
+    let mut s = [0u8; 48];
+    octets::copy(&mut s, 0, &version);
+    octets::copy(&mut s, 2, &block);
+    octets::copy(&mut s, 4, &model);
+    octets::copy(&mut s, 8, &serial);
+    octets::copy(&mut s, 12, &image);
+    octets::copy(&mut s, 16, &root);
+    s
+}

@@ -1,0 +1,42 @@
+// The refusals of 01, by their words.
+ghost use mathlib.Core.Path.{_≡_};
+ghost use Rattle.wire.specs.Refusal as spec;
+
+pub enum Refusal {
+    State,
+    Kind,
+    Short,
+    Version,
+    Size,
+    Model,
+    Serial,
+    Area,
+    Unsigned,
+    Stage,
+    Turn,
+    Length,
+    Unlike,
+    Mismatch,
+}
+
+// 01's number.
+pub fn number(refusal: Refusal) -> u8
+    ensures { λ r. ⌜ r ≡ spec.number refusal ⌝ }
+{
+    match refusal {
+        Refusal::State => 1,
+        Refusal::Kind => 2,
+        Refusal::Short => 3,
+        Refusal::Version => 4,
+        Refusal::Size => 5,
+        Refusal::Model => 6,
+        Refusal::Serial => 7,
+        Refusal::Area => 8,
+        Refusal::Unsigned => 9,
+        Refusal::Stage => 10,
+        Refusal::Turn => 11,
+        Refusal::Length => 12,
+        Refusal::Unlike => 13,
+        Refusal::Mismatch => 14,
+    }
+}
