@@ -1,10 +1,10 @@
 -- Copies and parts.
 use mathlib.Core.Path.{_≡_, refl, sym, ap, ap₂, _∙_}
 use mathlib.Core.List.{List, [], _∷_, _++_, append-assoc, append-nil}
-use Prim.Native.Nat.{ℕ, zero, suc, _+_, _-_, _≤_}
+use Prim.Native.Nat.{ℕ, zero, suc, _+_, _-_, _≤_, _<_}
 use native.Mathlib.Nat.{zero-add}
 use native.Mathlib.Omega.{arith}
-use lib.ListN.{length, take, drop, length-append, length-drop, drop-of-length-le}
+use lib.ListN.{length, take, drop, set, length-append, length-drop, drop-of-length-le}
 use lib.Seq.{paste, take-length, take-all, take-at, take-take, drop-at, drop-drop, length-take-le, take-append-le, drop-append-le}
 use Rattle.octets.specs.Octets.{part}
 
@@ -51,10 +51,24 @@ paste-end d s at e =
 pub paste-whole : (d s : List ℕ) → length d ≡ length s → paste d 0 s (length s) ≡ s
 paste-whole d s e = paste-end d s 0 (zero-add (length s) ∙ sym e)
 
+-- a copy to the start
+pub paste-front : (d s : List ℕ) (k : ℕ) → length s ≡ k → paste d 0 s (length s) ≡ s ++ drop k d
+paste-front d s k e = ap₂ {C = List ℕ} (λ (x : List ℕ) (n : ℕ). x ++ drop n d) (take-length s) (zero-add (length s) ∙ e)
+
 -- two copies, one behind the other, that fill the whole
 pub paste-two : (d s t : List ℕ) (at : ℕ) → length s ≡ at → at + length t ≡ length d → paste (paste d 0 s (length s)) at t (length t) ≡ s ++ t
 paste-two d s t at e f =
-    let first : paste d 0 s (length s) ≡ s ++ drop at d = ap₂ {C = List ℕ} (λ (u : List ℕ) (k : ℕ). u ++ drop k d) (take-length s) (zero-add (length s) ∙ e) in
-    ap (λ (x : List ℕ). paste x at t (length t)) first
+    ap (λ (x : List ℕ). paste x at t (length t)) (paste-front d s at e)
     ∙ paste-end (s ++ drop at d) t at (f ∙ sym (length-append s (drop at d) ∙ omega (arith, e, length-drop at d)))
     ∙ ap (λ (x : List ℕ). x ++ t) (take-at s (drop at d) at e)
+
+-- A buffer d that is written from its start, piece by piece: the first byte, and a copy to just behind what is there.
+pub set-first : (d : List ℕ) (x : ℕ) → 0 < length d → set d 0 x ≡ (x ∷ []) ++ drop 1 d
+set-first [] x h = absurd (omega arith)
+set-first (y ∷ d) x h = refl
+
+pub paste-behind : (d p s : List ℕ) (k : ℕ) → length p ≡ k → k + length s ≤ length d → paste (p ++ drop k d) k s (length s) ≡ (p ++ s) ++ drop (k + length s) d
+paste-behind d p s k e h =
+    ap₂ {C = List ℕ} (λ (x y : List ℕ). (x ++ y) ++ drop (k + length s) (p ++ drop k d)) (take-at p (drop k d) k e) (take-length s)
+    ∙ ap (λ (x : List ℕ). (p ++ s) ++ x)
+    (sym (drop-drop (length s) k (p ++ drop k d)) ∙ ap (drop (length s)) (drop-at p (drop k d) k e) ∙ drop-drop (length s) k d)

@@ -3,10 +3,10 @@ use mathlib.Core.Path.{_≡_, refl, sym, ap, _∙_}
 use mathlib.Core.Logic.{_⊎_, inl, inr}
 use mathlib.Core.Bool.{Bool, true, false, not, _||_, true≢false}
 use Prim.Native.Nat.{ℕ, _+_, _-_, _*_, _/_, _≤_, _<_}
-use native.Mathlib.Nat.{add-div-right, div-mul-le-self, lt-div-mul-add, suc-mul}
+use native.Mathlib.Nat.{le-trans, mul-le-mul-left, mul-le-mul-right, add-div-right, div-mul-le-self, lt-div-mul-add}
 use native.Mathlib.Omega.{arith}
 use lib.Dec.{eqb, ltb}
-use borrow.Author.Tests.{eqb-true, eqb-false, ne-eqb, eq-eqb, ltb-false, not-false}
+use borrow.Author.Tests.{eqb-true, eqb-false, ne-eqb, eq-eqb, lt-ltb, le-ltb, ltb-false, not-false}
 use Rattle.merkle.specs.Limits.{maxBlocks}
 use Rattle.merkle.specs.Blocks.{blockCount}
 use Rattle.wire.specs.Size.{allowedLength, wrongSize, outside}
@@ -91,6 +91,7 @@ pub record Sized (L T : ℕ) : Type 0 where
   pub count : blockCount L T ≤ maxBlocks
   pub below : (blockCount L T - 1) * L < T
   pub above : T ≤ blockCount L T * L
+  pub total : T ≤ maxBlocks * 1024
 
 pub sized : (L T : ℕ) → wrongSize L T ≡ false → Sized L T
 unfolding wrongSize
@@ -110,6 +111,7 @@ sized L T e =
       count = ltb-false maxBlocks (blockCount L T) (b .1);
       below = k .1;
       above = k .2;
+      total = le-trans (k .2) (le-trans (mul-le-mul-right L (ltb-false maxBlocks (blockCount L T) (b .1))) (mul-le-mul-left maxBlocks (r .1)));
     }
 
 pub inside : (n i : ℕ) → outside n i ≡ false → (0 < i) × (i ≤ n)
@@ -133,3 +135,17 @@ module _ (L T : ℕ) where
   pub wrong-count : (n : ℕ) → (T ≡ 0 → ⊥) → true ≡ allowedLength L → n ≡ blockCount L T → ltb maxBlocks n ≡ wrongSize L T
   unfolding wrongSize
   wrong-count n z a e = rw (sym a, ne-eqb T 0 z, e)
+
+-- refusal 11
+module _ (n i : ℕ) where
+  pub outside-zero : i ≡ 0 → outside n i ≡ true
+  unfolding outside
+  outside-zero e = rw (eq-eqb i 0 e)
+
+  pub outside-above : (i ≡ 0 → ⊥) → n < i → outside n i ≡ true
+  unfolding outside
+  outside-above z h = rw (ne-eqb i 0 z, lt-ltb n i h)
+
+  pub outside-not : (i ≡ 0 → ⊥) → i ≤ n → outside n i ≡ false
+  unfolding outside
+  outside-not z h = rw (ne-eqb i 0 z, le-ltb n i h)

@@ -1,0 +1,81 @@
+-- The blocks that the sender takes from the image and its filled last block.
+use mathlib.Core.Path.{_≡_, refl, sym, ap, ap₂, subst, _∙_}
+use mathlib.Core.Logic.{_⊎_, inl, inr}
+use mathlib.Core.Bool.{false}
+use mathlib.Core.List.{List, [], _++_, append-assoc}
+use Prim.Native.Nat.{ℕ, suc, _+_, _-_, _*_, _≤_, _<_}
+use native.Mathlib.Nat.{mul-le-mul-right, zero-add}
+use native.Mathlib.Omega.{arith}
+use lib.ListN.{length, take, drop, replicate, length-append, length-drop, length-replicate, replicate-append-replicate}
+use lib.Seq.{paste, take-length, take-all, take-at, drop-at}
+use Rattle.octets.proofs.CopyLaws.{part-between}
+use Rattle.merkle.specs.Blocks.{blockCount, cut, overlay}
+use Rattle.merkle.specs.Shape.{shape}
+use Rattle.merkle.specs.Hash.{hash}
+use Rattle.merkle.specs.Held.{joined, sent}
+use Rattle.merkle.proofs.ShapeLaws.{lt-or-le, size-shape}
+use Rattle.merkle.proofs.HashLaws.{Same, hash-same, siblings-same}
+use Rattle.merkle.proofs.BlockLaws.{overlay-same, overlay-other}
+use Rattle.wire.specs.Size.{wrongSize}
+use Rattle.wire.specs.Image.{filled, imageBlocks}
+use Rattle.wire.proofs.SizeLaws.{Sized, sized}
+use Rattle.wire.proofs.ImageLaws.{block-early, block-last}
+
+module _ (L : ℕ) (image : List ℕ) (n : ℕ) (z : Sized L (length image)) (c : n ≡ blockCount L (length image)) where
+  -- n blocks hold the image, n - 1 do not
+  pub bounds : (0 < n) × ((n - 1) * L < length image) × (length image ≤ (n - 1) * L + L)
+  bounds =
+      let s : n ≡ suc (n - 1) = omega (arith, z .first) in
+      let e : n * L ≡ (n - 1) * L + L = ap (λ (x : ℕ). x * L) s ∙ omega arith in
+      (omega (arith, z .first), rw c (z .below), omega (arith, e, ap (λ (x : ℕ). x * L) c, z .above))
+
+  -- the last block, copied over 0xFF
+  pub last-is : take L (paste (replicate 1024 0xFF) 0 (drop ((n - 1) * L) image) (length (drop ((n - 1) * L) image))) ≡ imageBlocks L image (n - 1)
+  last-is =
+      let b = bounds in
+      let r = drop ((n - 1) * L) image in
+      let l : length r ≡ length image - (n - 1) * L = length-drop ((n - 1) * L) image in
+      let k : ℕ = n * L - length image in
+      let s : n ≡ suc (n - 1) = omega (arith, z .first) in
+      let e : n * L ≡ (n - 1) * L + L = ap (λ (x : ℕ). x * L) s ∙ omega arith in
+      let q : 1024 ≡ length r + (k + (1024 - L)) = omega (arith, z .most, z .above) in
+      let f : _≡_ {A = List ℕ} (drop (0 + length r) (replicate 1024 0xFF)) (replicate k 0xFF ++ replicate (1024 - L) 0xFF) =
+      ap₂ (λ (i j : ℕ). drop i (replicate {A = ℕ} j 0xFF)) (zero-add (length r)) q
+      ∙ ap (drop (length r)) (sym (replicate-append-replicate (length r) (k + (1024 - L)) 0xFF))
+      ∙ drop-at (replicate (length r) 0xFF) (replicate (k + (1024 - L)) 0xFF) (length r) (length-replicate {A = ℕ} (length r) 0xFF)
+      ∙ sym (replicate-append-replicate k (1024 - L) 0xFF) in
+      let g : length (r ++ replicate k 0xFF) ≡ L = length-append r (replicate k 0xFF) ∙ omega (arith, length-replicate {A = ℕ} k 0xFF) in
+      ap (take L)
+      (ap₂ {C = List ℕ} (λ (x y : List ℕ). x ++ y) (take-length r) f ∙ sym (append-assoc r (replicate k 0xFF) (replicate (1024 - L) 0xFF)))
+      ∙ take-at (r ++ replicate k 0xFF) (replicate (1024 - L) 0xFF) L g
+      ∙ subst (λ (m : ℕ). drop ((m - 1) * L) image ++ replicate (m * L - length image) 0xFF ≡ imageBlocks L image (m - 1)) (sym c) (sym (block-last L image z))
+
+  -- a block before the last, as the code cuts it out
+  pub early-is : (k : ℕ) → k < n - 1 → (k * L + L ≤ length image) × (take (k * L + L - k * L) (drop (k * L) image) ≡ imageBlocks L image k)
+  unfolding cut
+  early-is k h =
+      let m : suc k * L ≤ (n - 1) * L = mul-le-mul-right L h in
+      let e : suc k * L ≡ k * L + L = omega arith in (
+        omega (arith, bounds),
+        part-between image (k * L) L ∙ sym (block-early L image z k (omega arith)),
+      )
+
+  -- with the filled last block in its place, the image's blocks are the filled image's
+  pub same-blocks : (b : List ℕ) → b ≡ imageBlocks L image (n - 1) → Same (overlay (cut L image) (n - 1) b) 0 (imageBlocks L image) 0 (shape n)
+  same-blocks b e = record { block = λ j h. go j (rw (size-shape n (bounds .0)) at h) (lt-or-le j (n - 1)) }
+    where
+      go : (j : ℕ) → j < n → (j < n - 1) ⊎ (n - 1 ≤ j) → overlay (cut L image) (n - 1) b (0 + j) ≡ imageBlocks L image (0 + j)
+      go j h (inl l) =
+          let z0 : 0 + j ≡ j = omega arith in
+          rw z0 (overlay-other (cut L image) (n - 1) b j (λ q. absurd (omega arith)) ∙ sym (block-early L image z j (omega arith)))
+      go j h (inr l) =
+          let z0 : 0 + j ≡ n - 1 = omega arith in
+          rw z0 (overlay-same (cut L image) (n - 1) b ∙ e)
+
+  module _ (H : List ℕ → List ℕ) (b : List ℕ) (e : b ≡ imageBlocks L image (n - 1)) where
+    pub same-root : hash H [] [] (overlay (cut L image) (n - 1) b) 0 (shape n) ≡ hash H [] [] (imageBlocks L image) 0 (shape n)
+    same-root = hash-same H [] [] (shape n) (same-blocks b e)
+
+    pub same-sent : (i : ℕ) → sent H [] [] n (overlay (cut L image) (n - 1) b) i ≡ sent H [] [] n (imageBlocks L image) i
+    unfolding sent
+    same-sent i = ap joined (siblings-same H [] [] 0 (shape n) i (same-blocks b e))

@@ -1,0 +1,4 @@
+pub mod BlockLaws
+pub mod JobLaws
+pub mod PutLaws
+pub mod SendLaws

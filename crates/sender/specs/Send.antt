@@ -1,0 +1,60 @@
+-- What the sender answers, and what it leaves in the caller's buffer. It refuses 5, 11, 8 in this order.
+use mathlib.Core.Path.{_≡_}
+use mathlib.Core.Bool.{Bool}
+use mathlib.Core.List.{List, [], _∷_, _++_}
+use mathlib.Core.Option.{Option, none, some}
+use Prim.Native.Nat.{ℕ}
+use lib.Dec.{ltb}
+use lib.ListN.{length, drop}
+use Rattle.sha256.specs.Sha256.{digest}
+use Rattle.wire.specs.declared.refusal.Refusal.{Refusal}
+use Rattle.wire.specs.declared.refusal.Refusal.the-variants.{Size, Turn, Area}
+use Rattle.wire.specs.Refusal.{firstThatApplies}
+use Rattle.wire.specs.Size.{wrongSize, outside}
+use Rattle.wire.specs.Manifest.{written}
+use Rattle.sender.specs.declared.send.Sent.{Sent}
+use Rattle.sender.specs.declared.send.Sent.the-variants.{Written, Refused}
+use Rattle.sender.specs.Job.{Job, count, manifestFor, programFor, blockFor, updateFor}
+
+pub record Result : Type 0 where
+  pub answer : Sent
+  pub buffer : List ℕ
+
+-- the answer and the buffer at exit are those of the result
+pub record Does (s : Result) (answer : Sent) (buffer : List ℕ) : Type 0 where
+  pub answered : answer ≡ s .answer
+  pub left : buffer ≡ s .buffer
+
+-- the bytes at the start of the buffer and nothing else written; after a refusal nothing
+unfoldable pub send : List (Refusal × Bool) → (bytes buffer : List ℕ) → Result
+send refusals bytes buffer =
+    elim (firstThatApplies refusals) [
+      | none ↦ record { answer = Written (length bytes); buffer = bytes ++ drop (length bytes) buffer }
+      | some r ↦ record { answer = Refused r; buffer = buffer }
+    ]
+
+unfoldable pub badSize : Job → Bool
+badSize j = wrongSize (j .block) (length (j .image))
+
+unfoldable pub tooShort : (bytes buffer : List ℕ) → Bool
+tooShort bytes buffer = ltb (length buffer) (length bytes)
+
+-- manifest and message of kind 1 have no number
+unfoldable pub unnumbered : Job → (bytes buffer : List ℕ) → Result
+unnumbered j bytes buffer = send ((Size, badSize j) ∷ (Area, tooShort bytes buffer) ∷ []) bytes buffer
+
+unfoldable pub numbered : Job → ℕ → (bytes buffer : List ℕ) → Result
+numbered j i bytes buffer = send ((Size, badSize j) ∷ (Turn, outside (count j) i) ∷ (Area, tooShort bytes buffer) ∷ []) bytes buffer
+
+-- the bare manifest, for signing, and a message of each kind
+unfoldable pub sendManifest : Job → List ℕ → Result
+sendManifest j buffer = unnumbered j (written (manifestFor digest j)) buffer
+
+unfoldable pub sendProgram : Job → (signature buffer : List ℕ) → Result
+sendProgram j signature buffer = unnumbered j (programFor digest j signature) buffer
+
+unfoldable pub sendBlock : Job → ℕ → List ℕ → Result
+sendBlock j i buffer = numbered j i (blockFor digest j i) buffer
+
+unfoldable pub sendUpdate : Job → ℕ → (signature buffer : List ℕ) → Result
+sendUpdate j i signature buffer = numbered j i (updateFor digest j i signature) buffer
