@@ -1,12 +1,12 @@
 /* SHA-256: the proved digest beside a plain one in C and libcrypto's, on the same input, in one run. Prints a table: the time of the proved digest, and
    how many times as fast it is as each of the others (above 1: the proved one is faster).
    libcrypto reads OPENSSL_ia32cap once, as it starts, so each of its rows is measured by a process of its own that this one starts. */
+#include "clock.h"
 #include "plain.h"
 #include <openssl/sha.h>
 #include <stdio.h>
 #include <stdlib.h>
 #include <string.h>
-#include <time.h>
 
 void bench_digest(const uint8_t *message, size_t length, uint8_t out[32]);
 void bench_pieces(const uint8_t *message, size_t length, size_t piece, uint8_t out[32]);
@@ -37,12 +37,6 @@ static const struct {
 enum { CASES = sizeof cases / sizeof cases[0], ROUNDS = 25 };
 
 static uint8_t input[1 << 20];
-
-static double now(void) {
-    struct timespec t;
-    clock_gettime(CLOCK_MONOTONIC, &t);
-    return (double)t.tv_sec + (double)t.tv_nsec * 1e-9;
-}
 
 static void run(const kind *k, int c, uint8_t out[32]) {
     if (cases[c].piece)

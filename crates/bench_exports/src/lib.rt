@@ -3,6 +3,7 @@ ghost use mathlib.Core.Path.{_≡_};
 ghost use Prim.Native.Nat.{_≤_, _<_};
 ghost use lib.ListN.{length};
 ghost use Rattle.sha256.specs.Sha256.{digest};
+ghost use Rattle.lms.specs.Lms.{valid};
 
 #[no_mangle]
 pub extern "C" fn bench_digest(message: &[u8], out: &mut [u8; 32])
@@ -42,4 +43,11 @@ fn end_of(message: &[u8], from: usize, piece: usize) -> usize
     } else {
         message.len()
     }
+}
+
+#[no_mangle]
+pub extern "C" fn bench_verify(key: &[u8], message: &[u8], signature: &[u8]) -> bool
+    ensures { λ r. ⌜ r ≡ valid (now (key .entry)) (now (message .entry)) (now (signature .entry)) ⌝ }
+{
+    lms::verify(key, message, signature)
 }
