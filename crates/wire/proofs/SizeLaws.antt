@@ -3,12 +3,13 @@ use mathlib.Core.Path.{_≡_, refl, sym, ap, _∙_}
 use mathlib.Core.Logic.{_⊎_, inl, inr}
 use mathlib.Core.Bool.{Bool, true, false, not, _||_, true≢false}
 use Prim.Native.Nat.{ℕ, _+_, _-_, _*_, _/_, _≤_, _<_}
-use native.Mathlib.Nat.{le-trans, mul-le-mul-left, mul-le-mul-right, add-div-right, div-mul-le-self, lt-div-mul-add}
+use native.Mathlib.Nat.{le-trans, mul-le-mul-left, mul-le-mul-right, add-div-right}
 use native.Mathlib.Omega.{arith}
 use lib.Dec.{eqb, ltb}
 use borrow.Author.Tests.{eqb-true, eqb-false, ne-eqb, eq-eqb, lt-ltb, le-ltb, ltb-false, not-false}
 use Rattle.merkle.specs.Limits.{maxBlocks}
 use Rattle.merkle.specs.Blocks.{blockCount}
+use Rattle.merkle.proofs.BlockLaws.{block-count}
 use Rattle.wire.specs.Size.{allowedLength, wrongSize, outside}
 
 -- the five lengths
@@ -72,15 +73,6 @@ count-is L T l t =
     let e : T + (L - 1) ≡ T - 1 + L = omega arith in
     rw e (sym (add-div-right (T - 1) l))
 
--- the image ends within the last block
-pub count-bounds : (L T : ℕ) → 0 < L → 0 < T → (0 < blockCount L T) × ((blockCount L T - 1) * L < T) × (T ≤ blockCount L T * L)
-count-bounds L T l t =
-    let q = (T - 1) / L in
-    let n : blockCount L T ≡ q + 1 = sym (count-is L T l t) in
-    let e : q + 1 - 1 ≡ q = omega arith in
-    let f : (q + 1) * L ≡ q * L + L = omega arith in
-    rw n (omega arith, rw e (omega (arith, div-mul-le-self (T - 1) L)), rw f (omega (arith, lt-div-mul-add {a = T - 1} {b = L} l)))
-
 -- all that refusal 5 leaves
 pub record Sized (L T : ℕ) : Type 0 where
   pub allowed : allowedLength L ≡ true
@@ -101,17 +93,17 @@ sized L T e =
     let ok = not-false (allowedLength L) (a .0) in
     let r = length-range L ok in
     let t : 0 < T = omega (arith, eqb-false T 0 (b .0)) in
-    let k = count-bounds L T (omega arith) t in
+    let k = block-count L T (omega arith) t in
     record {
       allowed = ok;
       least = r .0;
       most = r .1;
       some = t;
-      first = k .0;
+      first = k .some;
       count = ltb-false maxBlocks (blockCount L T) (b .1);
-      below = k .1;
-      above = k .2;
-      total = le-trans (k .2) (le-trans (mul-le-mul-right L (ltb-false maxBlocks (blockCount L T) (b .1))) (mul-le-mul-left maxBlocks (r .1)));
+      below = k .below;
+      above = k .enough;
+      total = le-trans (k .enough) (le-trans (mul-le-mul-right L (ltb-false maxBlocks (blockCount L T) (b .1))) (mul-le-mul-left maxBlocks (r .1)));
     }
 
 pub inside : (n i : ℕ) → outside n i ≡ false → (0 < i) × (i ≤ n)

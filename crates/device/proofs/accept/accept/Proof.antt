@@ -1,0 +1,69 @@
+use mathlib.Core.Path.{refl}
+use Rattle.sha256.specs.Sha256.{digest}
+use Rattle.lms.specs.Lms.{valid}
+use Rattle.device.specs.Step.{accept}
+use Rattle.device.proofs.AcceptLaws.{program-due, program-is}
+use borrow.Author.Needs.{needs}
+use Rattle.device.proofs.accept.accept.Statement.{statement}
+use Rattle.device.proofs.accept.accept.Tie as tie
+
+enum-told : tie.Need-enum-told
+enum-told c = search needs
+
+accept-program-requires : tie.Need-accept-program-requires
+accept-program-requires c κs = let s = c .before .before .before .before in program-due (s .args .device) (s .args .flash .now) (s .args .message .now) digest valid (rw (c .enum-told .given .1) at (s .pre))
+
+enum-told-2 : tie.Need-enum-told-2
+enum-told-2 c = search needs
+
+accept-block-requires : tie.Need-accept-block-requires
+accept-block-requires c κs = rw (c .before .enum-told2 .given .1) at (c .before .before .before .before .before .pre)
+
+enum-told-3 : tie.Need-enum-told-3
+enum-told-3 c = search needs
+
+accept-update-requires : tie.Need-accept-update-requires
+accept-update-requires c κs = rw (c .before .enum-told3 .given .1) at (c .before .before .before .before .before .pre)
+
+enum-told-4 : tie.Need-enum-told-4
+enum-told-4 c = search needs
+
+returns : tie.Need-returns
+unfolding accept
+returns c = rw (c .before .enum-told .given .1) (program-is _ _ _ (c .accept-program .ensures))
+
+same-length : tie.Need-same-length
+same-length c = search needs
+
+returns-2 : tie.Need-returns-2
+unfolding accept
+returns-2 c = rw (c .before .before .before .before .enum-told2 .given .1) (c .before .before .accept-block .ensures)
+
+same-length-2 : tie.Need-same-length-2
+same-length-2 c = search needs
+
+returns-3 : tie.Need-returns-3
+unfolding accept
+returns-3 c = rw (c .before .before .before .before .enum-told3 .given .1) (c .before .before .accept-update .ensures)
+
+returns-4 : tie.Need-returns-4
+unfolding accept
+returns-4 c = rw (c .enum-told4 .given .1) refl
+
+pub accept-spec : {M : Type 1} → statement M
+accept-spec =
+    tie.close
+    (tie.spec
+    enum-told
+    accept-program-requires
+    enum-told-2
+    accept-block-requires
+    enum-told-3
+    accept-update-requires
+    enum-told-4
+    returns
+    same-length
+    returns-2
+    same-length-2
+    returns-3
+    returns-4)

@@ -1,0 +1,100 @@
+use mathlib.Core.Path.{ap, _∙_}
+use native.Mathlib.Omega.{arith}
+use lib.ListN.{length}
+use Rattle.octets.proofs.CopyLaws.{length-part, part-between}
+use Rattle.sha256.specs.Sha256.{digest}
+use Rattle.lms.specs.Lms.{valid}
+use Rattle.device.proofs.TestLaws.{sound, room, due, rest-long}
+use Rattle.device.proofs.AcceptLaws.{BlockDue, block-due, block-is}
+use borrow.Author.Needs.{needs}
+use Rattle.device.proofs.accept.accept_block.Statement.{statement}
+use Rattle.device.proofs.accept.accept_block.Tie as tie
+
+accepted : (c : tie.After-next-of) → BlockDue (c .before .before .before .args .device) (c .before .before .before .args .flash .now) (c .before .before .before .args .message .now) (c .next-of .result)
+accepted c = let s = c .before .before .before in block-due (s .args .device) (s .args .flash .now) (s .args .message .now) digest valid (s .pre) (c .next-of .ensures)
+
+next-of-requires : tie.Need-next-of-requires
+next-of-requires c κs = search needs
+
+count-requires : tie.Need-count-requires
+count-requires c κs = accepted (c .before) .awaited .size
+
+cast-len : tie.Need-cast-len
+cast-len c = search needs
+
+add-end : tie.Need-add-end
+add-end c = search needs
+
+sub-write-block : tie.Need-sub-write-block
+sub-write-block c = search needs
+
+part-write-block-start : tie.Need-part-write-block-start
+part-write-block-start c = search needs
+
+part-write-block-end : tie.Need-part-write-block-end
+part-write-block-end c = let d = due _ _ _ (accepted (c .before .before .before .before) .long) in search needs
+
+write-block-requires : tie.Need-write-block-requires
+write-block-requires c κs =
+    let a = accepted (c .before .before .before .before .before) in
+    let s = c .before .before .before .before .before .before .before .before .args in
+    let d = due _ _ _ (a .long) in
+    let l = ap length (part-between (s .message .now) 3 (s .device .manifest .block)) ∙ length-part (s .message .now) 3 (s .device .manifest .block) (d .long) in
+    (a .awaited .low, omega (arith, l, room _ _ _ (a .area) (a .awaited .low) (a .awaited .high)))
+
+cast-advance : tie.Need-cast-advance
+cast-advance c = search needs
+
+sub-advance : tie.Need-sub-advance
+sub-advance c = accepted (c .before .before .before .before .before .before .before .before .before) .awaited .low
+
+sub-advance-2 : tie.Need-sub-advance-2
+sub-advance-2 c = due _ _ _ (accepted (c .before .before .before .before .before .before .before .before .before) .long) .long
+
+part-advance-start : tie.Need-part-advance-start
+part-advance-start c = let d = due _ _ _ (accepted (c .before .before .before .before .before .before .before .before .before) .long) in search needs
+
+part-advance-end : tie.Need-part-advance-end
+part-advance-end c = search needs
+
+advance-requires : tie.Need-advance-requires
+advance-requires c κs =
+    let a = accepted (c .before .before .before .before .before .before .before .before .before .before) in
+    let w = a .awaited in
+    let z = sound _ (w .size) in
+    let e = c .before .before .before .before .before .before .before .before .count .ensures in
+    (omega arith, omega arith, rest-long _ _ _ (c .before .before .before .before .before .before .before .before .before .before .before .before .before .args .message .now) (w .low) e (a .long))
+
+stage-after-requires : tie.Need-stage-after-requires
+stage-after-requires c κs =
+    let z = sound _ (accepted (c .before .before .before .before .before .before .before .before .before .before .before .before) .awaited .size) in
+    let e = c .before .before .before .before .before .before .before .before .before .before .count .ensures in
+    omega arith
+
+same-length : tie.Need-same-length
+same-length c = search needs
+
+returns : tie.Need-returns
+returns c = block-is _ _ _ (c .before .before .before .before .before .before .before .before .before .before .before .before .before .next-of .ensures) (c .before .before .before .before .before .before .before .before .before .before .before .count .ensures) (c .stage-after .ensures) (c .before .before .advance .ensures) (c .before .before .before .before .before .before .before .write-block .ensures)
+
+pub accept-block-spec : {M : Type 1} → statement M
+accept-block-spec =
+    tie.close
+    (tie.spec
+    next-of-requires
+    count-requires
+    cast-len
+    add-end
+    sub-write-block
+    part-write-block-start
+    part-write-block-end
+    write-block-requires
+    cast-advance
+    sub-advance
+    sub-advance-2
+    part-advance-start
+    part-advance-end
+    advance-requires
+    stage-after-requires
+    same-length
+    returns)

@@ -1,0 +1,107 @@
+// What an accepted message does. Only here is the flash written, and only `receive` calls this, where no refusal applies.
+use crate::state::Device;
+use crate::state::Stage;
+use crate::tests::count;
+use crate::tests::next_of;
+use wire::Kind;
+ghost use mathlib.Core.Path.{_≡_};
+ghost use mathlib.Core.List.{[]};
+ghost use Prim.Native.Nat.{_+_, _-_, _*_, _≤_, _<_};
+ghost use lib.ListN.{length};
+ghost use Rattle.sha256.specs.Sha256.{digest};
+ghost use Rattle.merkle.specs.Limits.{maxBlocks};
+ghost use Rattle.lms.specs.Lms.{valid};
+ghost use Rattle.wire.specs.declared.kind.Kind.the-variants as kinds;
+ghost use Rattle.wire.specs.Refusal.{firstThatApplies};
+ghost use Rattle.device.specs.declared.state.Answer.the-variants.{Accepted};
+ghost use Rattle.device.specs.Refusals.{withBlock, refusals};
+ghost use Rattle.device.specs.Step.{acceptProgram, acceptBlock, acceptUpdate, stageAfter};
+ghost use Rattle.device.specs.Step as spec;
+ghost use Rattle.device.specs.Answers.{answerOf};
+
+pub fn accept(device: Device, kind: Kind, flash: &mut [u8], message: &[u8]) -> Device
+    requires { ⌜ Accepted ≡ answerOf (firstThatApplies (refusals digest valid kind device (now flash) (now message))) ⌝ }
+    ensures { λ r. ⌜ spec.accept kind device (now (flash .entry)) (now (message .entry)) ≡ record { device = r; flash = now (flash .exit) } ⌝ }
+{
+    match kind {
+        Kind::Program => accept_program(device, message),
+        Kind::Block => accept_block(device, flash, message),
+        Kind::Update => accept_update(device, flash, message),
+        Kind::Unknown => device,
+    }
+}
+
+// Kind 1. It does not look at the flash.
+fn accept_program(device: Device, message: &[u8]) -> Device
+    requires { ⌜ 49 ≤ length (now message) ⌝ }
+    ensures { λ r. ⌜ r ≡ acceptProgram device [] (now (message .entry)) .device ⌝ }
+{
+    let manifest = wire::read(message, 1);
+    let root = manifest.root;
+    let key = device.key;
+    Device {
+        model: device.model,
+        key,
+        stage: Stage::Loading(1),
+        manifest,
+        hashes: merkle::begin(&root),
+    }
+}
+
+// Writes block `number`, from 1, to its place.
+fn write_block(flash: &mut [u8], len: usize, number: u16, block: &[u8])
+    requires { ⌜ (0 < number) × ((number - 1) * len + length (now block) ≤ length (now flash)) ⌝ }
+    ensures { λ _. ⌜ now (flash .exit) ≡ withBlock len (now (flash .entry)) number (now (block .entry)) ⌝ }
+{
+    octets::copy(flash, (number as usize - 1) * len, block);
+}
+
+// After block `number` of n.
+fn stage_after(n: usize, number: u16) -> Stage
+    requires { ⌜ n ≤ maxBlocks ⌝ }
+    ensures { λ r. ⌜ r ≡ stageAfter n number ⌝ }
+{
+    if (number as usize) < n {
+        let next = number + 1;
+        return Stage::Loading(next);
+    }
+    Stage::Complete
+}
+
+// Kind 2.
+fn accept_block(device: Device, flash: &mut [u8], message: &[u8]) -> Device
+    requires { ⌜ Accepted ≡ answerOf (firstThatApplies (refusals digest valid kinds.Block device (now flash) (now message))) ⌝ }
+    ensures { λ r. ⌜ acceptBlock device (now (flash .entry)) (now (message .entry)) ≡ record { device = r; flash = now (flash .exit) } ⌝ }
+{
+    let stage = device.stage;
+    let next = next_of(stage);
+    let manifest = device.manifest;
+    let n = count(manifest);
+    let len = manifest.block as usize;
+    let end = 3 + len;
+    write_block(flash, len, next, &message[3..end]);
+    let old = device.hashes;
+    let hashes = merkle::advance(old, n, next as usize - 1, &message[end..]);
+    let key = device.key;
+    Device {
+        model: device.model,
+        key,
+        stage: stage_after(n, next),
+        manifest,
+        hashes,
+    }
+}
+
+// Kind 3.
+fn accept_update(device: Device, flash: &mut [u8], message: &[u8]) -> Device
+    requires { ⌜ Accepted ≡ answerOf (firstThatApplies (refusals digest valid kinds.Update device (now flash) (now message))) ⌝ }
+    ensures { λ r. ⌜ acceptUpdate device (now (flash .entry)) (now (message .entry)) ≡ record { device = r; flash = now (flash .exit) } ⌝ }
+{
+    let manifest = wire::read(message, 1);
+    let len = manifest.block as usize;
+    let end = 51 + len;
+    write_block(flash, len, octets::u16_at(message, 49), &message[51..end]);
+    let mut next = device;
+    next.manifest = manifest;
+    next
+}

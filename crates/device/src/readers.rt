@@ -1,0 +1,42 @@
+// What a caller reads of an answer and of a device.
+use crate::state::Answer;
+use crate::state::Device;
+use crate::state::Stage;
+ghost use mathlib.Core.Path.{_≡_};
+ghost use Rattle.device.specs.Readers.{numberOf, acceptedBlocks};
+
+// 0 if accepted, else the refusal's number.
+pub fn answer_number(answer: Answer) -> u8
+    ensures { λ r. ⌜ r ≡ numberOf answer ⌝ }
+{
+    match answer {
+        Answer::Accepted => 0,
+        Answer::Refused(refusal) => wire::number(refusal),
+    }
+}
+
+// How many blocks of its program the device has. Any struct value is taken: one without blocks or bytes has none.
+pub fn accepted_blocks(device: Device) -> usize
+    ensures { λ r. ⌜ r ≡ acceptedBlocks device ⌝ }
+{
+    let stage = device.stage;
+    let manifest = device.manifest;
+    match stage {
+        Stage::Idle => 0,
+        Stage::Loading(next) => {
+            if next == 0 {
+                return 0;
+            }
+            next as usize - 1
+        }
+        Stage::Complete => {
+            if manifest.block == 0 {
+                return 0;
+            }
+            if manifest.image == 0 {
+                return 0;
+            }
+            wire::block_count(manifest.block as usize, manifest.image as usize)
+        }
+    }
+}
