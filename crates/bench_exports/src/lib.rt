@@ -51,3 +51,22 @@ pub extern "C" fn bench_verify(key: &[u8], message: &[u8], signature: &[u8]) -> 
 {
     lms::verify(key, message, signature)
 }
+
+// The bytes of block message `number`, written to out; 0 where it is refused.
+#[no_mangle]
+pub extern "C" fn bench_block(image: &[u8], len: u32, number: u32, out: &mut [u8]) -> usize {
+    written(sender::block(image, len, number, out))
+}
+
+// The same for the manifest.
+#[no_mangle]
+pub extern "C" fn bench_manifest(image: &[u8], len: u32, out: &mut [u8]) -> usize {
+    written(sender::manifest(image, len, 7, 1, out))
+}
+
+fn written(sent: sender::Sent) -> usize {
+    match sent {
+        sender::Sent::Written(n) => n,
+        sender::Sent::Refused(_) => 0,
+    }
+}

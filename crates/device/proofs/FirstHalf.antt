@@ -3,7 +3,7 @@ use mathlib.Core.Path.{_≡_, refl, sym, ap, _∙_, subst}
 use mathlib.Core.Logic.{_⊎_, inl, inr}
 use mathlib.Core.Bool.{Bool}
 use mathlib.Core.List.{List, []}
-use mathlib.Core.Option.{some}
+use mathlib.Core.Option.{none, some}
 use Prim.Native.Nat.{ℕ, zero, suc, _*_, _<_}
 use native.Mathlib.Nat.{zero-add}
 use native.Mathlib.Omega.{arith}
@@ -28,7 +28,7 @@ use Rattle.device.specs.declared.state.Device.{Device}
 use Rattle.device.specs.Device.{countOf, Fresh, Situation}
 use Rattle.device.specs.Refusals.{treeOver}
 use Rattle.device.specs.Step.{step}
-use Rattle.device.specs.Run.{Messages, lastProgram, lastCarrier, Completed}
+use Rattle.device.specs.Run.{Messages, lastProgram, blocksSince, lastCarrier, Completed}
 use Rattle.device.specs.Demand3.{Bound, FirstHalf}
 use Rattle.device.proofs.InvariantLaws.{Carried, InComplete, Holds, Invariant, kept}
 use Rattle.device.proofs.RunLaws.{now, taken, every-list}
@@ -72,6 +72,22 @@ module _ (H : List ℕ → List ℕ) (valid : (key message signature : List ℕ)
       absurd (omega (arith, ap countOf q))
   stage-complete Complete s array f ms w c = refl
 
+  -- .. of one without a program message, and of one with blocks to come
+  stage-idle : (t : Stage) (s : Manifest) (array f : List ℕ) (ms : Messages) → Holds H valid (d .key) t s array f ms → lastProgram ms ≡ none → t ≡ Idle
+  stage-idle Idle s array f ms w e = refl
+  stage-idle (Loading zero) s array f ms w e = absurd w
+  stage-idle (Loading (suc k)) s array f ms w e = absurd (let l = w .last in let z : _≡_ {A = ℕ} 0 1 = cc in omega arith)
+  stage-idle Complete s array f ms w e = absurd (let l = w .last in let z : _≡_ {A = ℕ} 0 1 = cc in omega arith)
+
+  stage-loading : (t : Stage) (s : Manifest) (array f : List ℕ) (ms : Messages) → Holds H valid (d .key) t s array f ms
+      → (p : Manifest) → lastProgram ms ≡ some p → blocksSince ms < countOf p → t ≡ Loading (suc (blocksSince ms))
+  stage-loading Idle s array f ms w p e h = absurd (let n = w .0 in let z : _≡_ {A = ℕ} 0 1 = cc in omega arith)
+  stage-loading (Loading zero) s array f ms w p e h = absurd w
+  stage-loading (Loading (suc k)) s array f ms w p e h = ap (λ (x : ℕ). Loading (suc x)) (sym (w .since))
+  stage-loading Complete s array f ms w p e h =
+      let q : w .first ≡ p = let l = w .last in cc in
+      absurd (omega (arith, w .all, ap countOf q))
+
   carried-is : (ms : Messages) (s : Manifest) → Carried H valid (d .key) ms s → (m : List ℕ) → lastCarrier ms ≡ some m → s ≡ manifestIn m
   carried-is ms s c m e = let l = c .last in let q : c .carrier ≡ m = cc in c .manifest ∙ ap manifestIn q
 
@@ -83,12 +99,12 @@ module _ (H : List ℕ → List ℕ) (valid : (key message signature : List ℕ)
   manifest-carried Complete s array f ms w m e = carried-is ms s (w .carries) m e
 
 module _ (H : List ℕ → List ℕ) (valid : (key message signature : List ℕ) → Bool) (d : Device) (flash : List ℕ) where
-  invariant : Fresh d → (ms : Messages) → Invariant H valid (d .key) (now H valid d flash ms .device) (now H valid d flash ms .flash) (taken H valid d flash ms)
+  invariant : Fresh d → (ms : Messages) → Invariant H valid (d .key) (length flash) (now H valid d flash ms .device) (now H valid d flash ms .flash) (taken H valid d flash ms)
   unfolding lastProgram lastCarrier
   invariant fresh ms =
-      every-list H valid d flash (λ s taken. Invariant H valid (d .key) (s .device) (s .flash) taken)
-      (λ ms m v e. kept H valid (d .key) (now H valid d flash ms .device) (now H valid d flash ms .flash) m (taken H valid d flash ms) v e)
-      (record { same = refl; holds = rw (fresh .idle) (refl, refl) }) ms
+      every-list H valid d flash (λ s taken. Invariant H valid (d .key) (length flash) (s .device) (s .flash) taken)
+      (λ ms m v e. kept H valid (d .key) (length flash) (now H valid d flash ms .device) (now H valid d flash ms .flash) m (taken H valid d flash ms) v e)
+      (record { same = refl; long = refl; holds = rw (fresh .idle) (refl, refl) }) ms
 
 module _ (H : List ℕ → List ℕ) (hash-long : (x : List ℕ) → length (H x) ≡ hashLength) (valid : (key message signature : List ℕ) → Bool) (d : Device) (fresh : Fresh d)
     (flash : List ℕ) (ms : Messages) where
@@ -124,5 +140,8 @@ module _ (H : List ℕ → List ℕ) (hash-long : (x : List ℕ) → length (H x
       record {
         manifest = manifest-carried H valid d (at .device .stage) (at .device .manifest) (at .device .hashes) (at .flash) list holds;
         exactly = (λ e. let w = in-complete e in record { manifest = w .first; last = w .last; all = w .all }, stage-is);
+        idle = stage-idle H valid d (at .device .stage) (at .device .manifest) (at .device .hashes) (at .flash) list holds;
+        loading = stage-loading H valid d (at .device .stage) (at .device .manifest) (at .device .hashes) (at .flash) list holds;
+        one = invariant H valid d flash fresh ms .long;
         bound = bound;
       }

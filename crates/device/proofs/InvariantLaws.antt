@@ -92,14 +92,16 @@ module _ (H : List ℕ → List ℕ) (valid : (key message signature : List ℕ)
   Holds (Loading (suc k)) s array flash taken = InLoading k s array flash taken
   Holds Complete s array flash taken = InComplete s flash taken
 
-  pub record Invariant (d : Device) (flash : List ℕ) (taken : Messages) : Type 0 where
+  -- total is the length of the flash
+  pub record Invariant (total : ℕ) (d : Device) (flash : List ℕ) (taken : Messages) : Type 0 where
     pub same : d .key ≡ key
+    pub long : length flash ≡ total
     pub holds : Holds (d .stage) (d .manifest) (d .hashes) flash taken
 
-  abbrev Kept : Situation → Messages → Type 0
-  Kept s taken = Invariant (s .device) (s .flash) taken
+  module _ (total : ℕ) (d : Device) (flash m : List ℕ) (taken : Messages) (v : Invariant total d flash taken) where
+    abbrev Kept : Situation → Messages → Type 0
+    Kept s taken = Invariant total (s .device) (s .flash) taken
 
-  module _ (d : Device) (flash m : List ℕ) (taken : Messages) (v : Invariant d flash taken) where
     kept-program : kind m ≡ Program → ProgramPassed H valid d flash m → Kept (acceptProgram d flash m) (taken ▷ m)
     unfolding acceptProgram countOf
     kept-program e p =
@@ -108,6 +110,7 @@ module _ (H : List ℕ → List ℕ) (valid : (key message signature : List ℕ)
         let lr : length (s .root) ≡ hashLength = root-length m (p .long) in
         record {
           same = v .same;
+          long = v .long;
           holds = record {
             below = p .size .first;
             size = p .size;
@@ -220,7 +223,7 @@ module _ (H : List ℕ → List ℕ) (valid : (key message signature : List ℕ)
         go Idle q w = absurd (true≢false (rw q at (p .loading)))
         go (Loading zero) q w = absurd w
         go (Loading (suc k)) q w =
-            rw q (record { same = v .same; holds = next-stage k e (rw q at (p .long)) (rw q at (p .same)) w })
+            rw q (record { same = v .same; long = flash-long k e (rw q at (p .long)) (rw q at (p .same)) w ∙ v .long; holds = next-stage k e (rw q at (p .long)) (rw q at (p .same)) w })
         go Complete q w = absurd (true≢false (rw q at (p .loading)))
 
     length-updated : UpdatePassed H valid d flash m → length (updated flash m) ≡ length flash
@@ -245,6 +248,7 @@ module _ (H : List ℕ → List ℕ) (valid : (key message signature : List ℕ)
             let a = with-update taken m e in
             record {
               same = v .same;
+              long = length-updated p ∙ v .long;
               holds = rw q
                   (record {
                     size = p .size;

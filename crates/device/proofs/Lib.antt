@@ -1,3 +1,4 @@
+pub mod FreshLaws
 pub mod RefusalLaws
 pub mod FlashLaws
 pub mod InvariantLaws

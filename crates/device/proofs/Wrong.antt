@@ -169,6 +169,17 @@ forgetting-caught : FirstHalf toy any forgetting fresh flash (empty ▷ program)
 unfolding computing forgetting without-serial
 forgetting-caught = other-serial forgetting (empty ▷ program) program refl (λ (e : _≡_ {A = ℕ} 0 1). omega arith)
 
+-- It stays idle after a manifest, so that older serials are taken next.
+idling : Step
+idling = byKind (λ d f m. but (right d f m) (record { model = d .model; key = d .key; stage = Idle; manifest = manifestIn m; hashes = begun (manifestIn m .root) })) right right
+
+idling-caught : FirstHalf toy any idling fresh flash (empty ▷ program) → ⊥
+unfolding computing idling
+idling-caught h =
+    let e : Idle ≡ Loading 1 = h .loading (manifestFor toy job) refl (lit< tt) in
+    let z : _≡_ {A = ℕ} 0 1 = cc in
+    omega arith
+
 -- It is complete after the first block.
 early : Step
 early = byKind right (λ d f m. but (right d f m) (record { model = d .model; key = d .key; stage = Complete; manifest = d .manifest; hashes = d .hashes })) right
@@ -246,6 +257,17 @@ hoarding-caught h =
     let z : _≡_ {A = ℕ} 1 3 = ap (λ (l : List (List ℕ)). number (take 1 (drop 1 (joined l)))) r in
     omega arith
 
+-- It holds a number of hashes that is not the tree's: its next number runs ahead.
+skipping : Step
+skipping = byKind right (λ d f m. but (right d f m) (record { model = d .model; key = d .key; stage = Loading 3; manifest = d .manifest; hashes = right d f m .device .hashes })) right
+
+skipping-caught : SecondHalf toy any skipping fresh flash (empty ▷ program ▷ blockFor toy job 1) → ⊥
+unfolding computing skipping
+skipping-caught h =
+    let r = h .loads job empty program 1 (begun-by skipping refl) (next (lit< tt) begin) .held in
+    let z : _≡_ {A = ℕ} 0 1 = ap (λ (l : List (List ℕ)). length l) r in
+    omega arith
+
 -- It refuses every manifest.
 closed : Step
 closed = byKind refusing right right
@@ -285,12 +307,14 @@ none-meets : (Demand3 toy any careless → ⊥)
     × (Demand3 toy any blind → ⊥)
     × (Demand3 toy any keeping → ⊥)
     × (Demand3 toy any forgetting → ⊥)
+    × (Demand3 toy any idling → ⊥)
     × (Demand3 toy any early → ⊥)
     × (Demand3 toy any endless → ⊥)
     × (Demand3 toy nobody taking → ⊥)
     × (Demand3 toy any deaf → ⊥)
     × (Demand3 toy any still → ⊥)
     × (Demand3 toy any hoarding → ⊥)
+    × (Demand3 toy any skipping → ⊥)
     × (Demand3 toy any closed → ⊥)
     × (Demand3 toy any hasty → ⊥)
 none-meets = (
@@ -298,12 +322,14 @@ none-meets = (
   λ c. blind-caught (c fresh is-fresh flash _ .first),
   λ c. keeping-caught (c fresh is-fresh flash _ .first),
   λ c. forgetting-caught (c fresh is-fresh flash _ .first),
+  λ c. idling-caught (c fresh is-fresh flash _ .first),
   λ c. early-caught (c fresh is-fresh flash _ .first),
   λ c. endless-caught (c fresh is-fresh flash _ .first),
   λ c. trusting-caught (c fresh is-fresh flash _ .first),
   λ c. deaf-caught (c fresh is-fresh flash _ .second),
   λ c. still-caught (c fresh is-fresh flash _ .second),
   λ c. hoarding-caught (c fresh is-fresh flash _ .second),
+  λ c. skipping-caught (c fresh is-fresh flash _ .second),
   λ c. closed-caught (c fresh is-fresh flash _ .calls),
   λ c. hasty-caught (c fresh is-fresh flash _ .calls),
 )

@@ -3,7 +3,7 @@ use mathlib.Core.Path.{_≡_}
 use mathlib.Core.Logic.{_⊎_, _↔_}
 use mathlib.Core.Bool.{Bool, true, false}
 use mathlib.Core.List.{List, [], _++_}
-use mathlib.Core.Option.{some}
+use mathlib.Core.Option.{none, some}
 use Prim.Native.Nat.{ℕ, zero, suc, _*_, _^_, max, _≤_, _<_}
 use lib.ListN.{length, take, drop}
 use Rattle.merkle.specs.Blocks.{cut}
@@ -18,7 +18,7 @@ use Rattle.wire.specs.Manifest.{written}
 use Rattle.wire.specs.Image.{filled, imageBlocks}
 use Rattle.wire.specs.Message.{kind, manifestBytes, manifestIn}
 use Rattle.sender.specs.Job.{Job, count, blocks, manifestFor, blockFor}
-use Rattle.device.specs.declared.state.Stage.the-variants.{Complete}
+use Rattle.device.specs.declared.state.Stage.the-variants.{Idle, Loading, Complete}
 use Rattle.device.specs.declared.state.Device.{Device}
 use Rattle.device.specs.declared.state.Answer.{Answer}
 use Rattle.device.specs.declared.state.Answer.the-variants.{Accepted, Refused}
@@ -26,7 +26,7 @@ use Rattle.device.specs.Device.{countOf, Fresh, heldBy, Outcome}
 use Rattle.device.specs.Refusals.{treeOver}
 use Rattle.device.specs.Step.{refusalOf}
 use Rattle.device.specs.Answers.{answerOf}
-use Rattle.device.specs.Run.{Messages, _▷_, after, answerTo, accepted, lastCarrier, signatureIn, Completed}
+use Rattle.device.specs.Run.{Messages, _▷_, after, answerTo, accepted, lastProgram, blocksSince, lastCarrier, signatureIn, Completed}
 
 -- The sender writes a manifest for the job: it does not refuse 5, and model and serial have four bytes.
 pub record Sendable (job : Job) : Type 0 where
@@ -81,8 +81,13 @@ module _ (H : List ℕ → List ℕ) (valid : (key message signature : List ℕ)
   pub record FirstHalf (ms : Messages) : Type 0 where
     -- "The drive's slip is that of the last accepted message that carries one"
     pub manifest : (m : List ℕ) → lastCarrier (acceptedOf ms) ≡ some m → deviceAfter ms .manifest ≡ manifestIn m
-    -- "The stage is complete exactly then."
+    -- "The stage is complete exactly then." Before, it is idle while no kind 1 was accepted, and then loading, with the number after the accepted blocks.
     pub exactly : (deviceAfter ms .stage ≡ Complete) ↔ Completed (acceptedOf ms)
+    pub idle : lastProgram (acceptedOf ms) ≡ none → deviceAfter ms .stage ≡ Idle
+    pub loading : (s : Manifest) → lastProgram (acceptedOf ms) ≡ some s → blocksSince (acceptedOf ms) < countOf s
+        → deviceAfter ms .stage ≡ Loading (suc (blocksSince (acceptedOf ms)))
+    -- "The area is one throughout"
+    pub one : length (flashAfter ms) ≡ length flash
     pub bound : Completed (acceptedOf ms) → Bound (acceptedOf ms) (deviceAfter ms .manifest) (flashAfter ms)
 
   -- "an accepted kind 1 carried exactly the slip that demand 2 has the sender write for an image": message m, after the messages `before`

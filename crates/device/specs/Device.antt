@@ -2,8 +2,8 @@
 use mathlib.Core.Path.{_≡_}
 use mathlib.Core.List.{List, []}
 use Prim.Native.Nat.{ℕ, pred}
-use lib.ListN.{length}
-use Rattle.merkle.specs.Limits.{heldBytes}
+use lib.ListN.{length, replicate}
+use Rattle.merkle.specs.Limits.{hashLength, heldBytes}
 use Rattle.merkle.specs.Blocks.{blockCount}
 use Rattle.merkle.specs.Held.{heldIn}
 use Rattle.wire.specs.declared.manifest.Manifest.{Manifest}
@@ -19,6 +19,17 @@ countOf s = blockCount (s .block) (s .image)
 pub record Fresh (d : Device) : Type 0 where
   pub idle : d .stage ≡ Idle
   pub array : length (d .hashes) ≡ heldBytes
+
+-- one with this model and key; manifest and array mean nothing while it is idle
+unfoldable pub freshWith : ℕ → List ℕ → Device
+freshWith model key =
+    record {
+      model = model;
+      key = key;
+      stage = Idle;
+      manifest = record { version = 0; block = 0; model = 0; serial = 0; image = 0; root = replicate hashLength 0 };
+      hashes = replicate heldBytes 0;
+    }
 
 -- "The serial is kept once, in the slip, and counts as 0 when idle."
 unfoldable pub serialOf : Device → ℕ

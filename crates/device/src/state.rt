@@ -2,7 +2,7 @@
 use wire::Manifest;
 use wire::Refusal;
 ghost use mathlib.Core.Path.{_≡_};
-ghost use Rattle.device.specs.Device.{Fresh};
+ghost use Rattle.device.specs.Device.{freshWith};
 
 pub enum Stage {
     Idle,
@@ -26,8 +26,9 @@ pub enum Answer {
     Refused(Refusal),
 }
 
+// Idle, with this model and key.
 pub fn fresh(model: u32, key: [u8; 56]) -> Device
-    ensures { λ r. ⌜ Fresh r × (r .model ≡ model) × (r .key ≡ key) ⌝ }
+    ensures { λ r. ⌜ r ≡ freshWith model key ⌝ }
 {
     let manifest = Manifest {
         version: 0,
