@@ -1,6 +1,6 @@
 .PHONY: demo test bench
 
-# Shows the main job: the digests of the standard's examples.
+# Outside test data through the proved functions.
 demo:
 	@rt check vectors >/dev/null && target/bin/vectors
 
