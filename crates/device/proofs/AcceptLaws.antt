@@ -26,7 +26,7 @@ use Rattle.device.specs.Device.{countOf, Situation}
 use Rattle.device.specs.Refusals.{short, leastLength, nextOf, tooSmall, wrongLength, withBlock, updated, always, ofBlock, ofUpdate, ofKind, refusals}
 use Rattle.device.specs.Step.{acceptProgram, acceptBlock, acceptUpdate, stageAfter, accept, outcome, refusalOf, step}
 use Rattle.device.specs.Answers.{answerOf}
-use Rattle.device.proofs.TestLaws.{before-is, room, slice-rest, slice-block}
+use Rattle.device.proofs.ConditionLaws.{before-is, room, slice-rest, slice-block}
 use Rattle.device.proofs.JudgeLaws.{Pass, pass, cascade, Awaits, awaits}
 
 module _ (d : Device) (flash m : List ℕ) where

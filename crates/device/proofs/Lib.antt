@@ -12,4 +12,4 @@ pub mod Reached
 pub mod Wrong
 pub mod AcceptLaws
 pub mod JudgeLaws
-pub mod TestLaws
+pub mod ConditionLaws

@@ -1,8 +1,8 @@
 // What an accepted message does. Only here is the flash written, and only `receive` calls this, where no refusal applies.
+use crate::conditions::count;
+use crate::conditions::next_of;
 use crate::state::Device;
 use crate::state::Stage;
-use crate::tests::count;
-use crate::tests::next_of;
 use wire::Kind;
 ghost use mathlib.Core.Path.{_≡_};
 ghost use mathlib.Core.List.{[]};
@@ -27,6 +27,7 @@ pub fn accept(device: Device, kind: Kind, flash: &mut [u8], message: &[u8]) -> D
         Kind::Program => accept_program(device, message),
         Kind::Block => accept_block(device, flash, message),
         Kind::Update => accept_update(device, flash, message),
+        // Never accepted; the definition has this arm too.
         Kind::Unknown => device,
     }
 }

@@ -1,9 +1,9 @@
 // The device (01: drive): its state, and what it answers to a message.
 mod accept;
+mod conditions;
 mod judge;
 mod readers;
 mod state;
-mod tests;
 
 pub use readers::accepted_blocks;
 pub use readers::answer_number;

@@ -4,7 +4,7 @@ use lib.ListN.{length}
 use Rattle.octets.proofs.CopyLaws.{length-part, part-between}
 use Rattle.sha256.specs.Sha256.{digest}
 use Rattle.lms.specs.Lms.{valid}
-use Rattle.device.proofs.TestLaws.{sound, room, due, rest-long}
+use Rattle.device.proofs.ConditionLaws.{sound, room, due, rest-long}
 use Rattle.device.proofs.AcceptLaws.{BlockDue, block-due, block-is}
 use borrow.Author.Needs.{needs}
 use Rattle.device.proofs.accept.accept_block.Statement.{statement}

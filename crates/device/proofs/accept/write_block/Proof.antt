@@ -1,5 +1,5 @@
 use Rattle.device.specs.Refusals.{withBlock}
-use Rattle.device.proofs.TestLaws.{before-is}
+use Rattle.device.proofs.ConditionLaws.{before-is}
 use borrow.Author.Needs.{needs}
 use Rattle.device.proofs.accept.write_block.Statement.{statement}
 use Rattle.device.proofs.accept.write_block.Tie as tie

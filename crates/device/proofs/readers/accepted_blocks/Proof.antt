@@ -5,7 +5,7 @@ use native.Mathlib.Omega.{arith}
 use Rattle.merkle.specs.Blocks.{blockCount}
 use Rattle.device.specs.Device.{countOf}
 use Rattle.device.specs.Readers.{acceptedBlocks}
-use Rattle.device.proofs.TestLaws.{before-is}
+use Rattle.device.proofs.ConditionLaws.{before-is}
 use borrow.Author.Needs.{needs}
 use Rattle.device.proofs.readers.accepted_blocks.Statement.{statement}
 use Rattle.device.proofs.readers.accepted_blocks.Tie as tie

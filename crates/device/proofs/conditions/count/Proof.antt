@@ -1,0 +1,22 @@
+use native.Mathlib.Omega.{arith}
+use Rattle.device.specs.Device.{countOf}
+use Rattle.device.proofs.ConditionLaws.{sound}
+use borrow.Author.Needs.{needs}
+use Rattle.device.proofs.conditions.count.Statement.{statement}
+use Rattle.device.proofs.conditions.count.Tie as tie
+
+cast-block-count : tie.Need-cast-block-count
+cast-block-count c = search needs
+
+cast-block-count-2 : tie.Need-cast-block-count-2
+cast-block-count-2 c = search needs
+
+block-count-requires : tie.Need-block-count-requires
+block-count-requires c κs = let z = sound _ (c .before .before .pre) in (omega arith, z .some)
+
+returns : tie.Need-returns
+unfolding countOf
+returns c = c .block-count .ensures
+
+pub count-spec : {M : Type 1} → statement M
+count-spec = tie.close (tie.spec cast-block-count cast-block-count-2 block-count-requires returns)
