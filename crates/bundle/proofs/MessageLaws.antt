@@ -1,0 +1,100 @@
+-- The kind 1 message, and what follows if it is accepted.
+use mathlib.Core.Path.{_≡_, refl, sym, ap, ap₂, _∙_}
+use mathlib.Core.Bool.{true, false, true≢false}
+use mathlib.Core.List.{List, _++_}
+use mathlib.Core.Option.{Option, none, some}
+use Prim.Native.Nat.{ℕ, _+_, _-_, _*_, _≤_, _<_}
+use native.Mathlib.Omega.{arith}
+use lib.ListN.{length, take, drop}
+use borrow.Author.Tests.{le-ltb}
+use Rattle.sha256.specs.Sha256.{digest}
+use Rattle.merkle.specs.Limits.{maxBlocks}
+use Rattle.merkle.specs.Blocks.{blockCount}
+use Rattle.lms.specs.Lms.{valid}
+use Rattle.wire.specs.declared.kind.Kind.{Kind}
+use Rattle.wire.specs.declared.kind.Kind.the-variants.{Program, Block, Update, Unknown}
+use Rattle.wire.specs.declared.refusal.Refusal.{Refusal}
+use Rattle.wire.specs.Message.{kind}
+use Rattle.wire.specs.Size.{wrongSize}
+use Rattle.wire.proofs.SizeLaws.{Sized, wrong-count}
+use Rattle.device.specs.declared.state.Stage.the-variants.{Idle}
+use Rattle.device.specs.declared.state.Device.{Device}
+use Rattle.device.specs.declared.state.Answer.the-variants.{Accepted, Refused}
+use Rattle.device.specs.Device.{Outcome}
+use Rattle.device.specs.Refusals.{badSize, notLoading, notComplete}
+use Rattle.device.specs.Step.{acceptProgram, accept, outcome, refusalOf, step}
+use Rattle.device.specs.Readers.{numberOf}
+use Rattle.device.proofs.RefusalLaws.{program-passed, block-passed, update-passed, unknown-refused}
+use Rattle.bundle.specs.Text.{slip‿, messageLine}
+use Rattle.bundle.specs.Parts.{nowhere, slipIn, beforeSlip}
+use Rattle.bundle.specs.Load.{Printed, _before_, stop, ifAccepted, blocks, messages}
+use Rattle.bundle.specs.Steps.{Written, Ran}
+use Rattle.bundle.proofs.PartLaws.{Somewhere}
+use Rattle.bundle.proofs.WrittenLaws.{joined}
+use Rattle.bundle.proofs.RunLaws.{before-stop, if-accepted, if-refused, ran}
+
+size-right : (L T : ℕ) → Sized L T → wrongSize L T ≡ false
+size-right L T z = sym (wrong-count L T (blockCount L T) (λ e. omega (arith, z .some)) (sym (z .allowed)) refl) ∙ le-ltb maxBlocks (blockCount L T) (z .count)
+
+module _ (d : Device) (flash m : List ℕ) (idle : d .stage ≡ Idle) where
+  by-kind : (k : Kind) → kind m ≡ k → refusalOf digest valid d flash m ≡ none → badSize (accept k d flash m .device .manifest) ≡ false
+  unfolding accept acceptProgram badSize notLoading notComplete
+  by-kind Program e q = size-right _ _ (program-passed digest valid d flash m e q .size)
+  by-kind Block e q = absurd (true≢false (rw (idle, notLoading) at (block-passed digest valid d flash m e q .loading)))
+  by-kind Update e q = absurd (true≢false (rw (idle, notComplete) at (update-passed digest valid d flash m e q .complete)))
+  by-kind Unknown e q = absurd (unknown-refused digest valid d flash m e q)
+
+  -- an idle device accepts a kind 1 message alone, and so a manifest of an allowed size
+  pub accepted-size : (o : Outcome) → step digest valid d flash m ≡ o → o .answer ≡ Accepted → badSize (o .device .manifest) ≡ false
+  unfolding step outcome
+  accepted-size o e a = go (refusalOf digest valid d flash m) refl
+    where
+      go : (r : Option Refusal) → refusalOf digest valid d flash m ≡ r → badSize (o .device .manifest) ≡ false
+      go none q =
+          let same : outcome none d flash (accept (kind m) d flash m) ≡ o = ap (λ (r : Option Refusal). outcome r d flash (accept (kind m) d flash m)) (sym q) ∙ e in
+          ap (λ (x : Outcome). badSize (x .device .manifest)) (sym same) ∙ by-kind (kind m) refl q
+      go (some x) q =
+          let same : outcome (some x) d flash (accept (kind m) d flash m) ≡ o = ap (λ (r : Option Refusal). outcome r d flash (accept (kind m) d flash m)) (sym q) ∙ e in
+          let other : Refused x ≡ o .answer = ap (λ (x : Outcome). x .answer) same in
+          absurd (let z : _≡_ {A = ℕ} 0 1 = cc in omega arith)
+
+module _ (d : Device) (flash b : List ℕ) where
+  no-slip : nowhere b ≡ true → messages d flash b ≡ messageLine slip‿ 0 3 before stop d flash
+  unfolding messages
+  no-slip e = rw (e, messages)
+
+  with-slip : nowhere b ≡ false
+      → messages d flash b
+      ≡ (let o = step digest valid d flash (slipIn b) in messageLine slip‿ 0 (numberOf (o .answer)) before ifAccepted o (blocks (o .device) (o .flash) (beforeSlip b)))
+  unfolding messages
+  with-slip e = rw (e, messages)
+
+  pub ran-nowhere : {out out' : List ℕ} {at next : ℕ} → nowhere b ≡ true → Written out at out' next (messageLine slip‿ 0 3) → Ran (messages d flash b) out at out' next d flash
+  ran-nowhere e w = ran (sym (before-stop _ d flash) ∙ sym (no-slip e)) w
+
+  module _ (start : ℕ) (z : Somewhere b start) (o : Outcome) (done : step digest valid d flash (take (length b - 4 - start) (drop start b)) ≡ o) (answer : ℕ)
+      (answer-is : answer ≡ numberOf (o .answer)) where
+    follows : messageLine slip‿ 0 answer before ifAccepted o (blocks (o .device) (o .flash) (take start b)) ≡ messages d flash b
+    follows =
+        let q : step digest valid d flash (slipIn b) ≡ o = ap (step digest valid d flash) (sym (z .slip)) ∙ done in
+        let after : Outcome → ℕ → List ℕ → Printed = λ x y f. messageLine slip‿ 0 y before ifAccepted x (blocks (x .device) (x .flash) f) in
+        ap (λ (y : ℕ). after o y (take start b)) answer-is
+        ∙ ap₂ {C = Printed} (λ (x : Outcome) (f : List ℕ). after x (numberOf (x .answer)) f) (sym q) (z .front)
+        ∙ sym (with-slip (z .there))
+
+    pub ran-refused : {out out' : List ℕ} {at next : ℕ} → Written out at out' next (messageLine slip‿ 0 answer) → (r : Refusal) → o .answer ≡ Refused r
+        → Ran (messages d flash b) out at out' next (o .device) (o .flash)
+    ran-refused w r e =
+        ran (sym (before-stop _ (o .device) (o .flash)) ∙ ap (λ (p : Printed). messageLine slip‿ 0 answer before p) (sym (if-refused o _ r e)) ∙ follows) w
+
+    pub ran-on : {out out' out'' f : List ℕ} {at next last : ℕ} {d' : Device} → Written out at out' next (messageLine slip‿ 0 answer) → o .answer ≡ Accepted
+        → Ran (blocks (o .device) (o .flash) (take start b)) out' next out'' last d' f
+        → at + length (messageLine slip‿ 0 answer) + length (blocks (o .device) (o .flash) (take start b) .text) ≤ length out
+        → Ran (messages d flash b) out at out'' last d' f
+    unfolding _before_
+    ran-on {f = f} {d' = d'} w e r room =
+        let p : Printed = blocks (o .device) (o .flash) (take start b) in
+        let all : messageLine slip‿ 0 answer before p ≡ messages d flash b = ap (λ (p : Printed). messageLine slip‿ 0 answer before p) (sym (if-accepted o _ e)) ∙ follows in
+        let same : record { text = messageLine slip‿ 0 answer ++ p .text; device = d'; flash = f } ≡ messageLine slip‿ 0 answer before p =
+        ap₂ {C = Printed} (λ (x : Device) (y : List ℕ). record { text = messageLine slip‿ 0 answer ++ p .text; device = x; flash = y }) (r .device) (r .flash) in
+        ran (same ∙ all) (joined w (r .written) room)

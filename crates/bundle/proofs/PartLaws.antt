@@ -1,0 +1,106 @@
+-- Where messages are cut, and where the kind 1 message starts.
+use mathlib.Core.Path.{_≡_, refl, sym, ap, ap₂, _∙_}
+use mathlib.Core.Bool.{Bool, true, false, _||_}
+use mathlib.Core.List.{List}
+use Prim.Native.Nat.{ℕ, _+_, _-_, _*_, _≤_, _<_}
+use native.Mathlib.Omega.{arith}
+use lib.Dec.{ltb}
+use lib.ListN.{length, take, drop, length-drop, drop-of-length-le}
+use lib.Seq.{take-all, drop-drop}
+use borrow.Author.Tests.{lt-ltb, le-ltb, ltb-false}
+use Rattle.wire.proofs.SizeLaws.{or-false}
+use Rattle.octets.specs.Octets.{number, part}
+use Rattle.merkle.specs.Limits.{hashLength}
+use Rattle.merkle.specs.Frontier.{carried, messageLength}
+use Rattle.bundle.specs.declared.parts.Start.the-variants.{At, Nowhere}
+use Rattle.bundle.specs.Parts.{trailerAt, distance, nowhere, slipAt, slipIn, beforeSlip}
+use Rattle.bundle.specs.Steps.{startOf, Cut}
+
+-- the whole message is there, or the bytes end before it does
+pub cut-whole : (b : List ℕ) (from len : ℕ) → from + len ≤ length b → Cut b from len (from + len)
+cut-whole b from len h =
+    let e : from + len - from ≡ len = omega arith in
+    record { after = omega arith; within = h; message = ap (λ (n : ℕ). take n (drop from b)) e; rest = sym (drop-drop len from b) }
+
+pub cut-short : (b : List ℕ) (from len : ℕ) → from ≤ length b → length b ≤ from + len → Cut b from len (length b)
+cut-short b from len h g =
+    let l : length (drop from b) ≡ length b - from = length-drop from b in
+    record {
+      after = h;
+      within = omega arith;
+      message = take-all (length b - from) (drop from b) (omega arith) ∙ sym (take-all len (drop from b) (omega arith));
+      rest = drop-of-length-le b {i = length b} (omega arith) ∙ sym (drop-of-length-le (drop from b) {i = len} (omega arith));
+    }
+
+pub due-is : (L n i c : ℕ) → 0 < i → c ≡ carried n (i - 1 + 1) → 3 + L + hashLength * c ≡ messageLength L n i
+unfolding messageLength
+due-is L n i c pos e =
+    let z : i - 1 + 1 ≡ i = omega arith in
+    ap (λ (x : ℕ). 3 + L + hashLength * x) (e ∙ ap (carried n) z)
+
+module _ (b : List ℕ) where
+  pub starts-nowhere : nowhere b ≡ true → Nowhere ≡ startOf b
+  unfolding startOf
+  starts-nowhere e = rw (e, startOf)
+
+  pub starts-at : nowhere b ≡ false → At (slipAt b) ≡ startOf b
+  unfolding startOf
+  starts-at e = rw (e, startOf)
+
+  pub nowhere-short : length b < 4 → nowhere b ≡ true
+  unfolding nowhere
+  nowhere-short h = ap (λ (t : Bool). t || ltb (trailerAt b) (distance b)) (lt-ltb (length b) 4 h)
+
+  -- d is the distance
+  module _ (d : ℕ) (long : 4 ≤ length b) (e : d ≡ number (part (length b - 4) 4 b)) where
+    test-is : nowhere b ≡ ltb (length b - 4) d
+    unfolding nowhere trailerAt distance
+    test-is = ap₂ {C = Bool} (λ (t : Bool) (x : ℕ). t || ltb (length b - 4) x) (le-ltb (length b) 4 long) (sym e)
+
+    pub nowhere-beyond : length b - 4 < d → nowhere b ≡ true
+    nowhere-beyond h = test-is ∙ lt-ltb (length b - 4) d h
+
+    pub somewhere : d ≤ length b - 4 → nowhere b ≡ false
+    somewhere h = test-is ∙ le-ltb (length b - 4) d h
+
+    pub slip-at : length b - 4 - d ≡ slipAt b
+    unfolding slipAt trailerAt distance
+    slip-at = ap (λ (x : ℕ). length b - 4 - x) e
+
+  -- what the answer of `start_of` says
+  pub record Somewhere (at : ℕ) : Type 0 where
+    pub there : nowhere b ≡ false
+    pub is : at ≡ slipAt b
+    pub long : 4 ≤ length b
+    pub below : at ≤ length b - 4
+    pub slip : take (length b - 4 - at) (drop at b) ≡ slipIn b
+    pub front : take at b ≡ beforeSlip b
+
+  pub nothing : startOf b ≡ Nowhere → nowhere b ≡ true
+  unfolding startOf
+  nothing e = go (nowhere b) refl
+    where
+      go : (t : Bool) → nowhere b ≡ t → nowhere b ≡ true
+      go true q = q
+      go false q = absurd (let x = starts-at q in let z : _≡_ {A = ℕ} 0 1 = cc in omega arith)
+
+  pub found : (at : ℕ) → startOf b ≡ At at → Somewhere at
+  unfolding nowhere trailerAt slipAt slipIn beforeSlip
+  found at e = go (nowhere b) refl
+    where
+      go : (t : Bool) → nowhere b ≡ t → Somewhere at
+      go true q = absurd (let x = starts-nowhere q in let z : _≡_ {A = ℕ} 0 1 = cc in omega arith)
+      go false q =
+          let x = starts-at q in
+          let o = or-false (ltb (length b) 4) _ q in
+          let near : distance b ≤ length b - 4 = ltb-false _ _ (o .1) in
+          let i : at ≡ length b - 4 - distance b = cc in
+          let k : length b - 4 - at ≡ distance b = omega arith in
+          record {
+            there = q;
+            is = i;
+            long = ltb-false (length b) 4 (o .0);
+            below = omega arith;
+            slip = ap₂ {C = List ℕ} (λ (n f : ℕ). take n (drop f b)) k i;
+            front = ap (λ (f : ℕ). take f b) i;
+          }

@@ -1,0 +1,36 @@
+use Prim.Native.Nat.{_-_, _≤_}
+use native.Mathlib.Omega.{arith}
+use Rattle.merkle.proofs.CountLaws.{counted-most}
+use Rattle.bundle.proofs.PartLaws.{due-is}
+use borrow.Author.Needs.{needs}
+use Rattle.bundle.proofs.parts.due.Statement.{statement}
+use Rattle.bundle.proofs.parts.due.Tie as tie
+
+-- few hashes are carried
+few : (c : tie.After-struct-known) → c .before .count .result .carried ≤ 13
+few c =
+    let k = c .before in
+    let a = k .before .args in
+    let g = counted-most (a .n) (a .number - 1) (k .count .result .held) (k .count .result .carried) (omega arith) (omega arith) (k .count .ensures) in
+    omega arith
+
+sub-count : tie.Need-sub-count
+sub-count c = search needs
+
+count-requires : tie.Need-count-requires
+count-requires c κs = search needs
+
+add-result : tie.Need-add-result
+add-result c = search needs
+
+mul-result : tie.Need-mul-result
+mul-result c = let z = few c in omega arith
+
+add-result-2 : tie.Need-add-result-2
+add-result-2 c = let z = few c in omega arith
+
+returns : tie.Need-returns
+returns c = let k = c .before in due-is _ _ _ _ (omega arith) (k .count .ensures .1)
+
+pub due-spec : {M : Type 1} → statement M
+due-spec = tie.close (tie.spec sub-count count-requires add-result mul-result add-result-2 returns)

@@ -1,0 +1,4 @@
+pub mod Text
+pub mod Parts
+pub mod Load
+pub mod Steps

@@ -1,0 +1,91 @@
+-- What the loader does with key.bin and bundle.bin (01, 'Bundle and loader'): the text that it prints, and the flash that it leaves.
+use mathlib.Core.Bool.{true, false, not}
+use mathlib.Core.List.{List, [], _++_}
+use Prim.Native.Nat.{ℕ, zero, suc}
+use lib.Dec.{eqb, ltb}
+use lib.ListN.{length, take, drop}
+use lib.Seq.{paste}
+use Rattle.octets.specs.Octets.{number, part}
+use Rattle.sha256.specs.Sha256.{digest}
+use Rattle.merkle.specs.Frontier.{messageLength}
+use Rattle.lms.specs.Lms.{valid}
+use Rattle.device.specs.declared.state.Device.{Device}
+use Rattle.device.specs.declared.state.Answer.{Answer}
+use Rattle.device.specs.declared.state.Answer.the-variants.{Accepted, Refused}
+use Rattle.device.specs.Device.{countOf, freshWith, Outcome}
+use Rattle.device.specs.Step.{step}
+use Rattle.device.specs.Readers.{numberOf}
+use Rattle.bundle.specs.Text.{bundle‿, slip‿, block‿, keyAlone, bundleOver, line, messageLine, stateLine}
+use Rattle.bundle.specs.Parts.{nowhere, slipIn, beforeSlip}
+
+-- Text printed so far or from here on, with device and flash at its end.
+pub record Printed : Type 0 where
+  pub text : List ℕ
+  pub device : Device
+  pub flash : List ℕ
+
+-- a text, and then what follows
+infixr 15 _before_
+unfoldable pub _before_ : List ℕ → Printed → Printed
+text before p = record { text = text ++ p .text; device = p .device; flash = p .flash }
+
+-- nothing more
+abbrev pub stop : Device → List ℕ → Printed
+stop d flash = record { text = []; device = d; flash = flash }
+
+-- "until one is refused or all are accepted": what follows after an outcome
+unfoldable pub ifAccepted : Outcome → Printed → Printed
+ifAccepted o then = elim (o .answer) [ Accepted ↦ then | Refused r ↦ stop (o .device) (o .flash) ]
+
+-- `left` block messages of blocks of L bytes, from number i on, n in all; bytes are those left before the slip.
+-- "Each block message is cut at its due length, or at the bytes left before the slip." "`block` and the number due, then 0 if accepted or the refusal number"
+unfoldable pub blocksFrom : (L n left i : ℕ) → Device → (flash bytes : List ℕ) → Printed
+blocksFrom L n zero i d flash bytes = stop d flash
+blocksFrom L n (suc left) i d flash bytes =
+    let due = messageLength L n i in
+    let o = step digest valid d flash (take due bytes) in
+    messageLine block‿ i (numberOf (o .answer)) before ifAccepted o (blocksFrom L n left (suc i) (o .device) (o .flash) (drop due bytes))
+
+-- all blocks of the device's manifest
+unfoldable pub blocks : Device → (flash bytes : List ℕ) → Printed
+blocks d flash bytes = let s = d .manifest in blocksFrom (s .block) (countOf s) (countOf s) 1 d flash bytes
+
+-- "hands over the slip, and if that is accepted the blocks"; where there is no slip, "the line `slip 0 3`"
+unfoldable pub messages : Device → (flash bundle : List ℕ) → Printed
+messages d flash bundle =
+    elim (nowhere bundle) [
+      | true ↦ messageLine slip‿ 0 3 before stop d flash
+      | false ↦
+          let o = step digest valid d flash (slipIn bundle) in
+          messageLine slip‿ 0 (numberOf (o .answer)) before ifAccepted o (blocks (o .device) (o .flash) (beforeSlip bundle))
+    ]
+
+-- "last `state`, the stage's name, the accepted blocks"
+unfoldable pub withState : Printed → Printed
+withState p = record { text = p .text ++ stateLine (p .device); device = p .device; flash = p .flash }
+
+-- "key.bin (56 key bytes, 4 model bytes)", and "a fresh drive"
+unfoldable pub deviceFor : List ℕ → Device
+deviceFor key = freshWith (number (part 56 4 key)) (take 56 key)
+
+-- the whole output, and the flash then
+unfoldable pub loaded : (key bundle flash : List ℕ) → Printed
+loaded key bundle flash =
+    let d = deviceFor key in
+    elim (eqb (length key) 60) [
+      | false ↦ keyAlone before stop d flash
+      | true ↦ elim (ltb 65536 (length bundle)) [ true ↦ bundleOver before stop d flash | false ↦ line bundle‿ (length bundle) before withState (messages d flash bundle) ]
+    ]
+
+-- The text goes to the start of a buffer, which must have room for the longest; else nothing is done. `written` is the text's length.
+pub record Loading : Type 0 where
+  pub written : ℕ
+  pub flash : List ℕ
+  pub out : List ℕ
+
+unfoldable pub load : (key bundle flash out : List ℕ) → Loading
+load key bundle flash out =
+    elim (ltb (length out) 65536) [
+      | true ↦ record { written = 0; flash = flash; out = out }
+      | false ↦ let p = loaded key bundle flash in record { written = length (p .text); flash = p .flash; out = paste out 0 (p .text) (length (p .text)) }
+    ]

@@ -1,0 +1,30 @@
+-- Where the parts of a bundle stand (01, 'Bundle and loader'): "the n block messages, any filler, the kind 1 message, and a 4-byte trailer".
+use mathlib.Core.Bool.{Bool, _||_}
+use mathlib.Core.List.{List}
+use Prim.Native.Nat.{ℕ, _-_}
+use lib.Dec.{ltb}
+use lib.ListN.{length, take, drop}
+use Rattle.octets.specs.Octets.{number, part}
+
+-- the trailer's first byte
+unfoldable pub trailerAt : List ℕ → ℕ
+trailerAt b = length b - 4
+
+-- "the distance back from the trailer's first byte to the kind 1 message's first byte"
+unfoldable pub distance : List ℕ → ℕ
+distance b = number (part (trailerAt b) 4 b)
+
+-- "A file under 4 bytes, or a distance beyond its start"
+unfoldable pub nowhere : List ℕ → Bool
+nowhere b = ltb (length b) 4 || ltb (trailerAt b) (distance b)
+
+-- where the kind 1 message (01: the slip) starts, and the message
+unfoldable pub slipAt : List ℕ → ℕ
+slipAt b = trailerAt b - distance b
+
+unfoldable pub slipIn : List ℕ → List ℕ
+slipIn b = part (slipAt b) (distance b) b
+
+-- what stands before it: block messages and filler
+unfoldable pub beforeSlip : List ℕ → List ℕ
+beforeSlip b = take (slipAt b) b

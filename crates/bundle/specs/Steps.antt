@@ -1,0 +1,33 @@
+-- What the contracts of the inner functions say besides.
+use mathlib.Core.Path.{_≡_}
+use mathlib.Core.Bool.{true, false}
+use mathlib.Core.List.{List}
+use Prim.Native.Nat.{ℕ, _+_, _-_, _≤_}
+use lib.ListN.{length, take, drop}
+use lib.Seq.{paste}
+use Rattle.device.specs.declared.state.Device.{Device}
+use Rattle.bundle.specs.declared.parts.Start.{Start}
+use Rattle.bundle.specs.declared.parts.Start.the-variants.{At, Nowhere}
+use Rattle.bundle.specs.Parts.{nowhere, slipAt}
+use Rattle.bundle.specs.Load.{Printed}
+
+unfoldable pub startOf : List ℕ → Start
+startOf b = elim (nowhere b) [ true ↦ Nowhere | false ↦ At (slipAt b) ]
+
+-- A message of len bytes that starts at index from, or what is left of it, ends at index to.
+pub record Cut (bytes : List ℕ) (from len to : ℕ) : Type 0 where
+  pub after : from ≤ to
+  pub within : to ≤ length bytes
+  pub message : take (to - from) (drop from bytes) ≡ take len (drop from bytes)
+  pub rest : drop to bytes ≡ drop len (drop from bytes)
+
+-- The text stands in the buffer from index at on, all else is as before, and next is behind it.
+pub record Written (out : List ℕ) (at : ℕ) (out' : List ℕ) (next : ℕ) (text : List ℕ) : Type 0 where
+  pub end : next ≡ at + length text
+  pub bytes : out' ≡ paste out at text (length text)
+
+-- The same with the device and the flash at the end.
+pub record Ran (p : Printed) (out : List ℕ) (at : ℕ) (out' : List ℕ) (next : ℕ) (d : Device) (f : List ℕ) : Type 0 where
+  pub written : Written out at out' next (p .text)
+  pub device : d ≡ p .device
+  pub flash : f ≡ p .flash

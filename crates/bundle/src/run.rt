@@ -1,0 +1,81 @@
+// The messages of a bundle, handed to a device one after the other. Only `load` calls these, and meets their `requires`.
+use crate::parts::Start;
+use crate::parts::cut;
+use crate::parts::due;
+use crate::parts::start_of;
+use crate::text::put_message;
+use crate::text::put_state;
+use device::Answer;
+use device::Device;
+ghost use mathlib.Core.Path.{_≡_};
+ghost use mathlib.Core.Bool.{false};
+ghost use Prim.Native.Nat.{_+_, _*_, _≤_};
+ghost use lib.ListN.{length};
+ghost use Rattle.merkle.specs.Limits.{maxBlocks};
+ghost use Rattle.device.specs.declared.state.Stage.the-variants.{Idle};
+ghost use Rattle.device.specs.Refusals.{badSize};
+ghost use Rattle.bundle.specs.Load as spec;
+ghost use Rattle.bundle.specs.Steps.{Ran};
+
+// The device after some messages, and the index behind the text.
+pub struct Progress {
+    pub device: Device,
+    pub at: usize,
+}
+
+// The block messages, until one is refused or all are accepted. A line has at most 15 bytes.
+fn blocks(start: Device, flash: &mut [u8], bytes: &[u8], out: &mut [u8], from: usize) -> Progress
+    requires { ⌜ (badSize (start .manifest) ≡ false) × (from + 15 * maxBlocks ≤ length (now out)) ⌝ }
+    ensures { λ r. ⌜ Ran (spec.blocks start (now (flash .entry)) (now (bytes .entry))) (now (out .entry)) from (now (out .exit)) (r .at) (r .device) (now (flash .exit))
+        × (r .at ≤ from + 15 * maxBlocks) ⌝ }
+{
+    let manifest = start.manifest;
+    let block = manifest.block as usize;
+    let n = wire::block_count(block, manifest.image as usize);
+    let mut device = start;
+    let mut at = from;
+    let mut read: usize = 0;
+    let mut number: usize = 1;
+    while number <= n {
+        let end = cut(bytes, read, due(block, n, number));
+        let reply = device::receive(device, flash, &bytes[read..end]);
+        let answer = reply.answer;
+        let next = reply.device;
+        at = put_message(out, at, b"block ", number, device::answer_number(answer));
+        let Answer::Accepted = answer else {
+            return Progress { device: next, at };
+        };
+        device = next;
+        read = end;
+        number += 1;
+    }
+    Progress { device, at }
+}
+
+// The manifest's message, and if that is accepted the blocks'. Its line has at most 14 bytes.
+pub fn messages(
+    fresh: Device,
+    flash: &mut [u8],
+    bundle: &[u8],
+    out: &mut [u8],
+    from: usize,
+) -> Progress
+    requires { ⌜ (fresh .stage ≡ Idle) × (from + 14 + 15 * maxBlocks ≤ length (now out)) ⌝ }
+    ensures { λ r. ⌜ Ran (spec.messages fresh (now (flash .entry)) (now (bundle .entry))) (now (out .entry)) from (now (out .exit)) (r .at) (r .device) (now (flash .exit))
+        × (r .at ≤ from + 14 + 15 * maxBlocks) ⌝ }
+{
+    let place = start_of(bundle);
+    let Start::At(start) = place else {
+        let at = put_message(out, from, b"slip ", 0, 3);
+        return Progress { device: fresh, at };
+    };
+    let end = bundle.len() - 4;
+    let reply = device::receive(fresh, flash, &bundle[start..end]);
+    let answer = reply.answer;
+    let device = reply.device;
+    let at = put_message(out, from, b"slip ", 0, device::answer_number(answer));
+    let Answer::Accepted = answer else {
+        return Progress { device, at };
+    };
+    blocks(device, flash, &bundle[..start], out, at)
+}

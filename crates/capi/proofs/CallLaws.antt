@@ -1,0 +1,79 @@
+-- The calls from C, from what they call.
+use mathlib.Core.Path.{_≡_, refl, sym, ap, _∙_}
+use mathlib.Core.Bool.{Bool, true, false, cond}
+use mathlib.Core.List.{List}
+use mathlib.Core.Option.{Option, none, some}
+use Prim.Native.Nat.{ℕ}
+use native.Mathlib.Omega.{arith}
+use lib.Dec.{eqb}
+use lib.ListN.{length}
+use lib.Seq.{paste}
+use borrow.Author.Tests.{eqb-true}
+use Rattle.octets.proofs.CopyLaws.{paste-whole}
+use Rattle.sha256.specs.Sha256.{digest}
+use Rattle.lms.specs.Lms.{valid}
+use Rattle.sender.specs.declared.send.Sent.{Sent}
+use Rattle.sender.specs.Send.{Result, Does}
+use Rattle.device.specs.declared.state.Stage.{Stage}
+use Rattle.device.specs.declared.state.Device.{Device}
+use Rattle.device.specs.declared.state.Answer.{Answer}
+use Rattle.device.specs.declared.state.Answer.the-variants.{Accepted, Refused}
+use Rattle.wire.specs.declared.refusal.Refusal.{Refusal}
+use Rattle.device.specs.Device.{Outcome}
+use Rattle.device.specs.Readers.{numberOf}
+use Rattle.device.specs.Step.{step}
+use Rattle.capi.specs.declared.state.Found.{Found}
+use Rattle.capi.specs.declared.state.Found.the-variants.{At, Nothing}
+use Rattle.capi.specs.Found.{found}
+use Rattle.capi.specs.State.{stateLength, encode, stageIn, deviceIn, decode}
+use Rattle.capi.proofs.StateLaws.{Fits, decode-none, decode-some, decode-encode}
+use Rattle.capi.specs.Call.{sentNumber, sentLength, Sends, Called, stateAfter, called, receive}
+
+pub sends : {s : Result} {a : Sent} {w r w′ : ℕ} {b : List ℕ} → Does s a b → (r ≡ sentNumber a) × (w′ ≡ sentLength a w) → Sends s w r w′ b
+sends {s} {a} {w} d e =
+    record { answered = e .0 ∙ ap sentNumber (d .answered); counted = e .1 ∙ ap (λ (x : Sent). sentLength x w) (d .answered); left = d .left }
+
+found-none : (o : Option Stage) → found o ≡ Nothing → o ≡ none
+unfolding found
+found-none none e = refl
+found-none (some t) e = cc
+
+found-some : (o : Option Stage) {t : Stage} → found o ≡ At t → o ≡ some t
+unfolding found
+found-some none e = cc
+found-some (some t) e = cc
+
+chosen : (x : Bool) (o : Option Stage) {t : Stage} → cond x o none ≡ some t → x ≡ true
+chosen true o e = refl
+chosen false o e = cc
+
+-- What the code found in the bytes b of a state.
+module _ (b : List ℕ) {f : Found} (e : f ≡ found (stageIn b)) where
+  pub length-found : {t : Stage} → f ≡ At t → length b ≡ stateLength
+  unfolding stageIn
+  length-found g = eqb-true _ _ (chosen (eqb (length b) stateLength) _ (found-some (stageIn b) (sym e ∙ g)))
+
+  module _ (flash m : List ℕ) where
+    pub unknown : f ≡ Nothing → receive b flash m ≡ record { answer = 1; state = b; flash = flash }
+    unfolding receive
+    unknown g = rw (decode-none b (found-none (stageIn b) (sym e ∙ g)), receive)
+
+    -- a state, and what the device made of it
+    module _ {t : Stage} {d : Device} {o : Outcome} (g : f ≡ At t) (de : d ≡ deviceIn b t) (se : step digest valid d flash m ≡ o) where
+      taken : receive b flash m ≡ called o b
+      unfolding receive
+      taken = rw (decode-some b (found-some (stageIn b) (sym e ∙ g)), receive) (ap (λ (x : Device). called (step digest valid x flash m) b) (sym de) ∙ ap (λ (x : Outcome). called x b) se)
+
+      pub refused : {x : Refusal} {n : ℕ} → o .answer ≡ Refused x → n ≡ numberOf (o .answer) → receive b flash m ≡ record { answer = n; state = b; flash = o .flash }
+      unfolding called stateAfter
+      refused z en = taken ∙ rw (en, z)
+
+      pub accepted : {s b′ : List ℕ} → o .answer ≡ Accepted → s ≡ encode (o .device) → length s ≡ stateLength → b′ ≡ paste b 0 s (length s)
+          → receive b flash m ≡ record { answer = 0; state = b′; flash = o .flash }
+      unfolding called stateAfter
+      accepted {s} z es ls eb = taken ∙ rw (z, eb, paste-whole b s (length-found g ∙ sym ls), es)
+
+-- The call on a state's own bytes is the device's step: a caller that keeps the bytes runs the device that demand 3 speaks of.
+pub receive-encode : (d : Device) (flash m : List ℕ) → Fits d → receive (encode d) flash m ≡ called (step digest valid d flash m) (encode d)
+unfolding receive
+receive-encode d flash m f = rw (decode-encode d f, receive)

@@ -1,0 +1,59 @@
+-- What the functions for C return, and what they leave in the caller's memory: 0 or a refusal's number.
+use mathlib.Core.Path.{_≡_}
+use mathlib.Core.Bool.{Bool, cond}
+use mathlib.Core.List.{List}
+use mathlib.Core.Option.{none, some}
+use Prim.Native.Nat.{ℕ}
+use Rattle.sha256.specs.Sha256.{digest}
+use Rattle.lms.specs.Lms.{valid}
+use Rattle.wire.specs.declared.refusal.Refusal.the-variants as refusal
+use Rattle.wire.specs.Refusal.{number}
+use Rattle.sender.specs.declared.send.Sent.{Sent}
+use Rattle.sender.specs.declared.send.Sent.the-variants as sent
+use Rattle.sender.specs.Send.{Result}
+use Rattle.device.specs.declared.state.Device.{Device}
+use Rattle.device.specs.declared.state.Answer.{Answer}
+use Rattle.device.specs.declared.state.Answer.the-variants.{Accepted, Refused}
+use Rattle.device.specs.Readers.{numberOf}
+use Rattle.device.specs.Device as device
+use Rattle.device.specs.Step.{step}
+use Rattle.capi.specs.State.{encode, decode}
+
+-- a verdict: 0 where the signature is valid, else 9
+unfoldable pub verdict : Bool → ℕ
+verdict ok = cond ok 0 (number refusal.Unsigned)
+
+-- The sender: the answer as a number, and the length that it reports through a pointer; after a refusal that is as before.
+abbrev pub sentNumber : Sent → ℕ
+sentNumber (sent.Written n) = 0
+sentNumber (sent.Refused r) = number r
+
+abbrev pub sentLength : Sent → ℕ → ℕ
+sentLength (sent.Written n) before = n
+sentLength (sent.Refused r) before = before
+
+pub record Sends (s : Result) (before answer after : ℕ) (buffer : List ℕ) : Type 0 where
+  pub answered : answer ≡ sentNumber (s .answer)
+  pub counted : after ≡ sentLength (s .answer) before
+  pub left : buffer ≡ s .buffer
+
+-- The device: answer, state bytes and flash after a message.
+pub record Called : Type 0 where
+  pub answer : ℕ
+  pub state : List ℕ
+  pub flash : List ℕ
+
+-- the state's bytes: those of the new device where the message was accepted, else as before
+unfoldable pub stateAfter : Answer → Device → List ℕ → List ℕ
+stateAfter a d state = elim a [ Accepted ↦ encode d | Refused r ↦ state ]
+
+unfoldable pub called : device.Outcome → List ℕ → Called
+called o state = record { answer = numberOf (o .answer); state = stateAfter (o .answer) (o .device) state; flash = o .flash }
+
+-- bytes that encode no state are a state that makes no sense: refused 1, nothing changed
+unfoldable pub receive : (state flash message : List ℕ) → Called
+receive state flash m =
+    elim (decode state) [
+      | none ↦ record { answer = number refusal.State; state = state; flash = flash }
+      | some d ↦ called (step digest valid d flash m) state
+    ]

@@ -1,0 +1,39 @@
+-- A device's state as bytes, which the caller keeps. Numbers are big-endian.
+use mathlib.Core.Bool.{cond}
+use mathlib.Core.List.{List, _++_}
+use mathlib.Core.Option.{Option, none, some}
+use Prim.Native.Nat.{ℕ}
+use lib.Dec.{eqb}
+use lib.ListN.{length}
+use Rattle.octets.specs.Octets.{bytes, number, part}
+use Rattle.wire.specs.Manifest.{written, read}
+use Rattle.device.specs.declared.state.Stage.{Stage}
+use Rattle.device.specs.declared.state.Stage.the-variants.{Idle, Loading, Complete}
+use Rattle.device.specs.declared.state.Device.{Device}
+use Rattle.device.specs.Refusals.{nextOf}
+
+abbrev pub stateLength : ℕ
+stateLength = 496
+
+unfoldable pub stageNumber : Stage → ℕ
+stageNumber t = elim t [ Idle ↦ 0 | Loading i ↦ 1 | Complete ↦ 2 ]
+
+-- model (4), key (56), stage (2), next number (2), which is 0 unless the device is loading, manifest (48), held hashes (384)
+unfoldable pub encode : Device → List ℕ
+encode d =
+    bytes 4 (d .model) ++ d .key ++ bytes 2 (stageNumber (d .stage)) ++ bytes 2 (nextOf (d .stage)) ++ written (d .manifest) ++ d .hashes
+
+-- the stage with this number, and with this next number if it is loading; there are no others
+unfoldable pub stageFrom : ℕ → ℕ → Option Stage
+stageFrom k next = cond (eqb k 0) (some Idle) (cond (eqb k 1) (some (Loading next)) (cond (eqb k 2) (some Complete) none))
+
+-- the stage of the state that bytes encode; those of another length, or with an unknown stage, encode none
+unfoldable pub stageIn : List ℕ → Option Stage
+stageIn b = cond (eqb (length b) stateLength) (stageFrom (number (part 60 2 b)) (number (part 62 2 b))) none
+
+-- the device at this stage whose other fields stand in b
+unfoldable pub deviceIn : List ℕ → Stage → Device
+deviceIn b t = record { model = number (part 0 4 b); key = part 4 56 b; stage = t; manifest = read (part 64 48 b); hashes = part 112 384 b }
+
+unfoldable pub decode : List ℕ → Option Device
+decode b = elim (stageIn b) [ none ↦ none | some t ↦ some (deviceIn b t) ]

@@ -1,0 +1,148 @@
+// The interface for C (include/lertxuno.h). A slice crosses as a pointer and a length, a reference to an array or a number as a pointer. Every function
+// returns 0 or the number of a refusal; what it writes through a pointer is as before where it refuses.
+mod state;
+
+use device::Answer;
+use sender::Sent;
+use state::Found;
+use state::STATE_LEN;
+ghost use mathlib.Core.Path.{_≡_};
+ghost use Rattle.sha256.specs.Sha256.{digest};
+ghost use Rattle.lms.specs.Lms.{valid};
+ghost use Rattle.sender.specs.Job.{job};
+ghost use Rattle.sender.specs.Send.{sendManifest, sendProgram, sendBlock, sendUpdate};
+ghost use Rattle.device.specs.Device.{freshWith};
+ghost use Rattle.capi.specs.State.{encode};
+ghost use Rattle.capi.specs.Call.{verdict, sentNumber, sentLength, Sends, receive};
+
+#[no_mangle]
+pub extern "C" fn lertxuno_digest(message: &[u8], out: &mut [u8; 32])
+    ensures { λ _. ⌜ now (out .exit) ≡ digest (now (message .entry)) ⌝ }
+{
+    let d = sha256::digest(message);
+    *out = d;
+}
+
+// Whether the signature over the message is valid under the key.
+#[no_mangle]
+pub extern "C" fn lertxuno_verify(key: &[u8], message: &[u8], signature: &[u8]) -> u32
+    ensures { λ r. ⌜ r ≡ verdict (valid (now (key .entry)) (now (message .entry)) (now (signature .entry))) ⌝ }
+{
+    if lms::verify(key, message, signature) {
+        return 0;
+    }
+    9
+}
+
+fn wide(number: u8) -> u32
+    ensures { λ r. ⌜ r ≡ number ⌝ }
+{
+    number as u32
+}
+
+// What the sender answered: its number, and the bytes written.
+fn report(sent: Sent, written: &mut usize) -> u32
+    ensures { λ r. ⌜ (r ≡ sentNumber sent) × (now (written .exit) ≡ sentLength sent (now (written .entry))) ⌝ }
+{
+    match sent {
+        Sent::Written(n) => {
+            *written = n;
+            0
+        }
+        Sent::Refused(refusal) => wide(wire::number(refusal)),
+    }
+}
+
+// The bare manifest, for signing.
+#[no_mangle]
+pub extern "C" fn lertxuno_manifest(
+    image: &[u8],
+    len: u32,
+    model: u32,
+    serial: u32,
+    out: &mut [u8],
+    written: &mut usize,
+) -> u32
+    ensures { λ r. ⌜ Sends (sendManifest (job (now (image .entry)) len model serial) (now (out .entry))) (now (written .entry)) r (now (written .exit)) (now (out .exit)) ⌝ }
+{
+    let sent = sender::manifest(image, len, model, serial, out);
+    report(sent, written)
+}
+
+// Kind 1.
+#[no_mangle]
+pub extern "C" fn lertxuno_program(
+    image: &[u8],
+    len: u32,
+    model: u32,
+    serial: u32,
+    signature: &[u8],
+    out: &mut [u8],
+    written: &mut usize,
+) -> u32
+    ensures { λ r. ⌜ Sends (sendProgram (job (now (image .entry)) len model serial) (now (signature .entry)) (now (out .entry))) (now (written .entry)) r (now (written .exit)) (now (out .exit)) ⌝ }
+{
+    let sent = sender::program(image, len, model, serial, signature, out);
+    report(sent, written)
+}
+
+// Kind 2.
+#[no_mangle]
+pub extern "C" fn lertxuno_block(
+    image: &[u8],
+    len: u32,
+    number: u32,
+    out: &mut [u8],
+    written: &mut usize,
+) -> u32
+    ensures { λ r. ⌜ Sends (sendBlock (job (now (image .entry)) len 0 0) number (now (out .entry))) (now (written .entry)) r (now (written .exit)) (now (out .exit)) ⌝ }
+{
+    let sent = sender::block(image, len, number, out);
+    report(sent, written)
+}
+
+// Kind 3.
+#[no_mangle]
+pub extern "C" fn lertxuno_update(
+    image: &[u8],
+    len: u32,
+    model: u32,
+    serial: u32,
+    number: u32,
+    signature: &[u8],
+    out: &mut [u8],
+    written: &mut usize,
+) -> u32
+    ensures { λ r. ⌜ Sends (sendUpdate (job (now (image .entry)) len model serial) number (now (signature .entry)) (now (out .entry))) (now (written .entry)) r (now (written .exit)) (now (out .exit)) ⌝ }
+{
+    let sent = sender::update(image, len, model, serial, number, signature, out);
+    report(sent, written)
+}
+
+// A fresh device's state.
+#[no_mangle]
+pub extern "C" fn lertxuno_fresh(model: u32, key: &[u8; 56], state: &mut [u8; STATE_LEN])
+    ensures { λ _. ⌜ now (state .exit) ≡ encode (freshWith model (now (key .entry))) ⌝ }
+{
+    let k = *key;
+    let bytes = state::to_bytes(device::fresh(model, k));
+    *state = bytes;
+}
+
+// The device takes a message.
+#[no_mangle]
+pub extern "C" fn lertxuno_receive(state: &mut [u8], flash: &mut [u8], message: &[u8]) -> u32
+    ensures { λ r. ⌜ receive (now (state .entry)) (now (flash .entry)) (now (message .entry)) ≡ record { answer = r; state = now (state .exit); flash = now (flash .exit) } ⌝ }
+{
+    let Found::At(stage) = state::stage_in(state) else {
+        return 1;
+    };
+    let reply = device::receive(state::device_in(state, stage), flash, message);
+    let answer = reply.answer;
+    let Answer::Accepted = answer else {
+        return wide(device::answer_number(answer));
+    };
+    let bytes = state::to_bytes(reply.device);
+    octets::copy(state, 0, &bytes);
+    0
+}
