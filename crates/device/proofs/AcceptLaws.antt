@@ -27,7 +27,8 @@ use Rattle.device.specs.Refusals.{short, leastLength, nextOf, tooSmall, 
 use Rattle.device.specs.Step.{acceptProgram, acceptBlock, acceptUpdate, stageAfter, accept, outcome, refusalOf, step}
 use Rattle.device.specs.Answers.{answerOf}
 use Rattle.device.proofs.ConditionLaws.{before-is, room, slice-rest, slice-block}
-use Rattle.device.proofs.JudgeLaws.{Pass, pass, cascade, Awaits, awaits}
+use Rattle.device.proofs.RefusalLaws.{NoneApplies}
+use Rattle.device.proofs.JudgeLaws.{pass, cascade, Awaits, awaits}
 
 module _ (d : Device) (flash m : List ℕ) where
   -- where block i of a download is accepted
@@ -47,22 +48,22 @@ module _ (d : Device) (flash m : List ℕ) where
     NoneOf k = Accepted ≡ answerOf (firstThatApplies (refusals H valid k d flash m))
 
     pub program-due : NoneOf kinds.Program → 49 ≤ length m
-    unfolding refusals always short leastLength Pass
+    unfolding refusals always short leastLength NoneApplies
     program-due e = ltb-false (length m) 49 (pass (cascade _ e) .1 .1 .0)
 
     pub block-due : {i : ℕ} → NoneOf kinds.Block → i ≡ nextOf (d .stage) → BlockDue i
-    unfolding refusals always ofKind ofBlock Pass
+    unfolding refusals always ofKind ofBlock NoneApplies
     block-due {i} e is =
         let u = pass (cascade (refusals H valid kinds.Block d flash m) e) in
         let t = u .1 .1 .1 in
         record { awaited = awaits d (u .0) (t .0) is; area = t .1 .0; long = rw is (t .1 .1 .1 .0) }
 
     pub update-long : NoneOf kinds.Update → 51 ≤ length m
-    unfolding refusals always short leastLength Pass
+    unfolding refusals always short leastLength NoneApplies
     update-long e = ltb-false (length m) 51 (pass (cascade _ e) .1 .1 .0)
 
     pub update-due : {s : Manifest} {i : ℕ} → NoneOf kinds.Update → s ≡ manifestIn m → i ≡ updateNumber m → UpdateDue s i
-    unfolding refusals always ofKind ofUpdate Pass
+    unfolding refusals always ofKind ofUpdate NoneApplies
     update-due {s} {i} e es ei =
         let t = pass (cascade (refusals H valid kinds.Update d flash m) e) .1 .1 .1 .1 .1 .1 .1 .1 .1 in
         let n = inside _ _ (t .1 .0) in

@@ -24,6 +24,7 @@ use Rattle.device.specs.declared.state.Answer.the-variants.{Accepted, Re
 use Rattle.device.specs.Device.{countOf}
 use Rattle.device.specs.Refusals.{wrongVersion, badSize, senseless, short, noKind, leastLength, notLoading, notComplete, nextOf, tooSmall, notNext, wrongLength, unlike, withBlock, updated, mismatch, lacksRoot, unsigned, always, ofProgram, ofBlock, ofUpdate, ofKind, refusals}
 use Rattle.device.specs.Answers.{answerOf, ofManifest}
+use Rattle.device.proofs.RefusalLaws.{NoneApplies}
 
 -- One test after the other: the answer is the first refusal whose test is true.
 pub data Cascade : List (Refusal × Bool) → Answer → Type 0 where
@@ -56,12 +57,8 @@ behind passed g = g
 behind (later e f) g = later e (behind f g)
 
 -- Accepted: no test is true.
-unfoldable pub Pass : List (Refusal × Bool) → Type 0
-Pass [] = Unit {0}
-Pass (x ∷ es) = (x .1 ≡ false) × Pass es
-
-pub pass : {es : List (Refusal × Bool)} → Cascade es Accepted → Pass es
-unfolding Pass
+pub pass : {es : List (Refusal × Bool)} → Cascade es Accepted → NoneApplies es
+unfolding NoneApplies
 pass passed = tt
 pass (later e f) = (e, pass f)
 
@@ -108,7 +105,7 @@ module _ (H : List ℕ → List ℕ) (valid : (key message signature : List ℕ)
 
 -- A manifest that passed its tests has an allowed size.
 pub size-passed : (d : Device) (s : Manifest) {a : Answer} → a ≡ answerOf (firstThatApplies (ofManifest d s)) → a ≡ Accepted → badSize s ≡ false
-unfolding ofManifest Pass
+unfolding ofManifest NoneApplies
 size-passed d s e q = pass (cascade (ofManifest d s) (sym q ∙ e)) .1 .0
 
 -- A device that makes sense and is loading, at block i.

@@ -119,8 +119,7 @@ module _ (H : List ℕ → List ℕ) (valid : (key message signature : List ℕ)
       (refusal.Version, wrongVersion s)
       ∷ (refusal.Size, badSize s)
       ∷ (refusal.Model, otherModel d s)
-      ∷ (refusal.Serial, notNewer d s)
-      ∷ (refusal.Area, tooSmall s flash)
+      ∷ (refusal.Serial, notNewer d s) ∷ (refusal.Area, tooSmall s flash)
       ∷ (refusal.Unsigned, unsigned d (manifestBytes m) (programSignature m))
       ∷ []
 
