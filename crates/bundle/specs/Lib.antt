@@ -1,4 +1,5 @@
 pub mod Text
 pub mod Parts
 pub mod Load
+pub mod Bundle
 pub mod Steps
