@@ -31,3 +31,7 @@ pub record Ran (p : Printed) (out : List ℕ) (at : ℕ) (out' : List ℕ) (next
   pub written : Written out at out' next (p .text)
   pub device : d ≡ p .device
   pub flash : f ≡ p .flash
+
+-- r bytes at the start of the buffer. The second part follows from the first; with it the proof that Rattle makes of `&out[..r]` needs no help.
+abbrev pub Counts : ℕ → List ℕ → Type 0
+Counts r out = (r ≤ length out) × (r ≡ length (take r out))

@@ -10,6 +10,7 @@ ghost use mathlib.Core.Path.{_≡_};
 ghost use lib.ListN.{length, take};
 ghost use Prim.Native.Nat.{_≤_};
 ghost use Rattle.bundle.specs.Load as spec;
+ghost use Rattle.bundle.specs.Steps.{Counts};
 
 // A bundle has at most so many bytes, and so has the flash that the program lends.
 pub const BUNDLE_LEN: usize = 65536;
@@ -29,7 +30,8 @@ fn key_of(key: &[u8]) -> [u8; 56]
 // Loads the bundle into the flash, puts the output at the start of `out` and answers its length. Does nothing and answers 0 where `out` has not
 // OUT_LEN bytes. `key` is the content of key.bin, `bundle` that of bundle.bin or, of a longer one, more than BUNDLE_LEN bytes of it.
 pub fn load(key: &[u8], bundle: &[u8], flash: &mut [u8], out: &mut [u8]) -> usize
-    ensures { λ r. ⌜ spec.load (now (key .entry)) (now (bundle .entry)) (now (flash .entry)) (now (out .entry)) ≡ record { written = r; flash = now (flash .exit); out = now (out .exit) } ⌝ }
+    ensures { λ r. ⌜ (spec.load (now (key .entry)) (now (bundle .entry)) (now (flash .entry)) (now (out .entry)) ≡ record { written = r; flash = now (flash .exit); out = now (out .exit) })
+        × Counts r (now (out .exit)) ⌝ }
 {
     if out.len() < OUT_LEN {
         return 0;

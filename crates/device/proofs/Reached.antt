@@ -32,13 +32,13 @@ module _ (H : List ℕ → List ℕ) (hash-long : (x : List ℕ) → length (H x
   abbrev m : List ℕ
   m = programFor H job signature
 
-  is-program : OfProgram (manifestFor H job) (root-long H hash-long job ok) signature m
+  pub is-program : OfProgram (manifestFor H job) (root-long H hash-long job ok) signature m
   unfolding programFor
   is-program = of-program (manifestFor H job) (root-long H hash-long job ok) signature
 
-  no-refusal : refusalOf H valid d flash m ≡ none
+  pub program-accepted : refusalOf H valid d flash m ≡ none
   unfolding refusalOf refusals always ofKind ofProgram senseless noKind short leastLength wrongVersion badSize otherModel notNewer serialOf tooSmall unsigned countOf count manifestFor NoneApplies
-  no-refusal =
+  program-accepted =
       let p = is-program in
       let e : manifestIn m ≡ manifestFor H job = manifest-is H hash-long job ok m (p .manifest) in
       subst (λ k. firstThatApplies (refusals H valid k d flash m) ≡ none) (sym (p .is))
@@ -56,7 +56,7 @@ module _ (H : List ℕ → List ℕ) (hash-long : (x : List ℕ) → length (H x
 
   is-begun : Begun H valid (step H valid) d flash job empty m
   unfolding after answerOf
-  is-begun = record { sendable = ok; program = is-program .is; carries = is-program .manifest; taken = answered H valid d flash empty m ∙ ap answerOf no-refusal }
+  is-begun = record { sendable = ok; program = is-program .is; carries = is-program .manifest; taken = answered H valid d flash empty m ∙ ap answerOf program-accepted }
 
   is-honest : (j : ℕ) → j ≤ count job → Honest H valid (step H valid) d flash job empty m j (thenBlocks H job (empty ▷ m) j)
   unfolding thenBlocks

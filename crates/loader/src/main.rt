@@ -15,16 +15,6 @@ fn read_file(path: &[u8], buffer: &mut [u8]) -> usize
     n
 }
 
-// n, or the buffer's length where that is less.
-fn within(n: usize, buffer: &[u8]) -> usize
-    ensures { λ r. ⌜ Counts r (now (buffer .entry)) ⌝ }
-{
-    if n < buffer.len() {
-        return n;
-    }
-    buffer.len()
-}
-
 fn main() {
     // One byte more than a file may have shows that it is too long.
     let mut key = [0u8; 61];
@@ -34,6 +24,5 @@ fn main() {
     let key_len = read_file(b"key.bin", &mut key);
     let bundle_len = read_file(b"bundle.bin", &mut bundle);
     let n = bundle::load(&key[..key_len], &bundle[..bundle_len], &mut flash, &mut out);
-    let text_len = within(n, &out);
-    io::write_all(STDOUT_FILENO, &out[..text_len]);
+    io::write_all(STDOUT_FILENO, &out[..n]);
 }

@@ -1,0 +1,214 @@
+-- The bundle that the showroom makes for an image loads to complete.
+use mathlib.Core.Path.{_≡_, refl, sym, ap, ap₂, _∙_, subst}
+use mathlib.Core.Bool.{Bool, true, false}
+use mathlib.Core.List.{List, [], _++_, append-assoc, append-nil}
+use mathlib.Core.Option.{none}
+use Prim.Native.Nat.{ℕ, zero, suc, _+_, _-_, _*_, _≤_, _<_}
+use native.Mathlib.Nat.{zero-add, mod-eq-of-lt}
+use native.Mathlib.Omega.{arith}
+use lib.ListN.{length, take, drop, length-append, length-replicate}
+use lib.Seq.{take-at, drop-at}
+use borrow.Author.Tests.{le-ltb}
+use Rattle.octets.specs.Octets.{bytes, number, part}
+use Rattle.octets.proofs.NumberLaws.{length-bytes, number-bytes}
+use Rattle.octets.proofs.CopyLaws.{part-second}
+use Rattle.sha256.specs.Sha256.{digest}
+use Rattle.sha256.proofs.DigestLaws.{length-digest}
+use Rattle.merkle.specs.Limits.{heldBytes}
+use Rattle.merkle.specs.Frontier.{messageLength}
+use Rattle.lms.specs.Lms.{valid}
+use Rattle.wire.specs.declared.manifest.Manifest.{Manifest}
+use Rattle.wire.specs.declared.kind.Kind.the-variants.{Program, Block}
+use Rattle.wire.specs.Manifest.{written}
+use Rattle.wire.specs.Message.{kind}
+use Rattle.wire.proofs.MessageLaws.{OfProgram}
+use Rattle.sender.specs.Job.{Job, count, manifestFor, programFor, blockFor}
+use Rattle.device.specs.declared.state.Device.{Device}
+use Rattle.device.specs.declared.state.Answer.the-variants.{Accepted}
+use Rattle.device.specs.Device.{countOf, Fresh, freshWith, Situation, Outcome}
+use Rattle.device.specs.Step.{accept, outcome, refusalOf, step}
+use Rattle.device.specs.Readers.{numberOf, acceptedBlocks}
+use Rattle.device.specs.Demand3.{Sendable}
+use Rattle.device.proofs.RefusalLaws.{program-passed}
+use Rattle.device.proofs.SentLaws.{root-long, block-sent}
+use Rattle.device.proofs.HonestLaws.{Here, next-accepted, next-here, first-here, is-complete, flash-is}
+use Rattle.device.proofs.Reached.{is-program, program-accepted}
+use Rattle.bundle.specs.Text.{bundle‿, slip‿, block‿, stateComplete‿, line, messageLine, stateWords, stateLine}
+use Rattle.bundle.specs.Parts.{trailerAt, distance, nowhere, slipAt, slipIn, beforeSlip}
+use Rattle.bundle.specs.Load.{Printed, _before_, stop, ifAccepted, blocksFrom, blocks, messages, withState, deviceFor, loaded}
+use Rattle.bundle.specs.Bundle.{blockMessages, bundleFor, acceptedFrom, Whole}
+use Rattle.bundle.proofs.LoadLaws.{all-printed}
+
+-- what an accepted message does
+accepted-step : (d : Device) (f m : List ℕ) → refusalOf digest valid d f m ≡ none
+    → step digest valid d f m ≡ (let s = accept (kind m) d f m in record { answer = Accepted; device = s .device; flash = s .flash })
+unfolding step outcome
+accepted-step d f m e = rw (e, step, outcome)
+
+module _ (job : Job) where
+  -- the messages after the first j
+  messagesAfter : ℕ → ℕ → List ℕ
+  messagesAfter j zero = []
+  messagesAfter j (suc left) = blockFor digest job (suc j) ++ messagesAfter (suc j) left
+
+  messages-after : (left j : ℕ) → blockMessages digest job (j + left) ≡ blockMessages digest job j ++ messagesAfter j left
+  unfolding blockMessages messagesAfter
+  messages-after zero j = let e : j + 0 ≡ j = omega arith in ap (blockMessages digest job) e ∙ sym (append-nil (blockMessages digest job j))
+  messages-after (suc left) j =
+      let e : j + suc left ≡ suc j + left = omega arith in
+      ap (blockMessages digest job) e ∙ messages-after left (suc j) ∙ append-assoc (blockMessages digest job j) (blockFor digest job (suc j)) (messagesAfter (suc j) left)
+
+module _ (job : Job) (ok : Sendable job) (old : List ℕ) where
+  abbrev Loading : ℕ → Situation → Type 0
+  Loading j s = Here digest length-digest valid job ok old j s
+
+  -- the loader's loop over the messages after the first j
+  record Runs (left j : ℕ) (p : Printed) : Type 0 where
+    text : p .text ≡ acceptedFrom left (suc j)
+    here : Loading (count job) (record { device = p .device; flash = p .flash })
+
+  one : (left j : ℕ) (s : Situation) (rest : List ℕ) → j < count job → Loading j s
+      → (let t = accept Block (s .device) (s .flash) (blockFor digest job (suc j)) in
+      blocksFrom (job .block) (count job) (suc left) (suc j) (s .device) (s .flash) (blockFor digest job (suc j) ++ rest)
+      ≡ messageLine block‿ (suc j) 0 before blocksFrom (job .block) (count job) left (suc (suc j)) (t .device) (t .flash) rest)
+  unfolding blocksFrom ifAccepted
+  one left j s rest h w =
+      let m : List ℕ = blockFor digest job (suc j) in
+      let b = block-sent digest length-digest job ok j h in
+      let due : ℕ = messageLength (job .block) (count job) (suc j) in
+      let first : take due (m ++ rest) ≡ m = take-at m rest due (b .size) in
+      let behind : drop due (m ++ rest) ≡ rest = drop-at m rest due (b .size) in
+      let o : step digest valid (s .device) (s .flash) m ≡ (let t = accept Block (s .device) (s .flash) m in record { answer = Accepted; device = t .device; flash = t .flash }) =
+      accepted-step (s .device) (s .flash) m (next-accepted digest length-digest valid job ok old j s w h)
+      ∙ ap (λ k. let t = accept k (s .device) (s .flash) m in record { answer = Accepted; device = t .device; flash = t .flash }) (b .is) in
+      rw (first, behind, o) refl
+
+  runs : (left j : ℕ) (s : Situation) (filler : List ℕ) → j + left ≡ count job → Loading j s
+      → Runs left j (blocksFrom (job .block) (count job) left (suc j) (s .device) (s .flash) (messagesAfter job j left ++ filler))
+  unfolding blocksFrom acceptedFrom _before_ messagesAfter
+  runs zero j s filler e w = let z : j ≡ count job = omega arith in record { text = refl; here = subst (λ k. Loading k s) z w }
+  runs (suc left) j s filler e w =
+      let h : j < count job = omega arith in
+      let m : List ℕ = blockFor digest job (suc j) in
+      let t : Situation = accept Block (s .device) (s .flash) m in
+      let r = runs left (suc j) t filler (omega arith) (next-here digest length-digest valid job ok old j s w h) in
+      let same = ap (blocksFrom (job .block) (count job) (suc left) (suc j) (s .device) (s .flash)) (append-assoc m (messagesAfter job (suc j) left) filler)
+      ∙ one left j s (messagesAfter job (suc j) left ++ filler) h w in
+      subst (Runs (suc left) j) (sym same) (record { text = ap (λ x. messageLine block‿ (suc j) 0 ++ x) (r .text); here = r .here })
+
+-- where the loader finds the kind 1 message, and what stands before it
+module _ (front slip : List ℕ) where
+  abbrev bundle : List ℕ
+  bundle = front ++ slip ++ bytes 4 (length slip)
+
+  record Found : Type 0 where
+    somewhere : nowhere bundle ≡ false
+    slip-is : slipIn bundle ≡ slip
+    front-is : beforeSlip bundle ≡ front
+
+  found : length bundle ≤ 65536 → Found
+  unfolding nowhere trailerAt distance slipAt slipIn beforeSlip
+  found h =
+      let t : List ℕ = bytes 4 (length slip) in
+      let four : length t ≡ 4 = length-bytes 4 (length slip) in
+      let both = length-append front slip in
+      let all : length bundle ≡ length (front ++ slip) + length t = length-append (front ++ slip) t in
+      let at : length (front ++ slip) ≡ length bundle - 4 = omega arith in
+      let trailer : part (length bundle - 4) 4 bundle ≡ t = part-second (front ++ slip) t (length bundle - 4) 4 at four in
+      let far : distance bundle ≡ length slip = ap number trailer ∙ number-bytes 4 (length slip) ∙ mod-eq-of-lt (omega arith) in
+      let start : slipAt bundle ≡ length front = omega arith in
+      let split : bundle ≡ front ++ (slip ++ t) = append-assoc front slip t in
+      record {
+        somewhere = rw (le-ltb (length bundle) 4 (omega arith), le-ltb (length bundle - 4) (distance bundle) (omega arith)) refl;
+        slip-is = ap₂ (λ i k. take k (drop i bundle)) start far ∙ ap (λ b. take (length slip) (drop (length front) b)) split
+            ∙ ap (take (length slip)) (drop-at front (slip ++ t) (length front) refl) ∙ take-at slip t (length slip) refl;
+        front-is = ap (λ i. take i bundle) start ∙ ap (take (length front)) split ∙ take-at front (slip ++ t) (length front) refl;
+      }
+
+module _ (key flash : List ℕ) (job : Job) (ok : Sendable job) (filler signature : List ℕ) (key-long : length key ≡ 60) (model : job .model ≡ number (part 56 4 key)) (serial : 0 < job .serial)
+    (room : count job * job .block ≤ length flash) (signed : valid (take 56 key) (written (manifestFor digest job)) signature ≡ true)
+    (fits : length (bundleFor digest job filler signature) ≤ 65536) where
+  abbrev d : Device
+  d = deviceFor key
+
+  abbrev slip : List ℕ
+  slip = programFor digest job signature
+
+  abbrev front : List ℕ
+  front = blockMessages digest job (count job) ++ filler
+
+  -- the slip, accepted
+  abbrev begun : Situation
+  begun = accept Program d flash slip
+
+  fresh : Fresh d
+  unfolding deviceFor freshWith
+  fresh = record { idle = refl; array = length-replicate {A = ℕ} heldBytes 0 }
+
+  model-is : job .model ≡ d .model
+  unfolding deviceFor freshWith
+  model-is = model
+
+  signed-is : valid (d .key) (written (manifestFor digest job)) signature ≡ true
+  unfolding deviceFor freshWith
+  signed-is = signed
+
+  none-applies : refusalOf digest valid d flash slip ≡ none
+  none-applies = program-accepted digest length-digest valid d fresh flash job ok signature model-is serial room signed-is
+
+  is-slip : OfProgram (manifestFor digest job) (root-long digest length-digest job ok) signature slip
+  is-slip = is-program digest length-digest valid d fresh flash job ok signature model-is serial room signed-is
+
+  here : Here digest length-digest valid job ok flash 0 begun
+  here = first-here digest length-digest valid job ok d flash slip (is-slip .manifest) (program-passed digest valid d flash slip (is-slip .is) none-applies)
+
+  ran : Runs job ok flash (count job) 0 (blocks (begun .device) (begun .flash) front)
+  unfolding blocks
+  ran = subst (Runs job ok flash (count job) 0) (sym (of-manifest ∙ of-messages)) (runs job ok flash (count job) 0 begun filler (zero-add (count job)) here)
+    where
+      from : (L n : ℕ) → List ℕ → Printed
+      from L n b = blocksFrom L n n 1 (begun .device) (begun .flash) (b ++ filler)
+
+      of-manifest : blocks (begun .device) (begun .flash) front ≡ from (job .block) (count job) (blockMessages digest job (count job))
+      of-manifest = unfold countOf manifestFor count in ap (λ (s : Manifest). from (s .block) (countOf s) (blockMessages digest job (count job))) (here .manifest)
+
+      of-messages : from (job .block) (count job) (blockMessages digest job (count job)) ≡ from (job .block) (count job) (messagesAfter job 0 (count job))
+      of-messages = unfold blockMessages in
+          ap (from (job .block) (count job)) (ap (blockMessages digest job) (sym (zero-add (count job))) ∙ messages-after job (count job) 0)
+
+  taken : messages d flash (bundle front slip) ≡ messageLine slip‿ 0 0 before blocks (begun .device) (begun .flash) front
+  unfolding messages ifAccepted
+  taken =
+      let f = found front slip (unfold bundleFor in fits) in
+      let o : step digest valid d flash slip ≡ record { answer = Accepted; device = begun .device; flash = begun .flash } =
+      accepted-step d flash slip none-applies ∙ ap (λ k. let t = accept k d flash slip in record { answer = Accepted; device = t .device; flash = t .flash }) (is-slip .is) in
+      rw (f .somewhere, f .slip-is, f .front-is, o, messages) refl
+
+  state-is : (p : Printed) → Runs job ok flash (count job) 0 p → stateLine (p .device) ≡ line stateComplete‿ (count job)
+  unfolding stateLine stateWords acceptedBlocks
+  state-is p r =
+      let s : Situation = record { device = p .device; flash = p .flash } in
+      let c = is-complete digest length-digest valid job ok flash (count job) s (r .here) refl in
+      rw (c, r .here .manifest) (unfold countOf manifestFor count in refl)
+
+  -- The bundle made of the sender's messages for a job, with any filler, whose signature is valid under the key, loads to complete, where it and the image fit.
+  pub loads-whole : Whole job (bundleFor digest job filler signature) flash (loaded key (bundleFor digest job filler signature) flash)
+  unfolding bundleFor _before_ withState
+  loads-whole =
+      let b : List ℕ = bundle front slip in
+      let p : Printed = blocks (begun .device) (begun .flash) front in
+      let s : Situation = record { device = p .device; flash = p .flash } in
+      let first : List ℕ = line bundle‿ (length b) in
+      let second : List ℕ = messageLine slip‿ 0 0 in
+      let is : loaded key b flash ≡ first before withState (second before p) = all-printed key b flash key-long fits ∙ ap (λ (q : Printed). first before withState q) taken in
+      let text : first ++ (second ++ p .text ++ stateLine (p .device)) ≡ first ++ second ++ acceptedFrom (count job) 1 ++ line stateComplete‿ (count job) =
+      ap₂ (λ x y. first ++ (second ++ x ++ y)) (ran .text) (state-is p ran)
+      ∙ sym (append-assoc first (second ++ acceptedFrom (count job) 1) (line stateComplete‿ (count job)))
+      ∙ ap (λ x. x ++ line stateComplete‿ (count job)) (sym (append-assoc first second (acceptedFrom (count job) 1))) in
+      subst (Whole job b flash) (sym is)
+      (record {
+        text = text;
+        stage = is-complete digest length-digest valid job ok flash (count job) s (ran .here) refl;
+        manifest = ran .here .manifest;
+        image = flash-is digest length-digest valid job ok flash (count job) s (ran .here) refl;
+      })
