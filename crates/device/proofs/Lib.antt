@@ -1,5 +1,7 @@
 pub mod FreshLaws
 pub mod RefusalLaws
+pub mod SerialLaws
+pub mod OrderLaws
 pub mod FlashLaws
 pub mod InvariantLaws
 pub mod RunLaws

@@ -18,7 +18,7 @@ use Rattle.wire.specs.Message.{kind, manifestBytes, manifestIn, programSignatur
 use Rattle.wire.proofs.SizeLaws.{Sized, sized, inside}
 use Rattle.device.specs.declared.state.Device.{Device}
 use Rattle.device.specs.Device.{countOf}
-use Rattle.device.specs.Refusals.{badSize, noKind, short, leastLength, tooSmall, notLoading, notComplete, nextOf, wrongLength, updated, treeOver, mismatch, lacksRoot, unsigned, always, ofProgram, ofBlock, ofUpdate, ofKind, refusals}
+use Rattle.device.specs.Refusals.{badSize, notNewer, noKind, short, leastLength, tooSmall, notLoading, notComplete, nextOf, wrongLength, updated, treeOver, mismatch, lacksRoot, unsigned, always, ofProgram, ofBlock, ofUpdate, ofKind, refusals}
 use Rattle.device.specs.Step.{refusalOf}
 
 -- No test of a list of refusals applies.
@@ -49,6 +49,7 @@ module _ (H : List ℕ → List ℕ) (valid : (key message signature : List ℕ)
   pub record ProgramPassed : Type 0 where
     pub long : 49 ≤ length m
     pub size : Sized (manifestIn m .block) (manifestIn m .image)
+    pub newer : notNewer d (manifestIn m) ≡ false
     pub room : countOf (manifestIn m) * manifestIn m .block ≤ length flash
     pub signed : valid (d .key) (manifestBytes m) (programSignature m) ≡ true
 
@@ -60,6 +61,7 @@ module _ (H : List ℕ → List ℕ) (valid : (key message signature : List ℕ)
   pub record UpdatePassed : Type 0 where
     pub complete : notComplete (d .stage) ≡ false
     pub size : Sized (manifestIn m .block) (manifestIn m .image)
+    pub newer : notNewer d (manifestIn m) ≡ false
     pub room : countOf (manifestIn m) * manifestIn m .block ≤ length flash
     pub turn : (0 < updateNumber m) × (updateNumber m ≤ countOf (manifestIn m))
     pub long : 51 + manifestIn m .block ≤ length m
@@ -77,6 +79,7 @@ module _ (H : List ℕ → List ℕ) (valid : (key message signature : List ℕ)
       record {
         long = ltb-false (length m) 49 (t .0);
         size = sized _ _ (t .1 .1 .0);
+        newer = t .1 .1 .1 .1 .0;
         room = ltb-false _ _ (t .1 .1 .1 .1 .1 .0);
         signed = not-false _ (t .1 .1 .1 .1 .1 .1 .0);
       }
@@ -95,6 +98,7 @@ module _ (H : List ℕ → List ℕ) (valid : (key message signature : List ℕ)
       record {
         complete = t .0;
         size = sized _ _ (t .1 .1 .0);
+        newer = t .1 .1 .1 .1 .0;
         room = ltb-false _ _ (u .0);
         turn = inside _ _ (u .1 .0);
         long = ltb-false _ _ (u .1 .1 .0);

@@ -5,4 +5,3 @@ pub mod Hash
 pub mod Frontier
 pub mod Path
 pub mod Held
-pub mod Cases

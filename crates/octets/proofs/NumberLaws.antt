@@ -2,7 +2,7 @@
 use mathlib.Core.Path.{_≡_, refl, sym, ap, ap₂, _∙_}
 use mathlib.Core.List.{List, [], _∷_, _++_}
 use Prim.Native.Nat.{ℕ, zero, suc, _+_, _*_, _/_, _%_, _^_, _≤_, _<_}
-use native.Mathlib.Nat.{pow-suc, one-le-pow, mul-assoc}
+use native.Mathlib.Nat.{pow-suc, one-le-pow, mul-assoc, mod-lt}
 use native.Mathlib.Omega.{arith}
 use lib.Arith.{mod-mul, digits-div, digits-mod}
 use lib.Dec.{lit<}
@@ -88,8 +88,17 @@ bytes-number s h =
     ap (λ (t : List ℕ). bytes (length s) (number t)) (sym (take-length s)) ∙ bytes-front s h (length s) (omega arith) ∙ take-length s
 
 -- so is each part of it
-pub bytes-part : (s : List ℕ) → Bytes s → (i k : ℕ) → i + k ≤ length s → bytes k (number (part i k s)) ≡ part i k s
-bytes-part s h i k l =
+pub part-bytes : (s : List ℕ) → Bytes s → (i k : ℕ) → i + k ≤ length s → Bytes (part i k s)
+part-bytes s h i k l j g =
     let n = length-part s i k l in
-    ap (λ (j : ℕ). bytes j (number (part i k s))) (sym n)
-    ∙ bytes-number (part i k s) (λ j g. let j′ : j < k = omega arith in rw (getD-take k (drop i s) j 0 j′, getD-drop i s j 0) (h (i + j) (omega arith)))
+    let j′ : j < k = omega arith in
+    rw (getD-take k (drop i s) j 0 j′, getD-drop i s j 0) (h (i + j) (omega arith))
+
+pub bytes-part : (s : List ℕ) → Bytes s → (i k : ℕ) → i + k ≤ length s → bytes k (number (part i k s)) ≡ part i k s
+bytes-part s h i k l = ap (λ (j : ℕ). bytes j (number (part i k s))) (sym (length-part s i k l)) ∙ bytes-number (part i k s) (part-bytes s h i k l)
+
+-- the number of a string of bytes is below 256 to the power of its length
+pub number-below : (s : List ℕ) → Bytes s → number s < 256 ^ length s
+number-below s h =
+    let e : number s ≡ number s % 256 ^ length s = ap number (sym (bytes-number s h)) ∙ number-bytes (length s) (number s) in
+    rw e (mod-lt (number s) (one-le-pow (length s) 256 (lit< tt)))

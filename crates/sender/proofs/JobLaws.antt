@@ -19,7 +19,7 @@ use Rattle.wire.specs.Message.{programMessage, blockMessage, updateMessage}
 use Rattle.wire.proofs.SizeLaws.{Sized}
 use Rattle.wire.proofs.ManifestLaws.{length-written}
 use Rattle.wire.proofs.ImageLaws as image
-use Rattle.sender.specs.Job.{Job, count, blocks, rootOf, manifestFor, programFor, blockFor, updateFor}
+use Rattle.sender.specs.Job.{Job, job, count, blocks, rootOf, manifestFor, programFor, blockFor, updateFor}
 
 module _ (j : Job) where
   pub length-root : length (rootOf digest j) ≡ 32
@@ -68,3 +68,8 @@ pub update-is : (j : Job) (i : ℕ) (manifest block signature : List ℕ) → ma
     → 3 ∷ (manifest ++ bytes 2 i ++ block ++ signature) ≡ updateFor digest j i signature
 unfolding updateFor updateMessage blocks
 update-is j i manifest block signature e f = let p : pred i ≡ i - 1 = omega arith in rw p (cc)
+
+-- A block message has neither model nor serial in it: it is the same for every job with this image and block length.
+pub any-job : (H : List ℕ → List ℕ) (image : List ℕ) (len model serial i : ℕ) → blockFor H (job image len 0 0) i ≡ blockFor H (job image len model serial) i
+unfolding blockFor blocks count
+any-job H image len model serial i = refl

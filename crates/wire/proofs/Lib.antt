@@ -2,3 +2,4 @@ pub mod ImageLaws
 pub mod ManifestLaws
 pub mod MessageLaws
 pub mod SizeLaws
+pub mod Cases

@@ -4,12 +4,13 @@ use mathlib.Core.Path.{_≡_, refl}
 use mathlib.Core.Bool.{true, false}
 use mathlib.Core.List.{List, [], _∷_, _++_}
 use Prim.Native.Nat.{ℕ, zero, suc}
-use lib.Dec.{leb}
-use Rattle.merkle.specs.Limits.{maxBlocks}
 use Rattle.merkle.specs.Blocks.{blockCount}
 use Rattle.merkle.specs.Shape.{size, leastFrom, depth, split, build, shape}
 use Rattle.merkle.specs.Hash.{hash}
 use Rattle.merkle.specs.Frontier.{largest, rightSiblings, siblings, carried, messageLength, frontier, held}
+use Rattle.wire.specs.declared.refusal.Refusal.the-variants.{Size}
+use Rattle.wire.specs.Refusal.{number}
+use Rattle.wire.specs.Size.{allowedLength, wrongSize}
 
 -- f at first, first + 1, .. : as many values as asked for
 unfoldable pub values : ℕ → ℕ → (ℕ → ℕ) → List ℕ
@@ -26,12 +27,13 @@ pub starred :
     × (values 4 0 (held 3) ≡ 1 ∷ 2 ∷ 1 ∷ 0 ∷ [])
     × (blockCount 256 256 ≡ 1)
     × (blockCount 256 257 ≡ 2)
-    × (leb (blockCount 256 1048576) maxBlocks ≡ true)
-    × (leb (blockCount 256 1048577) maxBlocks ≡ false)
+    × (wrongSize 256 1048576 ≡ false)
+    × (wrongSize 256 1048577 ≡ true)
+    × (number Size ≡ 5)
     × (messageLength 256 8 1 ≡ 355)
     × (messageLength 256 8 2 ≡ 259)
-unfolding values size leastFrom depth split build shape largest rightSiblings siblings carried messageLength frontier held blockCount
-starred = (refl, refl, refl, refl, refl, refl, refl, refl, refl, refl, refl, refl, refl)
+unfolding values size leastFrom depth split build shape largest rightSiblings siblings carried messageLength frontier held blockCount allowedLength wrongSize
+starred = (refl, refl, refl, refl, refl, refl, refl, refl, refl, refl, refl, refl, refl, refl)
 
 -- "For n = 3 this is source document 000's figure 2": blocks 1 and 2 under one node, block 3 beside it.
 pub three : (H : List ℕ → List ℕ) (f : ℕ → List ℕ) → hash H [] [] f 0 (shape 3) ≡ H (H (H (f 0) ++ H (f 1)) ++ H (f 2))
