@@ -5,3 +5,4 @@ pub mod RunLaws
 pub mod MessageLaws
 pub mod LoadLaws
 pub mod WholeLaws
+pub mod Sample

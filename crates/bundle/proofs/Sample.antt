@@ -1,0 +1,22 @@
+-- The example of document 01: "Given a bundle.bin of four zero bytes and any key.bin of 60 bytes, the whole output is".
+use mathlib.Core.Path.{_≡_, ap}
+use mathlib.Core.List.{List, [], _∷_, _++_}
+use Prim.Native.Nat.{ℕ}
+use native.Mathlib.Omega.{arith}
+use lib.ListN.{length}
+use Rattle.octets.specs.Octets.{number}
+use Rattle.wire.specs.Refusal.{firstThatApplies}
+use Rattle.wire.specs.Message.{kind}
+use Rattle.device.specs.Device.{freshWith}
+use Rattle.device.specs.Refusals.{senseless, noKind, always, refusals}
+use Rattle.device.specs.Step.{outcome, refusalOf, step}
+use Rattle.device.specs.Readers.{acceptedBlocks}
+use Rattle.bundle.specs.Text.{bundle‿, slip‿, stateIdle‿, decimalWithin, decimal, line, messageLine, stateWords, stateLine}
+use Rattle.bundle.specs.Parts.{trailerAt, distance, nowhere, slipAt, slipIn, beforeSlip}
+use Rattle.bundle.specs.Load.{Printed, _before_, ifAccepted, messages, withState, deviceFor, loaded}
+use Rattle.bundle.proofs.LoadLaws.{all-printed}
+
+pub sample : (key flash : List ℕ) → length key ≡ 60
+    → loaded key (0 ∷ 0 ∷ 0 ∷ 0 ∷ []) flash .text ≡ line bundle‿ 4 ++ messageLine slip‿ 0 2 ++ line stateIdle‿ 0
+unfolding number firstThatApplies kind freshWith senseless noKind always refusals outcome refusalOf step acceptedBlocks decimalWithin decimal line messageLine stateWords stateLine trailerAt distance nowhere slipAt slipIn beforeSlip _before_ ifAccepted messages withState deviceFor
+sample key flash e = ap (λ (p : Printed). p .text) (all-printed key (0 ∷ 0 ∷ 0 ∷ 0 ∷ []) flash e (omega arith))
