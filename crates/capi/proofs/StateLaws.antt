@@ -3,7 +3,7 @@ use mathlib.Core.Path.{_≡_, refl, sym, ap, _∙_}
 use mathlib.Core.List.{List, [], _++_}
 use mathlib.Core.Option.{Option, none, some}
 use Prim.Native.Nat.{ℕ, _+_, _^_, _≤_, _<_}
-use native.Mathlib.Nat.{mod-eq-of-lt, zero-add}
+use native.Mathlib.Nat.{zero-add}
 use native.Mathlib.Omega.{arith}
 use lib.ListN.{length, take, replicate, length-append}
 use lib.Seq.{paste, take-length}
@@ -11,7 +11,7 @@ use borrow.Author.Tests.{ne-eqb}
 use Rattle.octets.specs.Octets.{bytes, number, part}
 use Rattle.octets.proofs.CopyLaws.{part-part, part-second}
 use Rattle.octets.proofs.BufferLaws.{Begun, begun, more, whole, less}
-use Rattle.octets.proofs.NumberLaws.{length-bytes, number-bytes}
+use Rattle.octets.proofs.NumberLaws.{length-bytes, number-back}
 use Rattle.wire.specs.Manifest.{written, read}
 use Rattle.wire.proofs.ManifestLaws as manifest
 use Rattle.device.specs.declared.state.Stage.{Stage}
@@ -111,10 +111,6 @@ small Idle = omega arith
 small (Loading i) = omega arith
 small Complete = omega arith
 
--- a number of k bytes, read back
-back : (k x : ℕ) {b : List ℕ} → b ≡ bytes k x → x < 256 ^ k → number b ≡ x
-back k x e l = ap number e ∙ number-bytes k x ∙ mod-eq-of-lt l
-
 module _ (d : Device) (f : Fits d) where
   pub length-encode : length (encode d) ≡ stateLength
   unfolding encode
@@ -133,7 +129,7 @@ module _ (d : Device) (f : Fits d) where
 
   stage-encode : stageIn (encode d) ≡ some (d .stage)
   stage-encode =
-      right-length (encode d) length-encode (sym (back 2 (stageNumber (d .stage)) (fields .2) (small (d .stage)))) (sym (back 2 (nextOf (d .stage)) (fields .3) (f .next)))
+      right-length (encode d) length-encode (sym (number-back 2 (stageNumber (d .stage)) (fields .2) (small (d .stage)))) (sym (number-back 2 (nextOf (d .stage)) (fields .3) (f .next)))
       ∙ stage-back (d .stage)
 
   device-encode : deviceIn (encode d) (d .stage) ≡ d
@@ -142,7 +138,7 @@ module _ (d : Device) (f : Fits d) where
       let p = fields in
       λ i.
       record {
-        model = back 4 (d .model) (p .0) (f .model) i;
+        model = number-back 4 (d .model) (p .0) (f .model) i;
         key = p .1 i;
         stage = d .stage;
         manifest = (ap read (p .4) ∙ manifest.read-written (d .manifest) (f .manifest)) i;

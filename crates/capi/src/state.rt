@@ -3,7 +3,6 @@ use device::Device;
 use device::Stage;
 ghost use mathlib.Core.Path.{_≡_};
 ghost use lib.ListN.{length};
-ghost use Rattle.device.specs.Refusals.{nextOf};
 ghost use Rattle.capi.specs.State.{encode, deviceIn, stageIn, stageNumber, stateLength};
 ghost use Rattle.capi.specs.Found.{found};
 
@@ -19,23 +18,13 @@ pub fn stage_number(stage: Stage) -> u16
     }
 }
 
-pub fn next_number(stage: Stage) -> u16
-    ensures { λ r. ⌜ r ≡ nextOf stage ⌝ }
-{
-    match stage {
-        Stage::Idle => 0,
-        Stage::Loading(next) => next,
-        Stage::Complete => 0,
-    }
-}
-
 pub fn to_bytes(device: Device) -> [u8; STATE_LEN]
     ensures { λ r. ⌜ r ≡ encode device ⌝ }
 {
     let t = device.stage;
     let model = octets::be32(device.model);
     let stage = octets::be16(stage_number(t));
-    let next = octets::be16(next_number(t));
+    let next = octets::be16(device::next_of(t));
     let manifest = wire::to_bytes(device.manifest);
     let key = device.key;
     let hashes = device.hashes;

@@ -1,4 +1,4 @@
-// When each refusal is given, in the order of their numbers: a test for each.
+// When each refusal is given: a test for each, but for 2, 3 and the 12 of kind 3, which stand in `judge`.
 use crate::state::Device;
 use crate::state::Stage;
 use wire::Manifest;
@@ -34,7 +34,7 @@ pub fn senseless(device: Device) -> bool
             if broken(manifest) {
                 return true;
             }
-            outside(count(manifest), next)
+            wire::outside(count(manifest), next as usize)
         }
         Stage::Complete => broken(manifest),
     }
@@ -137,16 +137,6 @@ pub fn next_of(stage: Stage) -> u16
         Stage::Loading(next) => next,
         Stage::Complete => 0,
     }
-}
-
-// 11, kind 3; and part of 1.
-pub fn outside(n: usize, number: u16) -> bool
-    ensures { λ r. ⌜ r ≡ size.outside n number ⌝ }
-{
-    if number == 0 {
-        return true;
-    }
-    n < number as usize
 }
 
 // 11, kind 2.

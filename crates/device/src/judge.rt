@@ -9,7 +9,6 @@ use crate::conditions::not_loading;
 use crate::conditions::not_newer;
 use crate::conditions::not_next;
 use crate::conditions::other_model;
-use crate::conditions::outside;
 use crate::conditions::senseless;
 use crate::conditions::too_small;
 use crate::conditions::unlike;
@@ -149,7 +148,7 @@ fn judge_update(device: Device, flash: &[u8], message: &[u8]) -> Answer
         return Answer::Refused(Refusal::Area);
     }
     let number = octets::u16_at(message, 49);
-    if outside(count(manifest), number) {
+    if wire::outside(count(manifest), number as usize) {
         return Answer::Refused(Refusal::Turn);
     }
     let end = 51 + manifest.block as usize;

@@ -5,6 +5,7 @@ mod judge;
 mod readers;
 mod state;
 
+pub use conditions::next_of;
 pub use readers::accepted_blocks;
 pub use readers::answer_number;
 pub use state::Answer;

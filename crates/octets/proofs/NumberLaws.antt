@@ -2,7 +2,7 @@
 use mathlib.Core.Path.{_≡_, refl, sym, ap, ap₂, _∙_}
 use mathlib.Core.List.{List, [], _∷_, _++_}
 use Prim.Native.Nat.{ℕ, zero, suc, _+_, _*_, _/_, _%_, _^_, _≤_, _<_}
-use native.Mathlib.Nat.{pow-suc, one-le-pow, mul-assoc, mod-lt}
+use native.Mathlib.Nat.{pow-suc, one-le-pow, mul-assoc, mod-lt, mod-eq-of-lt}
 use native.Mathlib.Omega.{arith}
 use lib.Arith.{mod-mul, digits-div, digits-mod}
 use lib.Dec.{lit<}
@@ -47,6 +47,10 @@ unfolding bytes number
 number-bytes zero x = omega arith
 number-bytes (suc k) x =
     number-snoc (bytes k (x / 256)) (x % 256) ∙ ap (λ (y : ℕ). y * 256 + x % 256) (number-bytes k (x / 256)) ∙ sym (digit k x)
+
+-- a number of k bytes, read back
+pub number-back : (k x : ℕ) {b : List ℕ} → b ≡ bytes k x → x < 256 ^ k → number b ≡ x
+number-back k x e l = ap number e ∙ number-bytes k x ∙ mod-eq-of-lt l
 
 -- one byte more of a string
 part-suc : (s : List ℕ) (i k : ℕ) → i < length s → part i (suc k) s ≡ getD s i 0 ∷ part (suc i) k s

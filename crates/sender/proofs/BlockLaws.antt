@@ -1,25 +1,31 @@
 -- The blocks that the sender takes from the image and its filled last block.
 use mathlib.Core.Path.{_≡_, refl, sym, ap, ap₂, subst, _∙_}
 use mathlib.Core.Logic.{_⊎_, inl, inr}
-use mathlib.Core.Bool.{false}
+use mathlib.Core.Bool.{Bool, false}
 use mathlib.Core.List.{List, [], _++_, append-assoc}
 use Prim.Native.Nat.{ℕ, suc, _+_, _-_, _*_, _≤_, _<_}
 use native.Mathlib.Nat.{mul-le-mul-right, zero-add}
 use native.Mathlib.Omega.{arith}
+use native.Mathlib.Numerals.{add-one}
 use lib.ListN.{length, take, drop, replicate, length-append, length-drop, length-replicate, replicate-append-replicate}
 use lib.Seq.{paste, take-length, take-all, take-at, drop-at}
 use Rattle.octets.proofs.CopyLaws.{part-between}
+use Rattle.sha256.specs.Sha256.{digest}
 use Rattle.merkle.specs.Blocks.{blockCount, cut, overlay}
 use Rattle.merkle.specs.Shape.{shape}
 use Rattle.merkle.specs.Hash.{hash}
+use Rattle.merkle.specs.Frontier.{carried, messageLength}
 use Rattle.merkle.specs.Held.{joined, sent}
 use Rattle.merkle.proofs.ShapeLaws.{lt-or-le, size-shape}
+use Rattle.merkle.proofs.CountLaws.{room}
 use Rattle.merkle.proofs.HashLaws.{Same, hash-same, siblings-same}
 use Rattle.merkle.proofs.BlockLaws.{overlay-same, overlay-other}
-use Rattle.wire.specs.Size.{wrongSize}
+use Rattle.wire.specs.Size.{wrongSize, outside}
 use Rattle.wire.specs.Image.{filled, imageBlocks}
-use Rattle.wire.proofs.SizeLaws.{Sized, sized}
+use Rattle.wire.proofs.SizeLaws.{Sized, sized, inside}
 use Rattle.wire.proofs.ImageLaws.{block-early, block-last}
+use Rattle.sender.specs.Job.{job, count, blockFor}
+use Rattle.sender.proofs.JobLaws.{length-block}
 
 module _ (L : ℕ) (image : List ℕ) (n : ℕ) (z : Sized L (length image)) (c : n ≡ blockCount L (length image)) where
   -- n blocks hold the image, n - 1 do not
@@ -79,3 +85,35 @@ module _ (L : ℕ) (image : List ℕ) (n : ℕ) (z : Sized L (length image)) (c 
     pub same-sent : (i : ℕ) → sent H [] [] n (overlay (cut L image) (n - 1) b) i ≡ sent H [] [] n (imageBlocks L image) i
     unfolding sent
     same-sent i = ap joined (siblings-same H [] [] 0 (shape n) i (same-blocks b e))
+
+-- What the tests of size and number leave: n blocks, and a number among them.
+module _ (image : List ℕ) (len number n : ℕ) where
+  pub record Tested : Type 0 where
+    pub size : wrongSize len (length image) ≡ false
+    pub sized : Sized len (length image)
+    pub count : n ≡ blockCount len (length image)
+    pub inside : outside n number ≡ false
+    pub low : 0 < number
+    pub high : number ≤ n
+    pub few : n ≤ 4096
+
+  pub tested : {w o : Bool} → w ≡ wrongSize len (length image) → w ≡ false → n ≡ blockCount len (length image) → o ≡ outside n number → o ≡ false → Tested
+  tested ew w e eo o =
+      let size = sym ew ∙ w in
+      let z = sized len (length image) size in
+      let i = inside n number (sym eo ∙ o) in
+      record { size = size; sized = z; count = e; inside = sym eo ∙ o; low = i .0; high = i .1; few = rw e (z .count) }
+
+  -- the message's length, from the count of hashes that it carries
+  module _ (t : Tested) (carries : ℕ) (e : carries ≡ carried n (number - 1 + 1)) where
+    number-back : number - 1 + 1 ≡ number
+    number-back = omega (arith, t .low)
+
+    pub carries-few : carries ≤ 13
+    carries-few = omega (arith, e, ap (carried n) (add-one (number - 1)), room n (number - 1) (omega (arith, t .low, t .high)) (t .few) .enough)
+
+    pub due : (model serial : ℕ) → length (blockFor digest (job image len model serial) number) ≡ 3 + len + 32 * carries
+    unfolding count messageLength
+    due model serial =
+        length-block (job image len model serial) (t .sized) number (t .low) (omega (arith, t .high, t .count))
+        ∙ ap (λ (x : ℕ). 3 + len + 32 * x) (ap₂ carried (sym (t .count)) (sym number-back) ∙ sym e)

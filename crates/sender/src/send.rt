@@ -8,6 +8,7 @@ use crate::put::put_update;
 use octets::copy;
 use wire::Refusal;
 use wire::block_count;
+use wire::outside;
 use wire::to_bytes;
 use wire::wrong_size;
 ghost use mathlib.Core.Path.{_≡_};
@@ -70,10 +71,7 @@ pub fn block(image: &[u8], len: u32, number: u32, out: &mut [u8]) -> Sent
     }
     let n = block_count(block, image.len());
     let i = number as usize;
-    if i == 0 {
-        return Sent::Refused(Refusal::Turn);
-    }
-    if n < i {
+    if outside(n, i) {
         return Sent::Refused(Refusal::Turn);
     }
     let counts = merkle::count(n, i - 1);
@@ -118,10 +116,7 @@ pub fn update(
     }
     let n = block_count(block, image.len());
     let i = number as usize;
-    if i == 0 {
-        return Sent::Refused(Refusal::Turn);
-    }
-    if n < i {
+    if outside(n, i) {
         return Sent::Refused(Refusal::Turn);
     }
     let least = 51 + block;

@@ -2,14 +2,13 @@
 use mathlib.Core.Path.{_≡_, refl, sym, ap, ap₂, _∙_}
 use mathlib.Core.List.{List, [], _++_, append-nil}
 use Prim.Native.Nat.{ℕ, _+_, _^_, _≤_, _<_}
-use native.Mathlib.Nat.{mod-eq-of-lt}
 use native.Mathlib.Omega.{arith}
 use lib.ListN.{length, take, drop, replicate, length-append}
 use lib.Seq.{paste, take-add, take-all}
 use Rattle.octets.specs.Octets.{bytes, number, part}
 use Rattle.octets.proofs.CopyLaws.{part-first, part-second}
 use Rattle.octets.proofs.BufferLaws.{begun, more, whole}
-use Rattle.octets.proofs.NumberLaws.{Bytes, length-bytes, number-bytes, bytes-part}
+use Rattle.octets.proofs.NumberLaws.{Bytes, length-bytes, number-back, bytes-part}
 use Rattle.wire.specs.declared.manifest.Manifest.{Manifest}
 use Rattle.wire.specs.Manifest.{written, read}
 
@@ -94,21 +93,17 @@ module _ (s : Manifest) (root : length (s .root) ≡ 32) where
   pub length-written : length (written s) ≡ 48
   length-written = places .6
 
--- a number of k bytes, read back
-back : (k x : ℕ) {b : List ℕ} → b ≡ bytes k x → x < 256 ^ k → number b ≡ x
-back k x e l = ap number e ∙ number-bytes k x ∙ mod-eq-of-lt l
-
 pub read-written : (s : Manifest) → Fits s → read (written s) ≡ s
 unfolding read
 read-written s f =
     let p = places s (f .root) in
     λ i.
     record {
-      version = back 2 (s .version) (p .0) (f .version) i;
-      block = back 2 (s .block) (p .1) (f .block) i;
-      model = back 4 (s .model) (p .2) (f .model) i;
-      serial = back 4 (s .serial) (p .3) (f .serial) i;
-      image = back 4 (s .image) (p .4) (f .image) i;
+      version = number-back 2 (s .version) (p .0) (f .version) i;
+      block = number-back 2 (s .block) (p .1) (f .block) i;
+      model = number-back 4 (s .model) (p .2) (f .model) i;
+      serial = number-back 4 (s .serial) (p .3) (f .serial) i;
+      image = number-back 4 (s .image) (p .4) (f .image) i;
       root = p .5 i;
     }
 

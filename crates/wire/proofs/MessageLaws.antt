@@ -3,13 +3,12 @@ use mathlib.Core.Path.{_≡_, refl, sym, ap, _∙_}
 use mathlib.Core.Bool.{cond}
 use mathlib.Core.List.{List, [], _∷_, _++_, append-assoc}
 use Prim.Native.Nat.{ℕ, suc, _+_, _^_, _<_}
-use native.Mathlib.Nat.{mod-eq-of-lt}
 use native.Mathlib.Omega.{arith}
 use lib.Dec.{eqb}
 use lib.ListN.{length, take, drop, getD, length-append}
 use lib.Seq.{take-at, drop-at}
 use Rattle.octets.specs.Octets.{bytes, number}
-use Rattle.octets.proofs.NumberLaws.{length-bytes, number-bytes}
+use Rattle.octets.proofs.NumberLaws.{length-bytes, number-back}
 use Rattle.wire.specs.declared.kind.Kind.{Kind}
 use Rattle.wire.specs.declared.kind.Kind.the-variants.{Program, Block, Update, Unknown}
 use Rattle.wire.specs.declared.manifest.Manifest.{Manifest}
@@ -26,10 +25,6 @@ pub kind-first : (m : List ℕ) → (length m ≡ 0 → ⊥) → kind m ≡ cond
 unfolding kind
 kind-first [] n = absurd (n refl)
 kind-first (x ∷ m) n = refl
-
--- a number of two bytes, read back
-two : (i : ℕ) {b : List ℕ} → b ≡ bytes 2 i → i < 256 ^ 2 → number b ≡ i
-two i e l = ap number e ∙ number-bytes 2 i ∙ mod-eq-of-lt l
 
 module _ (s : Manifest) (root : length (s .root) ≡ 32) (signature : List ℕ) where
   pub record OfProgram (m : List ℕ) : Type 0 where
@@ -73,7 +68,7 @@ module _ (s : Manifest) (root : length (s .root) ≡ 32) (signature : List ℕ) 
           is = refl;
           manifest = ap (take 48) apart ∙ take-at (written s) (bytes 2 i ++ (block ++ signature)) 48 l;
           number =
-              two i
+              number-back 2 i
               (ap (λ (x : List ℕ). take 2 (drop 48 x)) apart ∙ ap (take 2) (drop-at (written s) (bytes 2 i ++ (block ++ signature)) 48 l)
               ∙ take-at (bytes 2 i) (block ++ signature) 2 n) few;
           blocks = ap (take (length block)) behind ∙ take-at block signature (length block) refl;
@@ -98,7 +93,7 @@ module _ (i : ℕ) (few : i < 256 ^ 2) (block hashes : List ℕ) where
       let end : 3 + length block ≡ suc (2 + length block) = omega arith in
       record {
         is = refl;
-        number = two i (ap (take 2) apart ∙ take-at (bytes 2 i) (block ++ hashes) 2 n) few;
+        number = number-back 2 i (ap (take 2) apart ∙ take-at (bytes 2 i) (block ++ hashes) 2 n) few;
         blocks = ap (λ (x : List ℕ). take (length block) (drop 2 x)) apart ∙ ap (take (length block)) (drop-at (bytes 2 i) (block ++ hashes) 2 n) ∙ take-at block hashes (length block) refl;
         after = rw end (drop-at (bytes 2 i ++ block) hashes (2 + length block) most);
         size = ap suc (length-append (bytes 2 i ++ block) hashes) ∙ omega arith;

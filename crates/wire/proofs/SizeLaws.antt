@@ -128,16 +128,7 @@ module _ (L T : ℕ) where
   unfolding wrongSize
   wrong-count n z a e = rw (sym a, ne-eqb T 0 z, e)
 
--- refusal 11
-module _ (n i : ℕ) where
-  pub outside-zero : i ≡ 0 → outside n i ≡ true
-  unfolding outside
-  outside-zero e = rw (eq-eqb i 0 e)
-
-  pub outside-above : (i ≡ 0 → ⊥) → n < i → outside n i ≡ true
-  unfolding outside
-  outside-above z h = rw (ne-eqb i 0 z, lt-ltb n i h)
-
-  pub outside-not : (i ≡ 0 → ⊥) → i ≤ n → outside n i ≡ false
-  unfolding outside
-  outside-not z h = rw (ne-eqb i 0 z, le-ltb n i h)
+-- refusal 11 does not apply
+pub outside-not : (n i : ℕ) → (i ≡ 0 → ⊥) → i ≤ n → outside n i ≡ false
+unfolding outside
+outside-not n i z h = rw (ne-eqb i 0 z, le-ltb n i h)

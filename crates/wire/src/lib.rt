@@ -13,4 +13,5 @@ pub use manifest::to_bytes;
 pub use refusal::Refusal;
 pub use refusal::number;
 pub use sizes::block_count;
+pub use sizes::outside;
 pub use sizes::wrong_size;

@@ -1,4 +1,4 @@
-// Which block lengths and image lengths are allowed.
+// Which block lengths, image lengths and block numbers are allowed.
 ghost use mathlib.Core.Path.{_≡_};
 ghost use Prim.Native.Nat.{_<_};
 ghost use Rattle.merkle.specs.Blocks.{blockCount};
@@ -33,4 +33,14 @@ pub fn wrong_size(block: usize, image: usize) -> bool
         return merkle::MAX_BLOCKS < block_count(block, image);
     }
     true
+}
+
+// Refusal 11 for kind 3 and for the sender: the number is outside 1..n.
+pub fn outside(n: usize, number: usize) -> bool
+    ensures { λ r. ⌜ r ≡ spec.outside n number ⌝ }
+{
+    if number == 0 {
+        return true;
+    }
+    n < number
 }

@@ -24,8 +24,8 @@ stage-number-requires c κs = search needs
 be16-requires : tie.Need-be16-requires
 be16-requires c κs = search needs
 
-next-number-requires : tie.Need-next-number-requires
-next-number-requires c κs = search needs
+next-of-requires : tie.Need-next-of-requires
+next-of-requires c κs = search needs
 
 be16-requires-2 : tie.Need-be16-requires-2
 be16-requires-2 c κs = search needs
@@ -105,9 +105,9 @@ returns c =
     let lw : length (w .to-bytes .result) ≡ 48 = omega (arith, w .to-bytes .ok) in
     copied (m .be32 .result) (d .key) (s .be16 .result) (n .be162 .result) (w .to-bytes .result) (d .hashes)
     (ap length (m .be32 .ensures) ∙ length-bytes 4 (d .model)) (key-length a)
-    (ap length (s .be16 .ensures) ∙ length-bytes 2 (s .before .stage-number .result)) (ap length (n .be162 .ensures) ∙ length-bytes 2 (n .before .next-number .result)) lw (hashes-length a)
+    (ap length (s .be16 .ensures) ∙ length-bytes 2 (s .before .stage-number .result)) (ap length (n .be162 .ensures) ∙ length-bytes 2 (n .before .next-of .result)) lw (hashes-length a)
     (c1 .copy .ensures) (c2 .copy2 .ensures) (c3 .copy3 .ensures) (c4 .copy4 .ensures) (c5 .copy5 .ensures) (c6 .copy6 .ensures)
-    ∙ cc (m .be32 .ensures, s .be16 .ensures, s .before .stage-number .ensures, n .be162 .ensures, n .before .next-number .ensures, w .to-bytes .ensures)
+    ∙ cc (m .be32 .ensures, s .be16 .ensures, s .before .stage-number .ensures, n .be162 .ensures, n .before .next-of .ensures, w .to-bytes .ensures)
 
 pub to-bytes-spec : {M : Type 1} → statement M
 to-bytes-spec =
@@ -116,7 +116,7 @@ to-bytes-spec =
     be32-requires
     stage-number-requires
     be16-requires
-    next-number-requires
+    next-of-requires
     be16-requires-2
     to-bytes-requires
     slice-aggregate-copy

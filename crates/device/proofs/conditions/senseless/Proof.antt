@@ -21,6 +21,9 @@ returns c = rw (c .before .before .before .stage .given .1, sym (c .before .brok
 count-requires : tie.Need-count-requires
 count-requires c κs = or-false (wrongVersion (c .before .before .before .before .before .before .args .device .manifest)) _ (sym (c .before .broken .ensures) ∙ c .if1 .left) .1
 
+cast-outside : tie.Need-cast-outside
+cast-outside c = search needs
+
 outside-requires : tie.Need-outside-requires
 outside-requires c κs = search needs
 
@@ -53,6 +56,7 @@ senseless-spec =
     broken-requires
     returns
     count-requires
+    cast-outside
     outside-requires
     enum-told-2
     broken-requires-2

@@ -92,6 +92,9 @@ count-requires c κs =
     let t = c .before .before .before .before .before .before in
     size-passed _ _ (t .before .before .judge-manifest .ensures) (t .enum-told .given .1)
 
+cast-outside : tie.Need-cast-outside
+cast-outside c = search needs
+
 outside-requires : tie.Need-outside-requires
 outside-requires c κs = search needs
 
@@ -191,6 +194,7 @@ judge-update-spec =
     returns-4
     u16-at-requires
     count-requires
+    cast-outside
     outside-requires
     returns-5
     cast-end

@@ -1,7 +1,7 @@
 use borrow.Author.Tests.{eq-eqb, ne-eqb}
 use Rattle.wire.specs.Size.{outside}
-use Rattle.device.proofs.conditions.outside.Statement.{statement}
-use Rattle.device.proofs.conditions.outside.Tie as tie
+use Rattle.wire.proofs.sizes.outside.Statement.{statement}
+use Rattle.wire.proofs.sizes.outside.Tie as tie
 
 returns : tie.Need-returns
 unfolding outside
