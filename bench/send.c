@@ -1,9 +1,7 @@
 /* The sender: the time of all block messages of an image, as a multiple of the time of its manifest, which takes each block's digest once. */
+#include "accepted.h"
 #include "input.h"
-#include "lertxuno.h"
 #include "turns.h"
-#include <stdio.h>
-#include <stdlib.h>
 
 enum { ROUNDS = 30, MODEL = 7, SERIAL = 1 };
 
@@ -14,24 +12,17 @@ typedef struct {
     uint32_t block_length, n;
 } size;
 
-static void expect(uint32_t answer) {
-    if (answer) {
-        printf("refused: %u\n", (unsigned)answer);
-        exit(1);
-    }
-}
-
 static void send_manifest(const void *with) {
     const size *s = with;
     size_t written;
-    expect(lertxuno_manifest(image, s->length, s->block_length, MODEL, SERIAL, out, sizeof out, &written));
+    accepted(lertxuno_manifest(image, s->length, s->block_length, MODEL, SERIAL, out, sizeof out, &written));
 }
 
 static void send_blocks(const void *with) {
     const size *s = with;
     size_t written;
     for (uint32_t i = 1; i <= s->n; i++)
-        expect(lertxuno_block(image, s->length, s->block_length, i, out, sizeof out, &written));
+        accepted(lertxuno_block(image, s->length, s->block_length, i, out, sizeof out, &written));
 }
 
 static void measure(uint32_t block_length, size_t length) {
