@@ -1,8 +1,9 @@
 /* SHA-256: the proved digest beside a plain one in C and libcrypto's, on the same input, in one run. Prints a table: the time of the proved digest, and
    how many times as fast it is as each of the others (above 1: the proved one is faster).
    libcrypto reads OPENSSL_ia32cap once, as it starts, so each of its rows is measured by a process of its own that this one starts. */
-#include "clock.h"
+#include "input.h"
 #include "plain.h"
+#include "turns.h"
 #include <openssl/sha.h>
 #include <stdio.h>
 #include <stdlib.h>
@@ -38,6 +39,11 @@ enum { CASES = sizeof cases / sizeof cases[0], ROUNDS = 25 };
 
 static uint8_t input[1 << 20];
 
+typedef struct {
+    const kind *kind;
+    int c;
+} job;
+
 static void run(const kind *k, int c, uint8_t out[32]) {
     if (cases[c].piece)
         k->pieces(input, cases[c].length, cases[c].piece, out);
@@ -45,24 +51,16 @@ static void run(const kind *k, int c, uint8_t out[32]) {
         k->digest(input, cases[c].length, out);
 }
 
-static double one(const kind *k, int c) {
+static void run_job(const void *with) {
+    const job *j = with;
     uint8_t out[32];
-    double start = now();
-    for (int i = 0; i < cases[c].calls; i++)
-        run(k, c, out);
-    return (now() - start) / cases[c].calls;
+    run(j->kind, j->c, out);
 }
 
-/* The best of many rounds, the two taking turns. */
 static void both(const kind *a, const kind *b, int c, double best[2]) {
-    best[0] = best[1] = 1e9;
-    for (int r = 0; r < ROUNDS; r++) {
-        double x = one(a, c), y = one(b, c);
-        if (x < best[0])
-            best[0] = x;
-        if (y < best[1])
-            best[1] = y;
-    }
+    const job x = {a, c}, y = {b, c};
+    const side first = {run_job, &x, cases[c].calls}, second = {run_job, &y, cases[c].calls};
+    turns(ROUNDS, &first, &second, best);
 }
 
 static void compare(const char *name, const kind *k) {
@@ -93,8 +91,7 @@ static void other(const char *self, const char *name, const char *caps) {
 }
 
 int main(int count, char **words) {
-    for (size_t i = 0; i < sizeof input; i++)
-        input[i] = (uint8_t)(i * 2654435761u >> 13);
+    fill(input, sizeof input);
     if (count == 2) {
         compare(words[1], &crypto);
         return 0;

@@ -1,9 +1,8 @@
-// What the programs under bench/ measure, for C to call.
+// What bench/digest.c measures, for C to call.
 ghost use mathlib.Core.Path.{_≡_};
 ghost use Prim.Native.Nat.{_≤_, _<_};
 ghost use lib.ListN.{length};
 ghost use Rattle.sha256.specs.Sha256.{digest};
-ghost use Rattle.lms.specs.Lms.{valid};
 
 #[no_mangle]
 pub extern "C" fn bench_digest(message: &[u8], out: &mut [u8; 32])
@@ -42,31 +41,5 @@ fn end_of(message: &[u8], from: usize, piece: usize) -> usize
         from + piece
     } else {
         message.len()
-    }
-}
-
-#[no_mangle]
-pub extern "C" fn bench_verify(key: &[u8], message: &[u8], signature: &[u8]) -> bool
-    ensures { λ r. ⌜ r ≡ valid (now (key .entry)) (now (message .entry)) (now (signature .entry)) ⌝ }
-{
-    lms::verify(key, message, signature)
-}
-
-// The bytes of block message `number`, written to out; 0 where it is refused.
-#[no_mangle]
-pub extern "C" fn bench_block(image: &[u8], len: u32, number: u32, out: &mut [u8]) -> usize {
-    written(sender::block(image, len, number, out))
-}
-
-// The same for the manifest.
-#[no_mangle]
-pub extern "C" fn bench_manifest(image: &[u8], len: u32, out: &mut [u8]) -> usize {
-    written(sender::manifest(image, len, 7, 1, out))
-}
-
-fn written(sent: sender::Sent) -> usize {
-    match sent {
-        sender::Sent::Written(n) => n,
-        sender::Sent::Refused(_) => 0,
     }
 }

@@ -1,0 +1,64 @@
+#include "messages.h"
+#include "accepted.h"
+#include "input.h"
+
+/* In the middle: the old block and the new one differ in a byte. */
+static uint32_t updated(const messages *m) { return m->n / 2 + 1; }
+
+static void toggle(messages *m) { m->image[(updated(m) - 1) * m->block_length] ^= 1; }
+
+static uint8_t *end(messages *m) { return m->room + m->used; }
+
+static size_t left(const messages *m) { return sizeof m->room - m->used; }
+
+static message keep(messages *m, uint32_t answer, size_t length) {
+    accepted(answer);
+    message made = {end(m), length};
+    m->used += length;
+    return made;
+}
+
+static void make_program(messages *m) {
+    size_t length;
+    uint32_t answer = lertxuno_program(m->image, m->length, m->block_length, MODEL, OLD_SERIAL, m->key.signatures[0], KEY_SIGNATURE_LENGTH,
+                                       end(m), left(m), &length);
+    m->program = keep(m, answer, length);
+}
+
+static void make_block(messages *m, uint32_t number) {
+    size_t length;
+    uint32_t answer = lertxuno_block(m->image, m->length, m->block_length, number, end(m), left(m), &length);
+    m->blocks[number - 1] = keep(m, answer, length);
+}
+
+static void make_update(messages *m) {
+    size_t length;
+    toggle(m);
+    uint32_t answer = lertxuno_update(m->image, m->length, m->block_length, MODEL, NEW_SERIAL, updated(m), m->key.signatures[1], KEY_SIGNATURE_LENGTH,
+                                      end(m), left(m), &length);
+    toggle(m);
+    m->update = keep(m, answer, length);
+}
+
+static void make_key(messages *m) {
+    uint8_t manifests[2][LERTXUNO_MANIFEST_LENGTH];
+    size_t written;
+    for (uint32_t i = 0; i < 2; i++) {
+        accepted(lertxuno_manifest(m->image, m->length, m->block_length, MODEL, OLD_SERIAL + i, manifests[i], sizeof manifests[i], &written));
+        toggle(m);
+    }
+    key_for(manifests, &m->key);
+}
+
+void make_messages(size_t length, uint32_t block_length, messages *m) {
+    fill(m->image, length);
+    m->length = length;
+    m->block_length = block_length;
+    m->n = (uint32_t)((length + block_length - 1) / block_length);
+    m->used = 0;
+    make_key(m);
+    make_program(m);
+    for (uint32_t number = 1; number <= m->n; number++)
+        make_block(m, number);
+    make_update(m);
+}

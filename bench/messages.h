@@ -1,0 +1,26 @@
+/* The messages of a download, and of an update of one block after it: made by the sender's functions, signed under a key for measuring. */
+#ifndef MESSAGES_H
+#define MESSAGES_H
+#include "key.h"
+
+enum { MODEL = 7, OLD_SERIAL = 1, NEW_SERIAL = 2, MOST_BLOCKS = 4096, LONGEST_IMAGE = 1 << 20 };
+
+typedef struct {
+    const uint8_t *bytes;
+    size_t length;
+} message;
+
+typedef struct {
+    uint8_t image[LONGEST_IMAGE];
+    size_t length;
+    uint32_t block_length, n;
+    key_pair key;
+    message program, blocks[MOST_BLOCKS], update;
+    /* The bytes of all messages, one behind the other. */
+    uint8_t room[2 * LONGEST_IMAGE];
+    size_t used;
+} messages;
+
+/* For an image of so many bytes. */
+void make_messages(size_t length, uint32_t block_length, messages *m);
+#endif

@@ -1,0 +1,71 @@
+/* The stack that a call uses: it runs on a painted one, and what is not painted any more was used, less the same for an empty call. 4,096 blocks, where the
+   tree is deepest. A part that a function reserves below its deepest write is not seen. */
+#include "device.h"
+#include <string.h>
+#include <ucontext.h>
+
+enum { PAINT = 0xA5, BLOCK_LENGTH = 64 };
+
+static uint8_t stack[1 << 16];
+static messages made;
+static device_memory device;
+static uint8_t out[4096];
+static size_t written;
+
+static void nothing(void) {}
+
+static void take_program(void) { take(&device, &made.program); }
+
+static void take_all_blocks(void) { take_blocks(&device, &made); }
+
+static void take_update(void) { take(&device, &made.update); }
+
+static void send_manifest(void) {
+    accepted(lertxuno_manifest(made.image, made.length, BLOCK_LENGTH, MODEL, OLD_SERIAL, out, sizeof out, &written));
+}
+
+static void send_program(void) {
+    accepted(lertxuno_program(made.image, made.length, BLOCK_LENGTH, MODEL, OLD_SERIAL, made.key.signatures[0], KEY_SIGNATURE_LENGTH, out, sizeof out,
+                              &written));
+}
+
+static void send_all_blocks(void) {
+    for (uint32_t i = 1; i <= made.n; i++)
+        accepted(lertxuno_block(made.image, made.length, BLOCK_LENGTH, i, out, sizeof out, &written));
+}
+
+static void send_update(void) {
+    accepted(lertxuno_update(made.image, made.length, BLOCK_LENGTH, MODEL, NEW_SERIAL, made.n, made.key.signatures[1], KEY_SIGNATURE_LENGTH, out,
+                             sizeof out, &written));
+}
+
+static size_t used_by(void (*call)(void)) {
+    static ucontext_t here, there;
+    memset(stack, PAINT, sizeof stack);
+    getcontext(&there);
+    there.uc_stack.ss_sp = stack;
+    there.uc_stack.ss_size = sizeof stack;
+    there.uc_link = &here;
+    makecontext(&there, call, 0);
+    swapcontext(&here, &there);
+    size_t unused = 0;
+    while (unused < sizeof stack && stack[unused] == PAINT)
+        unused++;
+    return sizeof stack - unused;
+}
+
+static void measure(const char *name, void (*call)(void)) { printf("%-34s %8zu\n", name, used_by(call) - used_by(nothing)); }
+
+int main(void) {
+    make_messages((size_t)MOST_BLOCKS * BLOCK_LENGTH, BLOCK_LENGTH, &made);
+    lertxuno_fresh(MODEL, made.key.key, device.state);
+    printf("%-34s %8s\n", "stack", "bytes");
+    measure("device, program", take_program);
+    measure("device, all blocks", take_all_blocks);
+    measure("device, update", take_update);
+    measure("sender, manifest", send_manifest);
+    measure("sender, program", send_program);
+    measure("sender, all blocks", send_all_blocks);
+    measure("sender, update", send_update);
+    return 0;
+}
