@@ -1,127 +1,182 @@
-//! The drive, on the state's bytes as include/lertxuno.h lays them out.
-use crate::lms::valid;
-use crate::slip::{Slip, u16_at};
-use crate::tree::{cover, from_message, label, siblings};
+//! Document 01, the drive (here: the device): its state, and its refusals in the order of each
+//! kind.
 
-pub const STATE: usize = 496;
-const STAGE: usize = 60;
-const NEXT: usize = 62;
-const SLIP: usize = 64;
-const LABELS: usize = 112;
+use crate::lms::{number, verify};
+use crate::manifest::*;
+use crate::sha256::{Hash, sha256};
+use crate::tree::{cover, parent, root, siblings};
 
-pub const IDLE: u16 = 0;
-pub const LOADING: u16 = 1;
-pub const COMPLETE: u16 = 2;
-
-pub fn fresh(model: u32, key: &[u8]) -> Vec<u8> {
-    let mut state = [&model.to_be_bytes(), key].concat();
-    state.resize(STATE, 0);
-    state
+#[derive(Clone)]
+pub enum Stage {
+    Idle,
+    Loading {
+        manifest: Manifest,
+        next: usize,
+        /// In block order.
+        held: Vec<Hash>,
+    },
+    Complete {
+        manifest: Manifest,
+    },
 }
 
-pub fn stage(state: &[u8]) -> u16 {
-    u16_at(state, STAGE)
+pub struct Device {
+    pub model: u32,
+    pub key: Vec<u8>,
+    pub stage: Stage,
 }
 
-pub fn next(state: &[u8]) -> usize {
-    u16_at(state, NEXT) as usize
+/// What an accepted message does: the stage after it, and the block it writes.
+pub struct Effect {
+    pub stage: Stage,
+    pub write: Option<(usize, Vec<u8>)>,
 }
 
-pub fn slip(state: &[u8]) -> Slip {
-    Slip::read(&state[SLIP..SLIP + 48])
-}
-
-fn set_stage(state: &mut [u8], stage: u16, next: usize) {
-    state[STAGE..NEXT].copy_from_slice(&stage.to_be_bytes());
-    state[NEXT..SLIP].copy_from_slice(&(next as u16).to_be_bytes());
-}
-
-fn senseless(state: &[u8]) -> bool {
-    if state.len() != STATE || stage(state) > COMPLETE {
-        return true;
+impl Device {
+    pub fn manifest(&self) -> Option<&Manifest> {
+        match &self.stage {
+            Stage::Idle => None,
+            Stage::Loading { manifest, .. } | Stage::Complete { manifest } => Some(manifest),
+        }
     }
-    let slip = slip(state);
-    stage(state) != IDLE && (slip.version != 1 || slip.wrong_size() || (stage(state) == LOADING && !(1..=slip.n()).contains(&next(state))))
-}
 
-/// The refusal's number, or 0 and what accepting does.
-pub fn receive(state: &mut [u8], area: &mut [u8], message: &[u8]) -> u32 {
-    if senseless(state) {
-        return 1;
+    /// "The serial is kept once, in the slip, and counts as 0 when idle."
+    pub fn serial(&self) -> u32 {
+        self.manifest().map_or(0, |manifest| manifest.serial)
     }
-    let least = match message.first() {
-        Some(1) => 49,
-        Some(2) => 3,
-        Some(3) => 51,
-        _ => return 2,
-    };
-    if message.len() < least {
-        return 3;
+
+    /// Refusal 1. The bytes of the state are read in layout.rs, which leaves any manifest and any
+    /// next number to this.
+    fn check_state(&self) -> Outcome<()> {
+        if let Some(manifest) = self.manifest() {
+            let sound = manifest.check_version().and(manifest.check_size());
+            refuse_if(sound.is_err(), STATE)?;
+        }
+        match &self.stage {
+            Stage::Loading { manifest, next, .. } => {
+                refuse_if(*next < 1 || *next > manifest.blocks(), STATE)
+            }
+            _ => Ok(()),
+        }
     }
-    let done = match message[0] {
-        1 => program(state, area, message),
-        2 => block(state, area, message),
-        _ => update(state, area, message),
-    };
-    done.err().unwrap_or(0)
+
+    pub fn receive(&self, flash: &[u8], message: &[u8]) -> Outcome<Effect> {
+        self.check_state()?;
+        let least = match message.first() {
+            Some(1) => 49,
+            Some(2) => 3,
+            Some(3) => 51,
+            _ => return Err(KIND),
+        };
+        refuse_if(message.len() < least, SHORT)?;
+        match message[0] {
+            1 => self.program(flash, message),
+            2 => self.block(flash, message),
+            _ => self.update(flash, message),
+        }
+    }
+
+    /// Refusals 4, 5, 6, 7, which kinds 1 and 3 share.
+    fn check_manifest(&self, manifest: &Manifest) -> Outcome<()> {
+        manifest.check_version()?;
+        manifest.check_size()?;
+        refuse_if(manifest.model != self.model, MODEL)?;
+        refuse_if(manifest.serial <= self.serial(), SERIAL)
+    }
+
+    /// Kind 1: 4, 5, 6, 7, 8, 9.
+    fn program(&self, flash: &[u8], message: &[u8]) -> Outcome<Effect> {
+        let manifest = Manifest::read(&message[1..49]);
+        self.check_manifest(&manifest)?;
+        refuse_if(flash.len() < manifest.area_length(), AREA)?;
+        let signed = verify(&self.key, &message[1..49], &message[49..]);
+        refuse_if(!signed, UNSIGNED)?;
+        let held = vec![manifest.root];
+        Ok(Effect {
+            stage: Stage::Loading {
+                manifest,
+                next: 1,
+                held,
+            },
+            write: None,
+        })
+    }
+
+    /// Kind 2: 10, 8, 11, 12, 14.
+    fn block(&self, flash: &[u8], message: &[u8]) -> Outcome<Effect> {
+        let Stage::Loading {
+            manifest,
+            next,
+            held,
+        } = &self.stage
+        else {
+            return Err(STAGE);
+        };
+        let (n, length, i) = (
+            manifest.blocks(),
+            manifest.block_length as usize,
+            number(&message[1..3]) as usize,
+        );
+        refuse_if(flash.len() < manifest.area_length(), AREA)?;
+        refuse_if(i != *next, TURN)?;
+        let due = 3 + length + 32 * siblings(n, i).len();
+        refuse_if(message.len() != due, LENGTH)?;
+        let (block, labels) = message[3..].split_at(length);
+        let labels: Vec<Hash> = labels.chunks(32).map(|h| h.try_into().unwrap()).collect();
+        let computed = labels
+            .iter()
+            .fold(sha256(block), |hash, l| parent(&hash, l));
+        // The cover of blocks i to n begins with the largest subtree whose first block is i.
+        refuse_if(computed != held[0], MISMATCH)?;
+        let manifest = manifest.clone();
+        let stage = if i == n {
+            Stage::Complete { manifest }
+        } else {
+            Stage::Loading {
+                manifest,
+                next: i + 1,
+                held: [&labels, &held[1..]].concat(),
+            }
+        };
+        let write = Some(((i - 1) * length, block.to_vec()));
+        Ok(Effect { stage, write })
+    }
+
+    /// Kind 3: 10, 4, 5, 6, 7, 13, 8, 11, 12, 9, 14.
+    fn update(&self, flash: &[u8], message: &[u8]) -> Outcome<Effect> {
+        let Stage::Complete { manifest: old } = &self.stage else {
+            return Err(STAGE);
+        };
+        let manifest = Manifest::read(&message[1..49]);
+        self.check_manifest(&manifest)?;
+        let alike =
+            manifest.block_length == old.block_length && manifest.image_length == old.image_length;
+        refuse_if(!alike, UNLIKE)?;
+        refuse_if(flash.len() < manifest.area_length(), AREA)?;
+        let i = number(&message[49..51]) as usize;
+        refuse_if(i < 1 || i > manifest.blocks(), TURN)?;
+        let length = manifest.block_length as usize;
+        refuse_if(message.len() < 51 + length, LENGTH)?;
+        let (block, signature) = message[51..].split_at(length);
+        let signed = verify(&self.key, &message[1..49], signature);
+        refuse_if(!signed, UNSIGNED)?;
+        let start = (i - 1) * length;
+        let mut area = flash[..manifest.area_length()].to_vec();
+        area[start..start + length].copy_from_slice(block);
+        refuse_if(root(&area, length) != manifest.root, MISMATCH)?;
+        Ok(Effect {
+            stage: Stage::Complete { manifest },
+            write: Some((start, block.to_vec())),
+        })
+    }
 }
 
-fn refuse(test: bool, number: u32) -> Result<(), u32> {
-    if test { Err(number) } else { Ok(()) }
-}
-
-/// 4, 5, 6, 7.
-fn new_slip(state: &[u8], slip: &Slip) -> Result<(), u32> {
-    let serial = if stage(state) == IDLE { 0 } else { self::slip(state).serial };
-    refuse(slip.version != 1, 4)?;
-    refuse(slip.wrong_size(), 5)?;
-    refuse(slip.model.to_be_bytes() != state[..4], 6)?;
-    refuse(slip.serial <= serial, 7)
-}
-
-fn program(state: &mut [u8], area: &[u8], message: &[u8]) -> Result<(), u32> {
-    let slip = Slip::read(&message[1..49]);
-    new_slip(state, &slip)?;
-    refuse(area.len() < slip.n() * slip.l(), 8)?;
-    refuse(!valid(&state[4..60], &message[1..49], &message[49..]), 9)?;
-    set_stage(state, LOADING, 1);
-    state[SLIP..LABELS].copy_from_slice(&message[1..49]);
-    state[LABELS..].fill(0);
-    state[STATE - 32..].copy_from_slice(&slip.root);
-    Ok(())
-}
-
-fn block(state: &mut [u8], area: &mut [u8], message: &[u8]) -> Result<(), u32> {
-    refuse(stage(state) != LOADING, 10)?;
-    let slip = slip(state);
-    let (l, n, i) = (slip.l(), slip.n(), next(state));
-    refuse(area.len() < n * l, 8)?;
-    refuse(u16_at(message, 1) as usize != i, 11)?;
-    refuse(message.len() != 3 + l + 32 * siblings(n, i).len(), 12)?;
-    let (bytes, labels) = message[3..].split_at(l);
-    let held = STATE - 32 * cover(n, i - 1).len();
-    refuse(from_message(bytes, labels)[..] != state[held..held + 32], 14)?;
-    area[(i - 1) * l..i * l].copy_from_slice(bytes);
-    state[held + 32 - labels.len()..held + 32].copy_from_slice(labels);
-    if i == n { set_stage(state, COMPLETE, 0) } else { set_stage(state, LOADING, i + 1) }
-    Ok(())
-}
-
-fn update(state: &mut [u8], area: &mut [u8], message: &[u8]) -> Result<(), u32> {
-    refuse(stage(state) != COMPLETE, 10)?;
-    let (slip, old) = (Slip::read(&message[1..49]), slip(state));
-    new_slip(state, &slip)?;
-    refuse(slip.block != old.block || slip.image != old.image, 13)?;
-    let (l, n, i) = (slip.l(), slip.n(), u16_at(message, 49) as usize);
-    refuse(area.len() < n * l, 8)?;
-    refuse(!(1..=n).contains(&i), 11)?;
-    refuse(message.len() < 51 + l, 12)?;
-    refuse(!valid(&state[4..60], &message[1..49], &message[51 + l..]), 9)?;
-    let mut after = area[..n * l].to_vec();
-    after[(i - 1) * l..i * l].copy_from_slice(&message[51..51 + l]);
-    refuse(label(&after, l, (1, n))[..] != slip.root, 14)?;
-    area[..n * l].copy_from_slice(&after);
-    set_stage(state, COMPLETE, 0);
-    state[SLIP..LABELS].copy_from_slice(&message[1..49]);
-    Ok(())
+/// How many hashes are held: it follows from manifest and next number, which must be sound.
+pub fn held_count(manifest: &Manifest, next: usize) -> usize {
+    let sound = manifest.check_size().is_ok() && next >= 1 && next <= manifest.blocks();
+    if sound {
+        cover(manifest.blocks(), next).len()
+    } else {
+        0
+    }
 }

@@ -1,95 +1,189 @@
-//! Random calls through the static library, compared one by one with an implementation of the rules that shares no code with it.
+//! The C library and the loader against a model written from the papers alone: random lists of
+//! messages, sender calls, digests, verdicts and bundles.
 //!
-//!     model [CALLS [SEED]]       200,000 calls and a new seed if not given
+//! `model [CALLS [SEED]]`: CALLS messages to devices (200,000 if not given), and of the other calls
+//! a share of it.
+
+mod bundles;
+mod capi;
 mod compare;
+mod coverage;
+mod craft;
+mod damage;
 mod device;
-mod library;
-mod list;
+mod functions;
+mod layout;
+mod lists;
 mod lms;
-mod random;
+mod loader;
+mod manifest;
+mod plan;
+mod rfc8554;
+mod rng;
+mod selftest;
 mod sender;
 mod sha256;
-mod slip;
+mod signer;
 mod tree;
 
-use compare::Compare;
-use list::List;
-use lms::Signer;
-use random::Random;
+use std::collections::BTreeMap;
 use std::time::{SystemTime, UNIX_EPOCH};
 
-/// What must have occurred: 01's order of refusals for each kind, and the sender's.
-const DUE: [(&str, &[u32]); 11] = [
-    ("other", &[1, 2]),
-    ("program", &[0, 1, 3, 4, 5, 6, 7, 8, 9]),
-    ("block", &[0, 1, 3, 10, 8, 11, 12, 14]),
-    ("update", &[0, 1, 3, 10, 4, 5, 6, 7, 13, 8, 11, 12, 9, 14]),
-    ("send slip", &[0, 5, 8]),
-    ("send program", &[0, 5, 8]),
-    ("send block", &[0, 5, 11, 8]),
-    ("send update", &[0, 5, 11, 8]),
-    ("verify", &[0, 9]),
-    ("digest", &[0]),
-    ("fresh", &[0]),
-];
+use bundles::Bundles;
+use compare::Compared;
+use coverage::Coverage;
+use lists::List;
+use rng::Rng;
+use signer::Signer;
 
-fn signers(random: &mut Random) -> Vec<Signer> {
-    let mut all = vec![Signer::new(random, 5, 3, true), Signer::new(random, 5, 4, true), Signer::new(random, 6, 3, true)];
-    for tree in 5..=9 {
-        all.push(Signer::new(random, tree, 3, false));
-    }
-    all.push(Signer::new(random, 9, 4, false));
-    all
+/// One list in so many has a large image.
+const LARGE: u64 = 300;
+
+struct Test<'a> {
+    seed: u64,
+    signers: &'a [[Signer; 2]],
+    coverage: Coverage,
+    bundle_ends: BTreeMap<String, u64>,
+    passed: u64,
+    failed: u64,
 }
 
-/// The published examples that tie the model itself to the standards: each file is a key, a signature of so many bytes, and the message.
-fn known_answers(compare: &mut Compare) {
-    compare.digest(b"abc");
-    assert_eq!(sha256::digest(&[b"abc"])[..8], [0xba, 0x78, 0x16, 0xbf, 0x8f, 0x01, 0xcf, 0xea]);
-    for (file, n) in [(&include_bytes!("../../crates/vectors/data/case1_top")[..], 1292), (include_bytes!("../../crates/vectors/data/case2_top"), 2508)] {
-        let (key, rest) = file.split_at(56);
-        let (signature, message) = rest.split_at(n);
-        compare.verify(key, message, signature);
-        assert!(lms::valid(key, message, signature));
+/// Two keys for each pair of types.
+fn signers(seed: u64) -> Vec<[Signer; 2]> {
+    let mut rng = Rng::new(seed, 0);
+    let types = (5..=9).flat_map(|tree| [(tree, 3), (tree, 4)]);
+    types
+        .map(|(tree, ots)| [(); 2].map(|()| Signer::new(&mut rng, tree, ots)))
+        .collect()
+}
+
+impl Test<'_> {
+    fn self_test(&mut self) {
+        for (index, (what, holds)) in selftest::run().into_iter().enumerate() {
+            let result = holds.then_some(()).ok_or(format!("{what} of the model"));
+            self.record("self test", 0, index, result);
+        }
+    }
+
+    /// Counts one comparison; the first difference is printed with all that is needed to see it
+    /// again.
+    fn record(&mut self, group: &str, list: u64, index: usize, result: Compared<()>) -> bool {
+        match &result {
+            Ok(()) => self.passed += 1,
+            Err(what) => {
+                if self.failed == 0 {
+                    let seed = self.seed;
+                    println!(
+                        "DIFFERENCE in {group}, list {list}, message {index}, seed {seed}: {what}"
+                    );
+                }
+                self.failed += 1;
+            }
+        }
+        result.is_ok()
+    }
+
+    /// At most so many messages of a list. It ends at its first difference: behind it the two
+    /// devices are no longer in the same state.
+    fn list(&mut self, number: u64, most: u64) {
+        let large = number % LARGE == 7;
+        let mut list = match List::new(Rng::new(self.seed, number), self.signers, large) {
+            Ok(list) => list,
+            Err(what) => {
+                self.record("fresh", number, 0, Err(what));
+                return;
+            }
+        };
+        for index in 0..list.length().min(most as usize) {
+            let result = list.step(&mut self.coverage);
+            if !self.record("lists", number, index, result) {
+                break;
+            }
+        }
+    }
+
+    fn lists(&mut self, calls: u64) {
+        let mut number = 0;
+        let end = self.passed + calls;
+        while self.passed < end && self.failed < 100 {
+            number += 1;
+            self.list(number, end - self.passed);
+        }
+        println!("{number} lists of messages to devices");
+    }
+
+    fn functions(&mut self, calls: u64) {
+        let mut rng = Rng::new(self.seed, u64::MAX);
+        for index in 0..calls as usize / 4 {
+            let result = functions::sender_call(&mut rng, &mut self.coverage);
+            self.record("sender", 0, index, result);
+        }
+        for index in 0..calls as usize / 20 {
+            let result = functions::digest_call(&mut rng);
+            self.record("digest", 0, index, result);
+        }
+        let beyond = [(); 2].map(|()| Signer::beyond(&mut rng, 5, 3));
+        for index in 0..calls as usize / 50 {
+            let at = index % (self.signers.len() + 1);
+            let pair = self.signers.get(at).unwrap_or(&beyond);
+            let result = functions::verify_call(&mut rng, &mut self.coverage, pair);
+            self.record("verify", 0, index, result);
+        }
+    }
+
+    fn bundles(&mut self, runs: u64) {
+        let mut rng = Rng::new(self.seed, u64::MAX - 1);
+        let bundles = Bundles::new();
+        for index in 0..runs as usize {
+            let signer = &self.signers[index % self.signers.len()][0];
+            let result = bundles.run(&mut rng, signer);
+            if let Ok(end) = &result {
+                *self.bundle_ends.entry(end.clone()).or_default() += 1;
+            }
+            self.record("loader", 0, index, result.map(|_| ()));
+        }
+    }
+
+    /// Prints what occurred; each answer that never did counts as failed.
+    fn report(&mut self) {
+        let missing = self.coverage.report();
+        if missing > 0 {
+            println!("{missing} answers of the rules never occurred");
+        }
+        let ends: Vec<String> = self
+            .bundle_ends
+            .iter()
+            .map(|(end, count)| format!("{end}: {count}"))
+            .collect();
+        println!("loader runs that ended in {}", ends.join(", "));
+        self.failed += missing;
     }
 }
 
 fn main() {
-    let arguments: Vec<u64> = std::env::args().skip(1).map(|a| a.parse().expect("a number")).collect();
-    let calls = arguments.first().copied().unwrap_or(200_000) as usize;
-    let now = SystemTime::now().duration_since(UNIX_EPOCH).unwrap().as_nanos() as u64;
-    let seed = arguments.get(1).copied().unwrap_or(now);
+    let mut arguments = std::env::args()
+        .skip(1)
+        .map(|a| a.parse().expect("a number"));
+    let calls: u64 = arguments.next().unwrap_or(200_000);
+    let clock = SystemTime::now().duration_since(UNIX_EPOCH);
+    let seed = arguments
+        .next()
+        .unwrap_or(clock.expect("a clock past 1970").as_nanos() as u64);
     println!("seed {seed}");
-    let mut random = Random(seed);
-    let mut compare = Compare::default();
-    let signers = signers(&mut random);
-    known_answers(&mut compare);
-    let mut lists = 0;
-    while compare.calls < calls {
-        let large = lists % 150 == 75;
-        let n_most = if !large { 40 } else if random.one_in(3) { 4096 } else { 41 + random.below(4056) };
-        let steps = if large { n_most + 40 } else { 10 + random.below(150) };
-        let mut list = List::new(&mut random, &mut compare, &signers, n_most);
-        for _ in 0..steps {
-            list.step();
-        }
-        list::single_calls(&mut random, &mut compare, &signers);
-        lists += 1;
-    }
-    println!("{} calls, {lists} lists", compare.calls);
-    let mut missing = 0;
-    for (what, numbers) in DUE {
-        let mut line = format!("{what:>12}:");
-        for number in numbers {
-            let count = compare.seen.get(&(what, *number)).copied().unwrap_or(0);
-            missing += (count == 0) as usize;
-            line += &format!("  {number}: {count}");
-        }
-        println!("{line}");
-    }
-    if missing > 0 {
-        println!("{missing} answers never came");
-    }
-    println!("{} passed, {} failed", compare.calls - compare.failed, compare.failed + missing);
-    std::process::exit((compare.failed + missing > 0) as i32);
+    let signers = signers(seed);
+    let mut test = Test {
+        seed,
+        signers: &signers,
+        coverage: Coverage::new(),
+        bundle_ends: BTreeMap::new(),
+        passed: 0,
+        failed: 0,
+    };
+    test.self_test();
+    test.lists(calls);
+    test.functions(calls);
+    test.bundles((calls / 400).clamp(1, 2000));
+    test.report();
+    println!("{} passed, {} failed", test.passed, test.failed);
+    std::process::exit((test.failed > 0) as i32);
 }

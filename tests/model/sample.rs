@@ -1,27 +1,49 @@
-//! Prints examples/sample.h: a test key, and its signature over the manifest of the example's image.
+//! Makes the samples under examples/: `sample FOLDER` writes FOLDER/sample.h, and into
+//! FOLDER/sample image.bin, key.bin (a test key and the model) and signature.bin, over the
+//! manifest of that image. They are always the same.
 #![allow(dead_code)]
+
 mod lms;
-mod random;
+mod manifest;
+mod rng;
 mod sender;
 mod sha256;
-mod slip;
+mod signer;
 mod tree;
 
-fn array(name: &str, bytes: &[u8]) {
-    println!("\nstatic const uint8_t {name}[{}] = {{", bytes.len());
+use std::fmt::Write;
+use std::fs;
+
+const MODEL: u32 = 7;
+
+fn array(name: &str, bytes: &[u8]) -> String {
+    let mut text = format!("\nstatic const uint8_t {name}[{}] = {{\n", bytes.len());
     for row in bytes.chunks(24) {
         let row: Vec<String> = row.iter().map(|b| format!("{b:#04x}")).collect();
-        println!("    {},", row.join(", "));
+        writeln!(text, "    {},", row.join(", ")).expect("text");
     }
-    println!("}};");
+    text + "};\n"
 }
 
-fn main() {
-    let image = (0..300u32).map(|i| (7 * i + 3) as u8).collect();
-    let job = sender::Job::new(image, 64, 7, 1);
-    let signer = lms::Signer::new(&mut random::Random(1), 5, 4, true);
-    println!("/* A test key (LMS height 5, 8-bit digits), and its signature over the manifest of download.c's image. Made by tests/model/sample.rs. */");
-    println!("#include <stdint.h>");
-    array("sample_key", &signer.key);
-    array("sample_signature", &signer.sign(&job.slip().bytes()));
+fn main() -> std::io::Result<()> {
+    let folder = std::env::args().nth(1).expect("a folder");
+    let image: Vec<u8> = (0..300u32).map(|i| (7 * i + 3) as u8).collect();
+    let order = sender::Order {
+        image: &image,
+        block_length: 64,
+        model: MODEL,
+        serial: 1,
+    };
+    let mut rng = rng::Rng::new(1, 0);
+    let signer = signer::Signer::new(&mut rng, 5, 4);
+    let signature = signer.sign(&mut rng, &order.manifest().expect("a manifest"));
+    let header = "/* A test key (LMS height 5, 8-bit digits), and its signature over the manifest of download.c's image. \
+                  Made by tests/model/sample.rs. */\n#include <stdint.h>\n";
+    let arrays = array("sample_key", &signer.key) + &array("sample_signature", &signature);
+    fs::write(format!("{folder}/sample.h"), header.to_string() + &arrays)?;
+    fs::create_dir_all(format!("{folder}/sample"))?;
+    let key = [&signer.key[..], &MODEL.to_be_bytes()].concat();
+    fs::write(format!("{folder}/sample/image.bin"), &image)?;
+    fs::write(format!("{folder}/sample/key.bin"), key)?;
+    fs::write(format!("{folder}/sample/signature.bin"), signature)
 }

@@ -1,70 +1,98 @@
-//! The sender.
-use crate::slip::{Slip, count, wrong_size};
-use crate::tree::{label, siblings};
+//! Document 01, the sender: the bare manifest and the messages of each kind. It refuses 5, 11, 8 in
+//! this order.
 
-/// What it is given, and the image filled up to whole blocks.
-#[derive(Clone)]
-pub struct Job {
-    pub image: Vec<u8>,
-    pub l: u32,
+use crate::manifest::{AREA, Manifest, Outcome, TURN, check_size, refuse_if};
+use crate::tree::{root, siblings};
+
+/// What the sender is given for every message.
+#[derive(Clone, Copy)]
+pub struct Order<'a> {
+    pub image: &'a [u8],
+    pub block_length: u32,
     pub model: u32,
     pub serial: u32,
-    filled: Vec<u8>,
 }
 
-impl Job {
-    pub fn new(image: Vec<u8>, l: u32, model: u32, serial: u32) -> Job {
-        let mut filled = image.clone();
-        if !wrong_size(l as usize, image.len()) {
-            filled.resize(count(l as usize, image.len()) * l as usize, 0xFF);
+impl Order<'_> {
+    /// The image's blocks, the last one filled with 0xFF.
+    pub fn filled(&self) -> Vec<u8> {
+        let length = self.block_length as usize;
+        let mut area = self.image.to_vec();
+        area.resize(self.image.len().div_ceil(length) * length, 0xff);
+        area
+    }
+
+    fn check_number(&self, number: u32) -> Outcome<()> {
+        let n = self.image.len().div_ceil(self.block_length as usize);
+        refuse_if(number < 1 || number as usize > n, TURN)
+    }
+
+    pub fn manifest(&self) -> Outcome<Vec<u8>> {
+        check_size(self.image.len(), self.block_length)?;
+        let manifest = Manifest {
+            version: 1,
+            block_length: self.block_length as u16,
+            model: self.model,
+            serial: self.serial,
+            image_length: self.image.len() as u32,
+            root: root(&self.filled(), self.block_length as usize),
+        };
+        Ok(manifest.bytes())
+    }
+
+    pub fn program(&self, signature: &[u8]) -> Outcome<Vec<u8>> {
+        Ok(program_message(&self.manifest()?, signature))
+    }
+
+    pub fn block(&self, number: u32) -> Outcome<Vec<u8>> {
+        check_size(self.image.len(), self.block_length)?;
+        self.check_number(number)?;
+        Ok(block_message(
+            &self.filled(),
+            self.block_length as usize,
+            number as usize,
+        ))
+    }
+
+    pub fn update(&self, number: u32, signature: &[u8]) -> Outcome<Vec<u8>> {
+        let manifest = self.manifest()?;
+        self.check_number(number)?;
+        let (area, length) = (self.filled(), self.block_length as usize);
+        let block = &area[(number as usize - 1) * length..][..length];
+        Ok(update_message(&manifest, number as u16, block, signature))
+    }
+}
+
+pub fn program_message(manifest: &[u8], signature: &[u8]) -> Vec<u8> {
+    [&[1], manifest, signature].concat()
+}
+
+pub fn block_message(area: &[u8], block_length: usize, i: usize) -> Vec<u8> {
+    let mut out = vec![2];
+    out.extend((i as u16).to_be_bytes());
+    out.extend(&area[(i - 1) * block_length..i * block_length]);
+    for sibling in siblings(area.len() / block_length, i) {
+        out.extend(sibling.hash(area, block_length));
+    }
+    out
+}
+
+pub fn update_message(manifest: &[u8], number: u16, block: &[u8], signature: &[u8]) -> Vec<u8> {
+    [&[3], manifest, &number.to_be_bytes(), block, signature].concat()
+}
+
+/// Writes to the start of the buffer, or refuses 8 and leaves it.
+pub fn deliver(message: Outcome<Vec<u8>>, out: &mut [u8], written: &mut usize) -> u32 {
+    let fitting = message.and_then(|m| {
+        refuse_if(m.len() > out.len(), AREA)?;
+        Ok(m)
+    });
+    match fitting {
+        Ok(message) => {
+            out[..message.len()].copy_from_slice(&message);
+            *written = message.len();
+            0
         }
-        Job { image, l, model, serial, filled }
-    }
-
-    pub fn n(&self) -> usize {
-        count(self.l as usize, self.image.len())
-    }
-
-    pub fn wrong_size(&self) -> bool {
-        wrong_size(self.l as usize, self.image.len())
-    }
-
-    pub fn block_bytes(&self, i: usize) -> &[u8] {
-        let l = self.l as usize;
-        &self.filled[(i - 1) * l..i * l]
-    }
-
-    pub fn slip(&self) -> Slip {
-        let root = label(&self.filled, self.l as usize, (1, self.n())).to_vec();
-        Slip { version: 1, block: self.l as u16, model: self.model, serial: self.serial, image: self.image.len() as u32, root }
-    }
-
-    pub fn program(&self, signature: &[u8]) -> Vec<u8> {
-        [&[1], &self.slip().bytes()[..], signature].concat()
-    }
-
-    pub fn block(&self, i: usize) -> Vec<u8> {
-        let labels: Vec<u8> = siblings(self.n(), i).iter().flat_map(|t| label(&self.filled, self.l as usize, *t)).collect();
-        [&[2], &(i as u16).to_be_bytes()[..], self.block_bytes(i), &labels].concat()
-    }
-
-    pub fn update(&self, i: usize, signature: &[u8]) -> Vec<u8> {
-        [&[3], &self.slip().bytes()[..], &(i as u16).to_be_bytes(), self.block_bytes(i), signature].concat()
-    }
-
-    /// Refusals 5, 11, 8; else the bytes at the start of the buffer. The number is left out where the message has none.
-    pub fn send(&self, number: Option<u32>, bytes: impl Fn() -> Vec<u8>, out: &mut [u8]) -> Result<usize, u32> {
-        if self.wrong_size() {
-            return Err(5);
-        }
-        if number.is_some_and(|i| i == 0 || i as usize > self.n()) {
-            return Err(11);
-        }
-        let bytes = bytes();
-        if out.len() < bytes.len() {
-            return Err(8);
-        }
-        out[..bytes.len()].copy_from_slice(&bytes);
-        Ok(bytes.len())
+        Err(refusal) => refusal,
     }
 }

@@ -1,58 +1,89 @@
-//! The tree over the blocks. A subtree is its first block's number, from 1, and its count of blocks.
-use crate::sha256::{Hash, digest};
+//! Document 01, "Tree and labels": the tree over the blocks, what block message i carries and what
+//! the device holds. A label is a hash here.
+//!
+//! All is worked out by walking the tree as it is defined, never by a formula over block numbers.
+//! Blocks count from 1.
 
-type Subtree = (usize, usize);
+use crate::sha256::{Hash, sha256};
 
-fn children((first, count): Subtree) -> (Subtree, Subtree) {
-    let mut k = 1;
-    while 2 * k < count {
-        k *= 2;
-    }
-    ((first, k), (first + k, count - k))
+/// A subtree: its first block and its number of blocks.
+#[derive(Clone, Copy, PartialEq, Debug)]
+pub struct Subtree {
+    pub first: usize,
+    pub count: usize,
 }
 
-/// The label of a subtree; `blocks` are all of them, of L bytes each.
-pub fn label(blocks: &[u8], l: usize, tree: Subtree) -> Hash {
-    if tree.1 == 1 {
-        return digest(&[&blocks[(tree.0 - 1) * l..tree.0 * l]]);
+impl Subtree {
+    /// "split at k, the largest power of two below n"
+    fn halves(self) -> (Subtree, Subtree) {
+        let mut k = 1;
+        while 2 * k < self.count {
+            k *= 2;
+        }
+        let left = Subtree { count: k, ..self };
+        let right = Subtree {
+            first: self.first + k,
+            count: self.count - k,
+        };
+        (left, right)
     }
-    let (left, right) = children(tree);
-    digest(&[&label(blocks, l, left), &label(blocks, l, right)])
+
+    /// Its hash; `area` holds all blocks of the image.
+    pub fn hash(self, area: &[u8], block_length: usize) -> Hash {
+        if self.count == 1 {
+            let start = (self.first - 1) * block_length;
+            return sha256(&area[start..start + block_length]);
+        }
+        let (left, right) = self.halves();
+        parent(
+            &left.hash(area, block_length),
+            &right.hash(area, block_length),
+        )
+    }
 }
 
-/// The right siblings on the way from block i up to the root of the largest subtree whose first block is i, lowest first.
+pub fn parent(left: &Hash, right: &Hash) -> Hash {
+    sha256(&[*left, *right].concat())
+}
+
+pub fn whole(n: usize) -> Subtree {
+    Subtree { first: 1, count: n }
+}
+
+pub fn root(area: &[u8], block_length: usize) -> Hash {
+    whole(area.len() / block_length).hash(area, block_length)
+}
+
+/// The right siblings from block i up to the root of the largest subtree that begins with it,
+/// lowest first; c(i) is their number.
 pub fn siblings(n: usize, i: usize) -> Vec<Subtree> {
-    let mut at = (1, n);
-    while at.0 != i {
-        let (left, right) = children(at);
-        at = if i < right.0 { left } else { right };
+    let mut subtree = whole(n);
+    while subtree.first != i {
+        let (left, right) = subtree.halves();
+        subtree = if i < right.first { left } else { right };
     }
     let mut found = Vec::new();
-    while at.1 > 1 {
-        let (left, right) = children(at);
-        found.push(right);
-        at = left;
+    while subtree.count > 1 {
+        let (left, right) = subtree.halves();
+        found.insert(0, right);
+        subtree = left;
     }
-    found.reverse();
     found
 }
 
-/// The fewest subtrees that cover exactly the blocks after the first `accepted`.
-pub fn cover(n: usize, accepted: usize) -> Vec<Subtree> {
-    fn within(tree: Subtree, accepted: usize) -> Vec<Subtree> {
-        if tree.0 > accepted {
-            return vec![tree];
+/// The fewest subtrees that cover exactly the blocks from `next` to n, in block order: what the
+/// device holds before block `next`.
+pub fn cover(n: usize, next: usize) -> Vec<Subtree> {
+    fn walk(subtree: Subtree, next: usize, found: &mut Vec<Subtree>) {
+        if subtree.first >= next {
+            found.push(subtree);
+        } else if subtree.first + subtree.count > next {
+            let (left, right) = subtree.halves();
+            walk(left, next, found);
+            walk(right, next, found);
         }
-        if tree.0 + tree.1 - 1 <= accepted {
-            return Vec::new();
-        }
-        let (left, right) = children(tree);
-        [within(left, accepted), within(right, accepted)].concat()
     }
-    within((1, n), accepted)
-}
-
-/// The label of the largest subtree that a block message stands for.
-pub fn from_message(block: &[u8], labels: &[u8]) -> Hash {
-    labels.chunks(32).fold(digest(&[block]), |x, right| digest(&[&x, right]))
+    let mut found = Vec::new();
+    walk(whole(n), next, &mut found);
+    found
 }

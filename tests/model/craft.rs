@@ -1,0 +1,273 @@
+//! The messages of a random list: honest ones, which fit the device's present stage, and ones that
+//! are wrong in chosen ways but else well made.
+
+use std::collections::HashMap;
+
+use crate::device::{Device, Stage};
+use crate::manifest::{BLOCK_LENGTHS, MOST_BLOCKS, Manifest};
+use crate::plan::Plan;
+use crate::rng::Rng;
+use crate::sender::{block_message, program_message, update_message};
+use crate::sha256::Hash;
+use crate::signer::Signer;
+use crate::tree::root;
+
+/// An image as its blocks lie in the flash, already filled.
+#[derive(Clone)]
+pub struct Image {
+    pub block_length: usize,
+    pub image_length: usize,
+    pub area: Vec<u8>,
+}
+
+impl Image {
+    pub fn random(rng: &mut Rng, block_length: usize, n: usize) -> Image {
+        let mut area = if rng.one_in(10) {
+            // Equal blocks give equal hashes all over the tree.
+            vec![rng.next() as u8; n * block_length]
+        } else {
+            rng.bytes(n * block_length)
+        };
+        let spare = if rng.one_in(3) {
+            0
+        } else {
+            rng.below(block_length)
+        };
+        let image_length = area.len() - spare;
+        // The device does not look at the filler: some images have another one.
+        if !rng.one_in(8) {
+            area[image_length..].fill(0xff);
+        }
+        Image {
+            block_length,
+            image_length,
+            area,
+        }
+    }
+
+    pub fn blocks(&self) -> usize {
+        self.area.len() / self.block_length
+    }
+
+    fn block(&self, i: usize) -> &[u8] {
+        &self.area[(i - 1) * self.block_length..i * self.block_length]
+    }
+}
+
+/// Makes the messages for one device.
+pub struct Author<'a> {
+    pub rng: Rng,
+    pub plan: Plan,
+    pub model: u32,
+    pub signer: &'a Signer,
+    /// Another key of the same types.
+    pub stranger: &'a Signer,
+    /// All images so far, by their roots.
+    pub images: HashMap<Hash, Image>,
+}
+
+impl Author<'_> {
+    /// The image whose manifest the device has, if this author made it.
+    fn current(&self, device: &Device) -> Option<&Image> {
+        let manifest = device.manifest()?;
+        let image = self.images.get(&manifest.root)?;
+        let same = image.block_length == manifest.block_length as usize
+            && image.area.len() == manifest.area_length();
+        same.then_some(image)
+    }
+
+    /// The message that the device should accept now.
+    pub fn honest(&mut self, device: &Device) -> Vec<u8> {
+        let program = self.rng.percent(self.plan.restarts);
+        let update = self.rng.percent(70);
+        match (&device.stage, self.current(device)) {
+            (Stage::Loading { next, .. }, Some(image)) if !program => {
+                block_message(&image.area, image.block_length, *next)
+            }
+            (Stage::Complete { .. }, Some(_)) if update => self.update(device, false),
+            _ => self.program(device, false),
+        }
+    }
+
+    /// A message with wrong values, of the kind that the stage asks for more often than not.
+    pub fn faulty(&mut self, device: &Device) -> Vec<u8> {
+        let usual = match device.stage {
+            Stage::Idle => 1,
+            Stage::Loading { .. } => 2,
+            Stage::Complete { .. } => 3,
+        };
+        match self.rng.pick(&[usual, usual, 1, 2, 3]) {
+            1 => self.program(device, true),
+            2 => self.any_block(device),
+            _ => self.update(device, true),
+        }
+    }
+
+    /// A block of the device's image, or of any other, with any number.
+    fn any_block(&mut self, device: &Device) -> Vec<u8> {
+        let image = self.some_image(device);
+        let i = self.rng.range(1, image.blocks());
+        block_message(&image.area, image.block_length, i)
+    }
+
+    /// The device's image mostly, else one of the others or a new one.
+    fn some_image(&mut self, device: &Device) -> Image {
+        let known = if self.rng.percent(80) {
+            self.current(device)
+        } else {
+            let mut roots: Vec<_> = self.images.keys().copied().collect();
+            roots.sort();
+            (!roots.is_empty()).then(|| &self.images[&self.rng.pick(&roots)])
+        };
+        match known {
+            Some(image) => image.clone(),
+            None => self.new_image(),
+        }
+    }
+
+    /// An image that fits the flash, if any does; now and then a larger one.
+    fn new_image(&mut self) -> Image {
+        let (rng, plan) = (&mut self.rng, &self.plan);
+        let block_length = rng.pick(&plan.block_lengths) as usize;
+        let fitting = (plan.flash_length / block_length).clamp(1, plan.most_blocks);
+        let n = if rng.percent(plan.filling) {
+            fitting
+        } else if rng.one_in(10) {
+            rng.range(1, 40)
+        } else {
+            rng.range(1, fitting)
+        };
+        Image::random(rng, block_length, n)
+    }
+
+    fn serial_above(&mut self, serial: u32) -> u32 {
+        // Rarely the last serial: behind it the list has only refusals.
+        let step = match self.rng.below(400) {
+            0 => u32::MAX,
+            1 => self.rng.u32(),
+            _ => 1 + self.rng.below(3) as u32,
+        };
+        serial.saturating_add(step)
+    }
+
+    /// A manifest for the image, its serial above the device's.
+    fn manifest(&mut self, device: &Device, image: &Image) -> Manifest {
+        let serial = device.serial();
+        let manifest = Manifest {
+            version: 1,
+            block_length: image.block_length as u16,
+            model: self.model,
+            serial: self.serial_above(serial),
+            image_length: image.image_length as u32,
+            root: root(&image.area, image.block_length),
+        };
+        self.images.insert(manifest.root, image.clone());
+        manifest
+    }
+
+    /// Kind 1 for a new image; a faulty one has up to three wrong values, and then any signature.
+    fn program(&mut self, device: &Device, faulty: bool) -> Vec<u8> {
+        let image = if self.rng.one_in(5) {
+            self.some_image(device)
+        } else {
+            self.new_image()
+        };
+        let mut manifest = self.manifest(device, &image);
+        if faulty {
+            self.spoil(&mut manifest, device.serial());
+        }
+        let bytes = manifest.bytes();
+        let signature = self.signature(&bytes, faulty);
+        program_message(&bytes, &signature)
+    }
+
+    /// Kind 3 that changes one block of the device's image, or writes it again; a faulty one has
+    /// wrong values in any of its parts.
+    fn update(&mut self, device: &Device, faulty: bool) -> Vec<u8> {
+        let mut image = self.some_image(device);
+        if !faulty {
+            image = self.current(device).cloned().unwrap_or(image);
+        }
+        let i = self.rng.range(1, image.blocks());
+        if !self.rng.one_in(4) {
+            let block = self.rng.bytes(image.block_length);
+            let start = (i - 1) * image.block_length;
+            image.area[start..start + block.len()].copy_from_slice(&block);
+        }
+        let mut manifest = self.manifest(device, &image);
+        let mut block = image.block(i).to_vec();
+        let mut number = i as u16;
+        if faulty && self.rng.percent(35) {
+            self.spoil(&mut manifest, device.serial());
+        }
+        if faulty && self.rng.percent(40) {
+            let n = image.blocks() as u16;
+            number = self.rng.pick(&[0, n, n + 1, u16::MAX, 1]);
+        }
+        if faulty && self.rng.percent(30) {
+            let at = self.rng.below(block.len());
+            block[at] ^= 1 << self.rng.below(8);
+        }
+        let bytes = manifest.bytes();
+        let signature = self.signature(&bytes, faulty);
+        update_message(&bytes, number, &block, &signature)
+    }
+
+    fn signature(&mut self, manifest: &[u8], faulty: bool) -> Vec<u8> {
+        let length = self.signer.parameters.signature_length();
+        match self.rng.below(if faulty { 10 } else { 1 }) {
+            7 => self.stranger.sign(&mut self.rng, manifest),
+            8 => self.rng.bytes(length),
+            9 => {
+                let other = self.rng.bytes(48);
+                self.signer.sign(&mut self.rng, &other)
+            }
+            _ => self.signer.sign(&mut self.rng, manifest),
+        }
+    }
+
+    /// One to three values of the manifest made wrong, or moved to the edge of what is right.
+    fn spoil(&mut self, manifest: &mut Manifest, serial: u32) {
+        let rng = &mut self.rng;
+        for _ in 0..rng.range(1, 3) {
+            let (l, t) = (manifest.block_length as u32, manifest.image_length);
+            match rng.below(6) {
+                0 => manifest.version = rng.pick(&[0, 2, 256, 257, u16::MAX]),
+                1 => manifest.block_length = wrong_block_length(rng) as u16,
+                2 => {
+                    let model = manifest.model;
+                    let other = rng.u32();
+                    let swapped = model.swap_bytes();
+                    manifest.model = rng.pick(&[other, swapped, model ^ 1, model ^ 1 << 31]);
+                }
+                3 => {
+                    let below = serial.saturating_sub(1);
+                    manifest.serial = rng.pick(&[serial, serial, below, 0, u32::MAX]);
+                }
+                4 => {
+                    let most = l * MOST_BLOCKS as u32;
+                    let edges = [
+                        0,
+                        1,
+                        t.saturating_sub(1),
+                        t.wrapping_add(1),
+                        most,
+                        most + 1,
+                        u32::MAX,
+                    ];
+                    manifest.image_length = rng.pick(&edges);
+                }
+                _ => manifest.root = rng.array(),
+            }
+        }
+    }
+}
+
+/// An allowed block length, or mostly one that is not.
+pub fn wrong_block_length(rng: &mut Rng) -> u32 {
+    let any = rng.u32() % 2000;
+    let wrong = [0, 1, 32, 63, 65, 96, 192, 1000, 1023, 1025, 2048, 0xffff];
+    let other = rng.pick(&wrong);
+    let allowed = rng.pick(&BLOCK_LENGTHS);
+    rng.pick(&[any, other, other, allowed])
+}

@@ -1,0 +1,85 @@
+//! The state's 496 bytes, as the C header describes them, around the model's device.
+//!
+//! The header says of every byte what becomes of it, with one exception: it does not say what a
+//! fresh state has where the bytes mean nothing (manifest and hashes). The tests take those from
+//! the library.
+
+use crate::device::{Device, Stage, held_count};
+use crate::lms::number;
+use crate::manifest::{Manifest, Outcome, STATE};
+
+pub const STATE_LENGTH: usize = 496;
+pub const STAGE_AT: usize = 60;
+pub const NEXT_AT: usize = 62;
+pub const MANIFEST_AT: usize = 64;
+pub const HASHES_AT: usize = 112;
+
+pub fn fresh(model: u32, key: &[u8]) -> Vec<u8> {
+    let mut state = model.to_be_bytes().to_vec();
+    state.extend(key);
+    state.extend([0; 4]);
+    state
+}
+
+pub fn read(state: &[u8]) -> Outcome<Device> {
+    if state.len() != STATE_LENGTH {
+        return Err(STATE);
+    }
+    let manifest = Manifest::read(&state[MANIFEST_AT..HASHES_AT]);
+    let stage = match number(&state[STAGE_AT..NEXT_AT]) {
+        0 => Stage::Idle,
+        1 => {
+            let next = number(&state[NEXT_AT..MANIFEST_AT]) as usize;
+            let held = &state[STATE_LENGTH - 32 * held_count(&manifest, next)..];
+            Stage::Loading {
+                manifest,
+                next,
+                held: held.chunks(32).map(|h| h.try_into().unwrap()).collect(),
+            }
+        }
+        2 => Stage::Complete { manifest },
+        _ => return Err(STATE),
+    };
+    Ok(Device {
+        model: number(&state[..4]),
+        key: state[4..STAGE_AT].to_vec(),
+        stage,
+    })
+}
+
+/// Writes a stage over the bytes of the one before it. What stands before the held hashes stays:
+/// "later messages leave in it what they find", a hash that was held until now included.
+fn write(state: &mut [u8], stage: &Stage) {
+    let (code, next, manifest, held) = match stage {
+        Stage::Idle => unreachable!("no message makes a device idle"),
+        Stage::Loading {
+            manifest,
+            next,
+            held,
+        } => (1, *next as u16, manifest, held.concat()),
+        Stage::Complete { manifest } => (2, 0, manifest, Vec::new()),
+    };
+    state[STAGE_AT..NEXT_AT].copy_from_slice(&u16::to_be_bytes(code));
+    state[NEXT_AT..MANIFEST_AT].copy_from_slice(&next.to_be_bytes());
+    state[MANIFEST_AT..HASHES_AT].copy_from_slice(&manifest.bytes());
+    state[STATE_LENGTH - held.len()..].copy_from_slice(&held);
+}
+
+/// One message to the device: 0, with state and flash those after it, or the refusal, with both as
+/// before.
+pub fn receive(state: &mut [u8], flash: &mut [u8], message: &[u8]) -> u32 {
+    match read(state).and_then(|device| device.receive(flash, message)) {
+        Ok(effect) => {
+            // "a new program zeroes it"
+            if message[0] == 1 {
+                state[HASHES_AT..].fill(0);
+            }
+            write(state, &effect.stage);
+            if let Some((start, block)) = effect.write {
+                flash[start..start + block.len()].copy_from_slice(&block);
+            }
+            0
+        }
+        Err(refusal) => refusal,
+    }
+}

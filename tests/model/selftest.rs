@@ -1,0 +1,69 @@
+//! The model against values known from outside, before it judges anything: FIPS 180-4's examples,
+//! two signatures of RFC 8554's appendix F, and the counts that document 01 works out by hand.
+
+use crate::lms::verify;
+use crate::rfc8554::CASES;
+use crate::sha256::sha256;
+use crate::tree::{cover, siblings};
+
+fn unhex(text: &str) -> Vec<u8> {
+    let digits: Vec<u8> = text
+        .chars()
+        .filter_map(|c| c.to_digit(16))
+        .map(|d| d as u8)
+        .collect();
+    digits.chunks(2).map(|d| d[0] << 4 | d[1]).collect()
+}
+
+fn digests() -> bool {
+    let examples: [(&[u8], &str); 4] = [
+        (
+            b"",
+            "e3b0c44298fc1c149afbf4c8996fb92427ae41e4649b934ca495991b7852b855",
+        ),
+        (
+            b"abc",
+            "ba7816bf8f01cfea414140de5dae2223b00361a396177a9cb410ff61f20015ad",
+        ),
+        (
+            b"abcdbcdecdefdefgefghfghighijhijkijkljklmklmnlmnomnopnopq",
+            "248d6a61d20638b8e5c026930c3e6039a33ce45964ff2167f6ecedd419db06c1",
+        ),
+        (
+            &[b'a'; 1_000_000],
+            "cdc76e5c9914fb9281a1c7e284d73e67f1809a48a497200e046d39ccc7112cd0",
+        ),
+    ];
+    examples
+        .iter()
+        .all(|(message, digest)| sha256(message).to_vec() == unhex(digest))
+}
+
+fn signatures() -> bool {
+    CASES.iter().all(|case| {
+        let [key, message, mut signature] = case.map(unhex);
+        let valid = verify(&key, &message, &signature);
+        signature[100] ^= 1;
+        valid && !verify(&key, &message, &signature)
+    })
+}
+
+fn counts() -> bool {
+    let c = |n| -> Vec<usize> { (1..=n).map(|i| siblings(n, i).len()).collect() };
+    let held = |n| -> Vec<usize> { (1..=n + 1).map(|next| cover(n, next).len()).collect() };
+    c(1) == [0]
+        && c(3) == [2, 0, 0]
+        && c(5) == [3, 0, 1, 0, 0]
+        && c(7) == [3, 0, 1, 0, 2, 0, 0]
+        && c(8) == [3, 0, 1, 0, 2, 0, 1, 0]
+        && held(8) == [1, 3, 2, 2, 1, 2, 1, 1, 0]
+        && held(3) == [1, 2, 1, 0]
+}
+
+pub fn run() -> [(&'static str, bool); 3] {
+    [
+        ("digests", digests()),
+        ("signatures", signatures()),
+        ("counts", counts()),
+    ]
+}
