@@ -73,7 +73,7 @@ module _ (b : List ℕ) {f : Found} (e : f ≡ found (stageIn b)) where
       unfolding called stateAfter
       accepted {s} z es ls eb = taken ∙ rw (z, eb, paste-whole b s (length-found g ∙ sym ls), es)
 
--- The call on a state's own bytes is the device's step: a caller that keeps the bytes runs the device that demand 3 speaks of.
+-- The call on a state's own bytes is the device's step.
 pub receive-encode : (d : Device) (flash m : List ℕ) → Fits d → receive (encode d) flash m ≡ called (step digest valid d flash m) (encode d)
 unfolding receive
 receive-encode d flash m f = rw (decode-encode d f, receive)

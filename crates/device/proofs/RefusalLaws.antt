@@ -18,7 +18,7 @@ use Rattle.wire.specs.Message.{kind, manifestBytes, manifestIn, programSignatur
 use Rattle.wire.proofs.SizeLaws.{Sized, sized, inside}
 use Rattle.device.specs.declared.state.Device.{Device}
 use Rattle.device.specs.Device.{countOf}
-use Rattle.device.specs.Refusals.{badSize, notNewer, noKind, short, leastLength, tooSmall, notLoading, notComplete, nextOf, wrongLength, updated, treeOver, mismatch, lacksRoot, unsigned, always, ofProgram, ofBlock, ofUpdate, ofKind, refusals}
+use Rattle.device.specs.Refusals.{badSize, senseless, notNewer, noKind, short, leastLength, tooSmall, notLoading, notComplete, nextOf, wrongLength, updated, treeOver, mismatch, lacksRoot, unsigned, always, ofProgram, ofBlock, ofUpdate, ofKind, refusals}
 use Rattle.device.specs.Step.{refusalOf}
 
 -- No test of a list of refusals applies.
@@ -54,6 +54,7 @@ module _ (H : List ℕ → List ℕ) (valid : (key message signature : List ℕ)
     pub signed : valid (d .key) (manifestBytes m) (programSignature m) ≡ true
 
   pub record BlockPassed : Type 0 where
+    pub sense : senseless d ≡ false
     pub loading : notLoading (d .stage) ≡ false
     pub long : length m ≡ messageLength (d .manifest .block) (countOf (d .manifest)) (nextOf (d .stage))
     pub same : fits H [] [] (countOf (d .manifest)) (pred (nextOf (d .stage))) (d .hashes) (blockIn (d .manifest .block) m) (hashesAfter (d .manifest .block) m) ≡ true
@@ -87,8 +88,9 @@ module _ (H : List ℕ → List ℕ) (valid : (key message signature : List ℕ)
   pub block-passed : kind m ≡ Block → refusalOf H valid d flash m ≡ none → BlockPassed
   unfolding refusals always ofKind ofBlock NoneApplies wrongLength mismatch
   block-passed k a =
-      let t = none-of Block k a .1 .1 .1 in
-      record { loading = t .0; long = eqb-true _ _ (not-false _ (t .1 .1 .1 .0)); same = not-false _ (t .1 .1 .1 .1 .0) }
+      let u = none-of Block k a in
+      let t = u .1 .1 .1 in
+      record { sense = u .0; loading = t .0; long = eqb-true _ _ (not-false _ (t .1 .1 .1 .0)); same = not-false _ (t .1 .1 .1 .1 .0) }
 
   pub update-passed : kind m ≡ Update → refusalOf H valid d flash m ≡ none → UpdatePassed
   unfolding refusals always ofKind ofUpdate NoneApplies badSize tooSmall unsigned lacksRoot

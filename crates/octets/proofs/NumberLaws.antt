@@ -1,5 +1,5 @@
 -- Numbers as bytes, and bytes as numbers.
-use mathlib.Core.Path.{_≡_, refl, sym, ap, ap₂, _∙_}
+use mathlib.Core.Path.{_≡_, refl, sym, ap, ap₂, _∙_, subst}
 use mathlib.Core.List.{List, [], _∷_, _++_}
 use Prim.Native.Nat.{ℕ, zero, suc, _+_, _*_, _/_, _%_, _^_, _≤_, _<_}
 use native.Mathlib.Nat.{pow-suc, one-le-pow, mul-assoc, mod-lt, mod-eq-of-lt}
@@ -106,3 +106,6 @@ pub number-below : (s : List ℕ) → Bytes s → number s < 256 ^ length s
 number-below s h =
     let e : number s ≡ number s % 256 ^ length s = ap number (sym (bytes-number s h)) ∙ number-bytes (length s) (number s) in
     rw e (mod-lt (number s) (one-le-pow (length s) 256 (lit< tt)))
+
+pub part-below : (s : List ℕ) → Bytes s → (i k : ℕ) → i + k ≤ length s → number (part i k s) < 256 ^ k
+part-below s h i k l = subst (λ (j : ℕ). number (part i k s) < 256 ^ j) (length-part s i k l) (number-below (part i k s) (part-bytes s h i k l))

@@ -6,9 +6,9 @@ use native.Mathlib.Omega.{arith}
 use lib.ListN.{length, take, drop, replicate, length-append}
 use lib.Seq.{paste, take-add, take-all}
 use Rattle.octets.specs.Octets.{bytes, number, part}
-use Rattle.octets.proofs.CopyLaws.{part-first, part-second}
+use Rattle.octets.proofs.CopyLaws.{length-part, part-first, part-second}
 use Rattle.octets.proofs.BufferLaws.{begun, more, whole}
-use Rattle.octets.proofs.NumberLaws.{Bytes, length-bytes, number-back, bytes-part}
+use Rattle.octets.proofs.NumberLaws.{Bytes, length-bytes, number-back, bytes-part, part-below}
 use Rattle.wire.specs.declared.manifest.Manifest.{Manifest}
 use Rattle.wire.specs.Manifest.{written, read}
 
@@ -123,3 +123,16 @@ written-read b l h =
       take-add 16 32 b,
       take-all 48 b (omega arith),
     )
+
+-- a manifest read from bytes fits its own
+pub read-fits : (b : List ℕ) → length b ≡ 48 → Bytes b → Fits (read b)
+unfolding read
+read-fits b l h =
+    record {
+      version = part-below b h 0 2 (omega arith);
+      block = part-below b h 2 2 (omega arith);
+      model = part-below b h 4 4 (omega arith);
+      serial = part-below b h 8 4 (omega arith);
+      image = part-below b h 12 4 (omega arith);
+      root = length-part b 16 32 (omega arith);
+    }

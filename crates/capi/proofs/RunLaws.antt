@@ -1,0 +1,162 @@
+-- A caller that keeps the state's bytes from call to call runs the device that demand 3 speaks of.
+use mathlib.Core.Path.{_≡_, refl, ap, _∙_}
+use mathlib.Core.Bool.{Bool, true, false, cond, true≢false, _||_}
+use mathlib.Core.List.{List}
+use mathlib.Core.Option.{Option, none, some}
+use Prim.Native.Nat.{ℕ, suc, pred, _+_, _*_, _^_, _≤_, _<_}
+use native.Mathlib.Omega.{arith}
+use lib.Dec.{ltb}
+use lib.ListN.{length, drop, length-drop, length-replicate}
+use Rattle.octets.specs.Octets.{part}
+use Rattle.octets.proofs.CopyLaws.{length-part}
+use Rattle.octets.proofs.NumberLaws.{Bytes, part-bytes}
+use Rattle.sha256.specs.Sha256.{digest}
+use Rattle.merkle.specs.Frontier.{carried, messageLength}
+use Rattle.merkle.proofs.HeldLaws.{length-begun, advance}
+use Rattle.lms.specs.Lms.{valid}
+use Rattle.wire.specs.declared.kind.Kind.{Kind}
+use Rattle.wire.specs.declared.kind.Kind.the-variants.{Program, Block, Update, Unknown}
+use Rattle.wire.specs.Size.{outside}
+use Rattle.wire.specs.declared.refusal.Refusal.{Refusal}
+use Rattle.wire.specs.Message.{kind, manifestBytes, manifestIn, hashesAfter}
+use Rattle.wire.proofs.SizeLaws.{sized, inside, or-false}
+use Rattle.wire.proofs.ManifestLaws as manifest
+use Rattle.device.specs.declared.state.Stage.{Stage}
+use Rattle.device.specs.declared.state.Stage.the-variants.{Idle, Loading, Complete}
+use Rattle.device.specs.declared.state.Device.{Device}
+use Rattle.device.specs.Device.{countOf, freshWith, Situation}
+use Rattle.device.specs.Refusals.{wrongVersion, badSize, senseless, notLoading, nextOf}
+use Rattle.device.specs.Step.{acceptProgram, stageAfter, acceptBlock, acceptUpdate, accept, outcome, refusalOf, step}
+use Rattle.device.specs.Run.{Messages, empty, _▷_, after}
+use Rattle.device.proofs.RefusalLaws.{BlockPassed, program-passed, block-passed, update-passed}
+use Rattle.capi.specs.State.{encode}
+use Rattle.capi.specs.Call.{Called, called, stateAfter, receive}
+use Rattle.capi.proofs.StateLaws.{Fits}
+use Rattle.capi.proofs.CallLaws.{receive-encode}
+
+-- What an accepted message of bytes leaves still fits its bytes.
+module _ (d : Device) (flash m : List ℕ) (bytes : Bytes m) (f : Fits d) where
+  manifest-fits : 49 ≤ length m → manifest.Fits (manifestIn m)
+  unfolding manifestIn manifestBytes
+  manifest-fits h = manifest.read-fits (part 1 48 m) (length-part m 1 48 (omega arith)) (part-bytes m bytes 1 48 (omega arith))
+
+  next-after : (n i : ℕ) → nextOf (stageAfter n i) ≤ suc i
+  unfolding nextOf stageAfter
+  next-after n i = go (ltb i n)
+    where
+      go : (t : Bool) → nextOf (cond t (Loading (suc i)) Complete) ≤ suc i
+      go true = omega arith
+      go false = omega arith
+
+  -- the next number is one of the manifest's blocks
+  awaited : BlockPassed digest valid d flash m → (0 < nextOf (d .stage)) × (nextOf (d .stage) ≤ countOf (d .manifest)) × (countOf (d .manifest) ≤ 4096)
+  unfolding notLoading senseless badSize nextOf countOf
+  awaited p = go (d .stage) (p .loading) (p .sense)
+    where
+      go : (t : Stage) → notLoading t ≡ false → senseless (record { model = d .model; key = d .key; stage = t; manifest = d .manifest; hashes = d .hashes }) ≡ false
+          → (0 < nextOf t) × (nextOf t ≤ countOf (d .manifest)) × (countOf (d .manifest) ≤ 4096)
+      go Idle l s = absurd (true≢false l)
+      go Complete l s = absurd (true≢false l)
+      go (Loading i) l s =
+          let o = or-false (wrongVersion (d .manifest) || badSize (d .manifest)) (outside (countOf (d .manifest)) i) s in
+          let b = inside (countOf (d .manifest)) i (o .1) in
+          (b .0, b .1, sized (d .manifest .block) (d .manifest .image) (or-false (wrongVersion (d .manifest)) _ (o .0) .1) .count)
+
+  fits-block : BlockPassed digest valid d flash m → Fits (acceptBlock d flash m .device)
+  unfolding acceptBlock hashesAfter messageLength
+  fits-block p =
+      let i = nextOf (d .stage) in
+      let n = countOf (d .manifest) in
+      let w = awaited p in
+      let z : suc (pred i) ≡ i = omega arith in
+      let l : length (drop (3 + d .manifest .block) m) ≡ 32 * carried n (suc (pred i)) = rw z (length-drop (3 + d .manifest .block) m ∙ omega (arith, p .long)) in
+      record {
+        model = f .model;
+        key = f .key;
+        next = omega (arith, next-after n i);
+        manifest = f .manifest;
+        hashes = advance n (pred i) (d .hashes) (drop (3 + d .manifest .block) m) (omega arith) (w .2) (f .hashes) l .size;
+      }
+
+  fits-kept : (k : Kind) → kind m ≡ k → refusalOf digest valid d flash m ≡ none → Fits (accept k d flash m .device)
+  unfolding accept acceptProgram acceptUpdate nextOf
+  fits-kept Program e a =
+      let p = program-passed digest valid d flash m e a in
+      let s = manifest-fits (p .long) in
+      record { model = f .model; key = f .key; next = omega arith; manifest = s; hashes = length-begun (manifestIn m .root) (s .root) }
+  fits-kept Block e a = fits-block (block-passed digest valid d flash m e a)
+  fits-kept Update e a =
+      let p = update-passed digest valid d flash m e a in
+      record { model = f .model; key = f .key; next = f .next; manifest = manifest-fits (omega (arith, p .long)); hashes = f .hashes }
+  fits-kept Unknown e a = f
+
+  fits-step : Fits (step digest valid d flash m .device)
+  unfolding step outcome
+  fits-step = go (refusalOf digest valid d flash m) refl
+    where
+      go : (r : Option Refusal) → refusalOf digest valid d flash m ≡ r → Fits (outcome r d flash (accept (kind m) d flash m) .device)
+      go none e = fits-kept (kind m) refl e
+      go (some x) e = f
+
+-- so does a fresh device
+pub fresh-fits : (model : ℕ) (key : List ℕ) → model < 256 ^ 4 → length key ≡ 56 → Fits (freshWith model key)
+unfolding freshWith nextOf
+fresh-fits model key h l =
+    record {
+      model = h;
+      key = l;
+      next = omega arith;
+      manifest = record { version = omega arith; block = omega arith; model = omega arith; serial = omega arith; image = omega arith; root = length-replicate {A = ℕ} 32 0 };
+      hashes = length-replicate {A = ℕ} 384 0;
+    }
+
+-- what the caller's memory holds after a list of calls
+pub record Memory : Type 0 where
+  pub state : List ℕ
+  pub flash : List ℕ
+
+abbrev left : Called → Memory
+left c = record { state = c .state; flash = c .flash }
+
+unfoldable pub callsAfter : (state flash : List ℕ) → Messages → Memory
+callsAfter state flash empty = record { state = state; flash = flash }
+callsAfter state flash (ms ▷ m) = let b = callsAfter state flash ms in left (receive (b .state) (b .flash) m)
+
+-- every message is a string of bytes
+pub AllBytes : Messages → Type 0
+AllBytes empty = Unit {0}
+AllBytes (ms ▷ m) = AllBytes ms × Bytes m
+
+-- the memory that holds a device and its flash
+abbrev holding : Device → List ℕ → Memory
+holding d flash = record { state = encode d; flash = flash }
+
+-- a refused message leaves the bytes as they are, which are the device's
+left-is : (d : Device) (flash m : List ℕ) → left (called (step digest valid d flash m) (encode d)) ≡ (let o = step digest valid d flash m in holding (o .device) (o .flash))
+unfolding step outcome called stateAfter
+left-is d flash m = go (refusalOf digest valid d flash m)
+  where
+    go : (r : Option Refusal) → left (called (outcome r d flash (accept (kind m) d flash m)) (encode d))
+        ≡ (let o = outcome r d flash (accept (kind m) d flash m) in holding (o .device) (o .flash))
+    go none = refl
+    go (some x) = refl
+
+module _ (d : Device) (flash : List ℕ) (f : Fits d) where
+  abbrev at : Messages → Situation
+  at ms = after (step digest valid) d flash ms
+
+  pub record Runs (ms : Messages) : Type 0 where
+    pub fits : Fits (at ms .device)
+    pub memory : callsAfter (encode d) flash ms ≡ record { state = encode (at ms .device); flash = at ms .flash }
+
+  pub runs : (ms : Messages) → AllBytes ms → Runs ms
+  unfolding callsAfter after AllBytes
+  runs empty b = record { fits = f; memory = refl }
+  runs (ms ▷ m) b =
+      let r = runs ms (b .0) in
+      let now : Device = at ms .device in
+      let held : List ℕ = at ms .flash in
+      record {
+        fits = fits-step now held m (b .1) (r .fits);
+        memory = ap (λ (x : Memory). left (receive (x .state) (x .flash) m)) (r .memory) ∙ ap left (receive-encode now held m (r .fits)) ∙ left-is now held m;
+      }
