@@ -1,7 +1,7 @@
 -- What an update makes of a context: m is the message before it, s the piece.
 use mathlib.Core.Path.{_≡_, refl, sym, ap, ap₂, _∙_}
-use mathlib.Core.List.{List, [], _∷_, _++_, append-assoc, append-nil}
-use Prim.Native.Nat.{ℕ, _+_, _*_, _-_, _/_, _%_, _^_, _<_, _≤_}
+use mathlib.Core.List.{List, _++_, append-assoc}
+use Prim.Native.Nat.{ℕ, _+_, _*_, _-_, _/_, _%_, _^_, _≤_}
 use native.Mathlib.Omega.{arith}
 use lib.ListN.{length, take, drop, length-append, length-drop, drop-of-length-le, take-append-drop}
 use lib.Seq.{paste, take-all, take-append-le, take-length, take-paste, length-paste, length-take-le}
@@ -36,7 +36,7 @@ total g y a a′ s w n f = omega arith
 module _ {h : List ℕ} (b : List ℕ) (g t : ℕ) {m : List ℕ} (l : length b ≡ 56) (p : Held h b g t m) (s y : List ℕ) where
   -- what waited and s are y, whole groups that go into the buffer behind the others, and the new tail
   pub stored : {b′ : List ℕ} {g′ : ℕ} (t′ : ℕ) → 8 * (g % 8) + length y ≤ 56 → length y % 8 ≡ 0 → b′ ≡ paste b (8 * (g % 8)) y (length y)
-      → g′ ≡ (g + length y / 8) % 2 ^ 64 → y ++ waiting t′ ≡ waiting t ++ s → Pending h (take (8 * (g′ % 8)) b′ ++ waiting t′) ((8 * g′ + t′ % 8) % 2 ^ 64) (m ++ s)
+      → g′ ≡ (g + length y / 8) % 2 ^ 64 → y ++ waiting t′ ≡ waiting t ++ s → Held h b′ g′ t′ (m ++ s)
   unfolding hashValue
   stored {b′} {g′} t′ i w e f d =
       let x = take (8 * (g % 8)) b in

@@ -22,7 +22,7 @@ pub struct Context {
     tail: u64,
 }
 
-// The bytes of s behind those of x.
+// The bytes of s behind those of x: of more than eight the last eight stay.
 fn append(x: u64, s: &[u8]) -> u64
     ensures { λ r. ⌜ ((k : ℕ) → k + length (now (s .entry)) ≤ 8 → bytes (k + length (now (s .entry))) r ≡ bytes k x ++ now (s .entry)) ⌝ }
 {
@@ -99,11 +99,8 @@ impl Context {
         let from = 8 - inside;
         let block = joined(&b, at, &t[from..]);
         let used = at + inside;
-        last(
-            h,
-            &block[..used],
-            self.groups % 0x2000000000000000 * 8 + self.tail % 8,
-        )
+        let length = self.groups % 0x2000000000000000 * 8 + self.tail % 8;
+        last(h, &block[..used], length)
     }
 }
 
@@ -116,6 +113,7 @@ fn more(h: [u32; 8], buffer: [u8; 56], groups: u64, tail: u64, piece: &[u8]) -> 
     if 0 < inside {
         let room = 8 - inside;
         let c = group(h, buffer, groups, tail, &piece[..room]);
+        // So it is with pieces of one byte.
         if piece.len() == room {
             return c;
         }

@@ -1,6 +1,5 @@
-use mathlib.Core.Path.{_≡_}
 use native.Mathlib.Omega.{arith}
-use lib.ListN.{length, replicate}
+use lib.ListN.{replicate}
 use Rattle.sha256.proofs.ContextLaws.{front}
 use borrow.Author.Needs.{needs}
 use Rattle.sha256.proofs.context.joined.Statement.{statement}

@@ -34,17 +34,17 @@ joined-requires c κs = search needs
 add-used : tie.Need-add-used
 add-used c = search needs
 
+mul-length : tie.Need-mul-length
+mul-length c = search needs
+
+add-length : tie.Need-add-length
+add-length c = search needs
+
 array-share-prefix-block : tie.Need-array-share-prefix-block
 array-share-prefix-block c = search needs
 
 slice-aggregate-last : tie.Need-slice-aggregate-last
 slice-aggregate-last c = simp length-take (omega arith)
-
-mul-last : tie.Need-mul-last
-mul-last c = search needs
-
-add-last : tie.Need-add-last
-add-last c = search needs
 
 last-requires : tie.Need-last-requires
 last-requires c κs = simp length-take (omega arith)
@@ -73,9 +73,9 @@ finish-spec =
     part-joined-end
     joined-requires
     add-used
+    mul-length
+    add-length
     array-share-prefix-block
     slice-aggregate-last
-    mul-last
-    add-last
     last-requires
     returns)
