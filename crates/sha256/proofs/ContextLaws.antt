@@ -1,49 +1,87 @@
--- What the three ways of an update make of a context: b is its buffer, t its length.
+-- What an update makes of a context: m is the message before it, s the piece.
 use mathlib.Core.Path.{_≡_, refl, sym, ap, ap₂, _∙_}
-use mathlib.Core.List.{List, [], _++_, append-assoc, append-nil}
-use Prim.Native.Nat.{ℕ, _+_, _*_, _-_, _/_, _%_, _^_, _<_}
+use mathlib.Core.List.{List, _++_, append-assoc}
+use Prim.Native.Nat.{ℕ, _+_, _*_, _-_, _/_, _%_, _^_, _≤_}
 use native.Mathlib.Omega.{arith}
 use lib.ListN.{length, take, drop, length-append, length-drop, drop-of-length-le, take-append-drop}
-use lib.Seq.{paste, take-paste, take-all, take-length, length-take-le}
+use lib.Seq.{paste, take-all, take-append-le, take-length, take-paste, length-paste, length-take-le}
+use Rattle.octets.specs.Octets.{bytes}
+use Rattle.octets.proofs.NumberLaws.{length-bytes}
+use Rattle.octets.proofs.CopyLaws.{paste-front}
 use Rattle.sha256.specs.Sha256.{hashValue, block, compress}
-use Rattle.sha256.specs.Context.{Pending}
+use Rattle.sha256.specs.Context.{Pending, Held, waiting}
 use Rattle.sha256.proofs.HashLaws.{grown}
 
-module _ {h : List ℕ} (b : List ℕ) (t : ℕ) {m : List ℕ} (l : length b ≡ 64) (p : Pending h (take (t % 64) b) t m) (s : List ℕ) where
-  length-left : length (take (t % 64) b ++ s) ≡ t % 64 + length s
-  length-left = length-append (take (t % 64) b) s ∙ ap (λ (k : ℕ). k + length s) (length-take-le (t % 64) b (omega arith))
+-- the same bytes and length, written in another way
+pub same : {h r r′ : List ℕ} {t t′ : ℕ} {m : List ℕ} → Pending h r t m → r′ ≡ r → t′ ≡ t → Pending h r′ t′ m
+same p e f = record { state = p .state; bytes = e ∙ p .bytes; count = f ∙ p .count }
 
-  -- s fits into the buffer with room to spare
-  pub fits : {t′ : ℕ} → t % 64 + length s < 64 → t′ ≡ (t + length s) % 2 ^ 64
-      → Pending h (take (t′ % 64) (paste b (t % 64) s (length s))) t′ (m ++ s)
+-- a tail with no bytes, whatever number stands in it
+pub none : {h : List ℕ} (b : List ℕ) (g t : ℕ) {m : List ℕ} → t % 8 ≡ 0 → Held h b g t m → Held h b g 0 m
+unfolding bytes
+none b g t z p = same p (ap (λ (k : ℕ). take (8 * (g % 8)) b ++ bytes k (t / 8)) (sym z)) (omega arith)
+
+length-waiting : (t : ℕ) → length (waiting t) ≡ t % 8
+length-waiting t = length-bytes (t % 8) (t / 8)
+
+length-left : (b : List ℕ) (g t : ℕ) (s : List ℕ) → length b ≡ 56 → length ((take (8 * (g % 8)) b ++ waiting t) ++ s) ≡ 8 * (g % 8) + t % 8 + length s
+length-left b g t s l =
+    length-append (take (8 * (g % 8)) b ++ waiting t) s ∙ ap (λ (k : ℕ). k + length s) (length-append (take (8 * (g % 8)) b) (waiting t))
+    ∙ omega (arith, length-take-le (8 * (g % 8)) b (omega arith), length-waiting t)
+
+-- the length after y bytes in whole groups, where a bytes waited before, a′ wait now, and the piece has s
+total : (g y a a′ s : ℕ) {g′ : ℕ} → y % 8 ≡ 0 → y + a′ ≡ a + s → g′ ≡ (g + y / 8) % 2 ^ 64 → (8 * g′ + a′) % 2 ^ 64 ≡ ((8 * g + a) % 2 ^ 64 + s) % 2 ^ 64
+total g y a a′ s w n f = omega arith
+
+module _ {h : List ℕ} (b : List ℕ) (g t : ℕ) {m : List ℕ} (l : length b ≡ 56) (p : Held h b g t m) (s y : List ℕ) where
+  -- what waited and s are y, whole groups that go into the buffer behind the others, and the new tail
+  pub stored : {b′ : List ℕ} {g′ : ℕ} (t′ : ℕ) → 8 * (g % 8) + length y ≤ 56 → length y % 8 ≡ 0 → b′ ≡ paste b (8 * (g % 8)) y (length y)
+      → g′ ≡ (g + length y / 8) % 2 ^ 64 → y ++ waiting t′ ≡ waiting t ++ s → Held h b′ g′ t′ (m ++ s)
   unfolding hashValue
-  fits {t′ = t′} g e =
-      let q : length (take (t % 64) b ++ s) / 64 ≡ 0 = omega (arith, length-left) in
-      let n : t′ % 64 ≡ t % 64 + length s = omega arith in
-      grown p s (rw q refl)
-      (rw (q, n) (take-paste b (t % 64) s (length s) (omega arith) (omega arith) ∙ ap (λ (x : List ℕ). take (t % 64) b ++ x) (take-length s))) e
+  stored {b′} {g′} t′ i w e f d =
+      let x = take (8 * (g % 8)) b in
+      let n : length y + t′ % 8 ≡ t % 8 + length s =
+      omega (arith, ap length d, length-append y (waiting t′), length-append (waiting t) s, length-waiting t, length-waiting t′) in
+      let q : length ((x ++ waiting t) ++ s) / 64 ≡ 0 = omega (arith, length-left b g t s l) in
+      let k : 8 * (g′ % 8) ≡ 8 * (g % 8) + length y = omega arith in
+      let u : take (8 * (g′ % 8)) b′ ≡ x ++ y =
+      rw (k, e) (take-paste b (8 * (g % 8)) y (length y) (omega arith) (omega arith) ∙ ap (λ (z : List ℕ). x ++ z) (take-length y)) in
+      let v : take (8 * (g′ % 8)) b′ ++ waiting t′ ≡ (x ++ waiting t) ++ s =
+      ap (λ (z : List ℕ). z ++ waiting t′) u ∙ append-assoc x y (waiting t′) ∙ ap (λ (z : List ℕ). x ++ z) d ∙ sym (append-assoc x (waiting t) s) in
+      grown p s (rw q refl) (rw q v) (total g (length y) (t % 8) (t′ % 8) (length s) w n f)
 
-  -- s fills it
-  pub fills : {t′ : ℕ} {h′ x : List ℕ} (b′ : List ℕ) → t % 64 + length s ≡ 64 → x ≡ paste b (t % 64) s (length s) → h′ ≡ compress h x → t′ ≡ (t + length s) % 2 ^ 64
-      → Pending h′ (take (t′ % 64) b′) t′ (m ++ s)
-  unfolding hashValue block
-  fills {t′ = t′} {x = x} b′ g f d e =
-      let q : length (take (t % 64) b ++ s) / 64 ≡ 1 = omega (arith, length-left) in
-      let n : t′ % 64 ≡ 0 = omega arith in
-      let w : x ≡ take (t % 64) b ++ s =
-      f ∙ ap₂ {C = List ℕ} (λ (u v : List ℕ). (take (t % 64) b ++ u) ++ v) (take-length s) (drop-of-length-le b {i = t % 64 + length s} (omega arith))
-      ∙ append-nil (take (t % 64) b ++ s) in
-      grown p s (rw q (d ∙ ap (compress h) (w ∙ sym (take-all 64 (take (t % 64) b ++ s) (omega (arith, length-left))))))
-      (rw (q, n) (sym (drop-of-length-le (take (t % 64) b ++ s) {i = 64} (omega (arith, length-left))))) e
+  -- what waited and s are y, which completes blocks
+  pub filled : {h′ : List ℕ} {g′ : ℕ} (b′ : List ℕ) → (8 * (g % 8) + length y) % 64 ≡ 0 → y ≡ waiting t ++ s
+      → h′ ≡ hashValue h ((8 * (g % 8) + length y) / 64) (take (8 * (g % 8)) b ++ y) → g′ ≡ (g + length y / 8) % 2 ^ 64 → Held h′ b′ g′ 0 (m ++ s)
+  unfolding bytes
+  filled {h′} {g′} b′ w d e f =
+      let x = take (8 * (g % 8)) b in
+      let n : length y ≡ t % 8 + length s = omega (arith, ap length d, length-append (waiting t) s, length-waiting t) in
+      let k : g′ % 8 ≡ 0 = omega arith in
+      let v : x ++ y ≡ (x ++ waiting t) ++ s = ap (λ (z : List ℕ). x ++ z) d ∙ sym (append-assoc x (waiting t) s) in
+      let q : (8 * (g % 8) + length y) / 64 ≡ length ((x ++ waiting t) ++ s) / 64 = omega (arith, length-left b g t s l) in
+      grown p s (e ∙ ap₂ (hashValue h) q v)
+      (rw k (sym (drop-of-length-le ((x ++ waiting t) ++ s) {i = 64 * (length ((x ++ waiting t) ++ s) / 64)} (omega (arith, length-left b g t s l)))))
+      (omega arith)
 
-  -- the buffer is empty: the whole blocks of s are compressed, and what follows them goes into the buffer
-  pub starts : {t′ : ℕ} {h′ : List ℕ} (r : List ℕ) → t % 64 ≡ 0 → h′ ≡ hashValue h (length s / 64) s → r ≡ drop (64 * (length s / 64)) s
-      → t′ ≡ (t + length s) % 2 ^ 64 → Pending h′ (take (t′ % 64) (paste b 0 r (length r))) t′ (m ++ s)
-  starts {t′ = t′} r g d f e =
-      let z : take (t % 64) b ++ s ≡ s = rw g in
-      let n : length r ≡ length s % 64 = ap length f ∙ length-drop (64 * (length s / 64)) s ∙ omega arith in
-      let k : t′ % 64 ≡ 0 + length r = omega arith in
-      grown p s (rw z d) (rw (z, k) (take-paste b 0 r (length r) (omega arith) (omega arith) ∙ take-length r ∙ f)) e
+-- one block, which begins with u bytes of b and has y behind them
+pub one : (h b y : List ℕ) (u : ℕ) {h′ : List ℕ} (x : List ℕ) → u ≤ length b → u + length y ≡ 64 → length x ≡ 64 → take (u + length y) x ≡ take u b ++ y → h′ ≡ compress h x
+    → h′ ≡ hashValue h ((u + length y) / 64) (take u b ++ y)
+unfolding hashValue block
+one h b y u x i w l e d =
+    let q : (u + length y) / 64 ≡ 1 = omega arith in
+    let n : length (take u b ++ y) ≡ 64 = length-append (take u b) y ∙ omega (arith, length-take-le u b i) in
+    rw q (d ∙ ap (compress h) (sym (take-all (u + length y) x (omega arith)) ∙ e ∙ sym (take-all 64 (take u b ++ y) (omega arith))))
+
+-- b and then s, copied to the start of d
+pub front : (d b s : List ℕ) (u : ℕ) {x y : List ℕ} → x ≡ paste d 0 b (length b) → y ≡ paste x u s (length s) → u ≤ length b → length b ≤ length d
+    → take (u + length s) y ≡ take u b ++ s
+front d b s u {x} e f h l =
+    let n : length x ≡ length d = ap length e ∙ length-paste d 0 b (length b) (omega arith) (omega arith) in
+    ap (take (u + length s)) f ∙ take-paste x u s (length s) (omega arith) (omega arith)
+    ∙ ap₂ {C = List ℕ} (λ (v w : List ℕ). v ++ w)
+    (ap (take u) (e ∙ paste-front d b (length b) refl) ∙ take-append-le u b (drop (length b) d) h)
+    (take-length s)
 
 -- what follows the whole blocks of s, as the code cuts it out
 pub rest-of : (s : List ℕ) → take (length s - length s / 64 * 64) (drop (length s / 64 * 64) s) ≡ drop (64 * (length s / 64)) s

@@ -5,4 +5,5 @@ pub mod HashLaws
 pub mod PaddingLaws
 pub mod RoundLaws
 pub mod ScheduleLaws
+pub mod TailLaws
 pub mod WordLaws
