@@ -132,27 +132,9 @@ room n i h le =
       enough = omega (arith, held-most n (suc i) (omega arith) le, held-next n i h);
     }
 
--- Both counts, as the code gives them, from those of the half that the next block is in.
+-- Both counts, as the code gives them.
 abbrev pub Counted : ℕ → ℕ → ℕ → ℕ → Type 0
 Counted n i h c = (h ≡ held n i) × (c ≡ carried n (i + 1))
-
-pub counted-one : (n i : ℕ) → n ≡ 1 → i < n → Counted n i 1 0
-counted-one n i e lt = let z : i ≡ 0 = omega arith in rw z (sym (held-zero n), sym (carried-leaf n (omega arith)))
-
-module _ (n k i h c : ℕ) (big : 1 < n) (is : k ≡ split n) where
-  pub counted-first : i ≡ 0 → Counted k 0 h c → Counted n i 1 (c + 1)
-  counted-first z e = rw z (sym (held-zero n), ap (λ x. x + 1) (e .1) ∙ sym (carried-first n k big is))
-
-  pub counted-left : 0 < i → i < k → Counted k i h c → Counted n i (h + 1) c
-  counted-left pos low e =
-      let z : i + 1 ≡ suc i = omega arith in
-      (ap (λ x. x + 1) (e .0) ∙ sym (held-left n k big is i pos low), e .1 ∙ ap (carried k) z ∙ sym (carried-left n k big is i pos low) ∙ ap (carried n) (sym z))
-
-  pub counted-right : k ≤ i → i < n → Counted (n - k) (i - k) h c → Counted n i h c
-  counted-right high lt e =
-      let z : i + 1 ≡ suc i = omega arith in
-      let y : i - k + 1 ≡ suc (i - k) = omega arith in
-      (e .0 ∙ sym (held-right n k big is i high lt), e .1 ∙ ap (carried (n - k)) y ∙ sym (carried-right n k big is i high lt) ∙ ap (carried n) (sym z))
 
 pub counted-most : (n i h c : ℕ) → i < n → n ≤ maxBlocks → Counted n i h c → (0 < h) × (h ≤ maxHeld) × (c + h ≤ suc maxHeld)
 counted-most n i h c lt le e =

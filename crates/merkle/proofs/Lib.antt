@@ -9,6 +9,7 @@ pub mod PathLaws
 pub mod PathBindingLaws
 pub mod EarlyLaws
 pub mod CountLaws
+pub mod StepLaws
 pub mod HeldLaws
 pub mod RunLaws
 pub mod TreeLaws
