@@ -4,3 +4,4 @@ pub mod PartLaws
 pub mod RunLaws
 pub mod MessageLaws
 pub mod LoadLaws
+pub mod PackLaws
