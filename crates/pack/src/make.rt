@@ -10,17 +10,17 @@ pub struct Made {
 }
 
 fn refuse(refusal: Refusal) {
-    match refusal {
-        Refusal::Size => io::write_all(
+    if let Refusal::Size = refusal {
+        io::write_all(
             STDERR_FILENO,
             b"size: BLOCK must be 64, 128, 256, 512 or 1024, and image.bin 1 to 4096 blocks long\n",
-        ),
-        _ => io::write_all(
+        );
+    } else {
+        io::write_all(
             STDERR_FILENO,
             b"area: the bundle would have over 65536 bytes\n",
-        ),
+        );
     }
-    ;
 }
 
 // The manifest, for signing.
