@@ -13,7 +13,7 @@ use Rattle.bundle.proofs.packing.put_blocks.Statement.{statement}
 use Rattle.bundle.proofs.packing.put_blocks.Tie as tie
 
 abbrev Inv-loop : tie.InvT-loop
-Inv-loop image len n out₀ at₀ number₀ out at number = (number ≤ n) × (at ≤ length out₀) × Put out₀ out (blockMessages digest (job image len 0 0) number) at
+Inv-loop image len n out₀ at₀ number₀ out at number = Put out₀ out (blockMessages digest (job image len 0 0) number) at × (number ≤ n) × (at ≤ length out₀)
 
 abbrev μ-loop : tie.MeasureT-loop
 μ-loop image len n out₀ at₀ number₀ out at number = n - number
@@ -27,19 +27,19 @@ more c =
     let s = c .before .before .before .before .before .before .before .before .before in
     let l = c .before .before .before .before .before .before .loop in
     let e = s .pre .1 in
-    block-behind (job (s .args .image .now) (s .args .len) 0 0) (s .pre .0) (c .written .ensures) (l .number) (l .inv .2) (omega (arith, e)) (rw e at (s .pre .2)) (c .before .before .before .block .ensures)
+    block-behind (job (s .args .image .now) (s .args .len) 0 0) (s .pre .0) (c .written .ensures) (l .number) (l .inv .0) (omega (arith, e)) (rw e at (s .pre .2)) (c .before .before .before .block .ensures)
 
 loop-holds : tie.Need-loop-holds Inv-loop μ-loop
-loop-holds c = (omega arith, omega arith, no-messages _ _)
+loop-holds c = (no-messages _ _, omega arith, omega arith)
 
 add-number : tie.Need-add-number Inv-loop μ-loop
 add-number c = search needs
 
 sub-block : tie.Need-sub-block Inv-loop μ-loop
-sub-block c = let l = c .before .loop in omega (arith, length-put (l .inv .2) (l .inv .1))
+sub-block c = let l = c .before .loop in omega (arith, length-put (l .inv .0) (l .inv .2))
 
 part-block-start : tie.Need-part-block-start Inv-loop μ-loop
-part-block-start c = let l = c .before .loop in omega (arith, length-put (l .inv .2) (l .inv .1))
+part-block-start c = let l = c .before .loop in omega (arith, length-put (l .inv .0) (l .inv .2))
 
 part-block-end : tie.Need-part-block-end Inv-loop μ-loop
 part-block-end c = search needs
@@ -57,16 +57,16 @@ loop-less : tie.Need-loop-less Inv-loop μ-loop
 loop-less c = search needs
 
 loop-again : tie.Need-loop-again Inv-loop μ-loop
-loop-again c = (omega arith, more c .0, more c .1)
+loop-again c = (more c .1, omega arith, more c .0)
 
 same-length : tie.Need-same-length Inv-loop μ-loop
-same-length c = let l = c .before .loop in length-put (l .inv .2) (l .inv .1)
+same-length c = let l = c .before .loop in length-put (l .inv .0) (l .inv .2)
 
 returns : tie.Need-returns Inv-loop μ-loop
 returns c =
     let l = c .before .loop in
-    let e : l .number ≡ c .before .before .before .before .args .n = omega (arith, l .inv .0) in
-    let b = rw e at (l .inv .2) in
+    let e : l .number ≡ c .before .before .before .before .args .n = omega (arith, l .inv .1) in
+    let b = rw e at (l .inv .0) in
     (sym (b .size), b .is)
 
 pub put-blocks-spec : {M : Type 1} → statement M
