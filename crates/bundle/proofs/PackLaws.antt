@@ -32,7 +32,7 @@ use Rattle.sender.proofs.PutLaws.{Put, put-more, length-put, put-part}
 use Rattle.bundle.specs.Bundle.{blockMessages, bundleFor}
 
 -- a block message has neither model nor serial
-pub same-messages : (image : List ℕ) (L model serial i : ℕ) → blockMessages digest (job image L 0 0) i ≡ blockMessages digest (job image L model serial) i
+same-messages : (image : List ℕ) (L model serial i : ℕ) → blockMessages digest (job image L 0 0) i ≡ blockMessages digest (job image L model serial) i
 unfolding blockMessages blockFor blocks count
 same-messages image L model serial zero = refl
 same-messages image L model serial (suc i) = ap (λ (x : List ℕ). x ++ blockFor digest (job image L model serial) (suc i)) (same-messages image L model serial i)
@@ -154,26 +154,31 @@ module _ {image : List ℕ} {L n : ℕ} (y : Ready image L n) (model serial : �
   abbrev this : Job
   this = job image L model serial
 
-  -- the bundle from its parts
-  bundle-is : (blockMessages digest (job image L 0 0) n ++ programFor digest this signature) ++ bytes 4 (length (programFor digest this signature)) ≡ bundleFor digest this [] signature
+  -- all but the trailer
+  abbrev front : List ℕ
+  front = blockMessages digest (job image L 0 0) n ++ programFor digest this signature
+
+  abbrev trailer : List ℕ
+  trailer = bytes 4 (length (programFor digest this signature))
+
+  bundle-is : front ++ trailer ≡ bundleFor digest this [] signature
   unfolding bundleFor count
   bundle-is =
-      ap (λ (x : List ℕ). (x ++ programFor digest this signature) ++ bytes 4 (length (programFor digest this signature)))
+      ap (λ (x : List ℕ). (x ++ programFor digest this signature) ++ trailer)
       (same-messages image L model serial n ∙ ap (blockMessages digest this) (y .counted) ∙ sym (append-nil (blockMessages digest this (blockCount L (length image)))))
+
+  length-trailer : length trailer ≡ 4
+  length-trailer = length-bytes 4 (length (programFor digest this signature))
 
   pub length-bundle : length (bundleFor digest this [] signature) ≡ n * (3 + L) + 32 * (n - 1) + 49 + 4 + length signature
   length-bundle =
-      let b = blockMessages digest (job image L 0 0) n in
-      let p = programFor digest this signature in
-      ap length (sym bundle-is) ∙ length-append (b ++ p) (bytes 4 (length p))
-      ∙ omega (arith, length-append b p, y .blocks, length-program this signature, length-bytes 4 (length p))
+      ap length (sym bundle-is) ∙ length-append front trailer
+      ∙ omega (arith, length-append (blockMessages digest (job image L 0 0) n) (programFor digest this signature), y .blocks, length-program this signature, length-trailer)
 
-  -- the trailer behind the rest
-  pub trailer-behind : {d r r′ : List ℕ} {at k : ℕ} {trailer : List ℕ} → Put d r (blockMessages digest (job image L 0 0) n ++ programFor digest this signature) at
-      → k ≡ 49 + length signature → trailer ≡ bytes 4 (k % 4294967296) → at + 4 ≤ length d → r′ ≡ paste r at trailer (length trailer)
-      → r′ ≡ bundleFor digest this [] signature ++ drop (at + 4) d
-  trailer-behind {d} {r} {r′} {at} {k} {trailer} b e f room g =
-      let t : trailer ≡ bytes 4 (length (programFor digest this signature)) = f ∙ bytes-mod 4 k ∙ ap (bytes 4) (e ∙ sym (length-program this signature)) in
-      let l : length trailer ≡ 4 = ap length t ∙ length-bytes 4 (length (programFor digest this signature)) in
-      let w = put-more b trailer (at + 4) (omega arith) (omega arith) g in
-      w .is ∙ ap (λ (x : List ℕ). x ++ drop (at + 4) d) (ap (λ (x : List ℕ). (blockMessages digest (job image L 0 0) n ++ programFor digest this signature) ++ x) t ∙ bundle-is)
+  -- the trailer behind the rest: t, which the code works out from the distance k
+  pub trailer-behind : {d r r′ : List ℕ} {at k : ℕ} {t : List ℕ} → Put d r front at → k ≡ 49 + length signature → t ≡ bytes 4 (k % 4294967296) → at + 4 ≤ length d
+      → r′ ≡ paste r at t (length t) → r′ ≡ bundleFor digest this [] signature ++ drop (at + 4) d
+  trailer-behind {d} {r} {r′} {at} {k} {t} b e f room g =
+      let is : t ≡ trailer = f ∙ bytes-mod 4 k ∙ ap (bytes 4) (e ∙ sym (length-program this signature)) in
+      let four : length t ≡ 4 = ap length is ∙ length-trailer in
+      put-more b t (at + 4) (omega arith) (omega arith) g .is ∙ ap (λ (x : List ℕ). x ++ drop (at + 4) d) (ap (λ (x : List ℕ). front ++ x) is ∙ bundle-is)

@@ -61,7 +61,8 @@ fn without_signature(slip: &[u8]) {
 
 fn with_image(image: &[u8], len: u32, model: u32, serial: u32) {
     let mut slip = [0u8; 48];
-    if !make::slip(image, len, model, serial, &mut slip) {
+    let made = make::slip(image, len, model, serial, &mut slip);
+    if !made.done {
         return;
     }
     // A longer one fits no bundle.

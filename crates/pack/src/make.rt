@@ -2,8 +2,14 @@
 use libc::STDERR_FILENO;
 use sender::Sent;
 use wire::Refusal;
+ghost use mathlib.Core.Path.{_≡_};
 ghost use Rattle.io.specs.Counts.{Counts};
+ghost use Rattle.sender.specs.Job.{job};
+ghost use Rattle.sender.specs.Send.{sendManifest};
+ghost use Rattle.bundle.specs.Bundle.{sendBundle};
+ghost use Rattle.pack.specs.Make.{wrote, lengthOf, Makes};
 
+// So many bytes, or, where nothing is done, none.
 pub struct Made {
     pub len: usize,
     pub done: bool,
@@ -23,15 +29,26 @@ fn refuse(refusal: Refusal) {
     }
 }
 
-// The manifest, for signing.
-pub fn slip(image: &[u8], len: u32, model: u32, serial: u32, out: &mut [u8]) -> bool {
-    match sender::manifest(image, len, model, serial, out) {
-        Sent::Written(_) => true,
+fn outcome(sent: Sent) -> Made
+    ensures { λ r. ⌜ (r .done ≡ wrote sent) × (r .len ≡ lengthOf sent) ⌝ }
+{
+    match sent {
+        Sent::Written(len) => Made { len, done: true },
         Sent::Refused(refusal) => {
             refuse(refusal);
-            false
+            Made {
+                len: 0,
+                done: false,
+            }
         }
     }
+}
+
+// The manifest, for signing.
+pub fn slip(image: &[u8], len: u32, model: u32, serial: u32, out: &mut [u8]) -> Made
+    ensures { λ r. ⌜ Makes (sendManifest (job (now (image .entry)) len model serial) (now (out .entry))) (r .done) (r .len) (now (out .exit)) ⌝ }
+{
+    outcome(sender::manifest(image, len, model, serial, out))
 }
 
 pub fn bundle(
@@ -42,16 +59,8 @@ pub fn bundle(
     signature: &[u8],
     out: &mut [u8],
 ) -> Made
+    ensures { λ r. ⌜ Makes (sendBundle (job (now (image .entry)) len model serial) (now (signature .entry)) (now (out .entry))) (r .done) (r .len) (now (out .exit)) ⌝ }
     ensures { λ r. ⌜ Counts (r .len) (now (out .exit)) ⌝ }
 {
-    match bundle::pack(image, len, model, serial, signature, out) {
-        Sent::Written(len) => Made { len, done: true },
-        Sent::Refused(refusal) => {
-            refuse(refusal);
-            Made {
-                len: 0,
-                done: false,
-            }
-        }
-    }
+    outcome(bundle::pack(image, len, model, serial, signature, out))
 }
