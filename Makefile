@@ -1,8 +1,8 @@
 .PHONY: demo test bench
 
-# Outside test data through the proved functions.
+# The main job on sample data: an image becomes a bundle, and a device takes it or refuses it.
 demo:
-	@rt check vectors >/dev/null && target/bin/vectors
+	@rt check pack loader >/dev/null && examples/demo
 
 # Every proof, every must-fail edit, every program and every test; the last line is 'N passed, M failed'.
 test:

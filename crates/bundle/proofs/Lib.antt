@@ -6,3 +6,4 @@ pub mod MessageLaws
 pub mod LoadLaws
 pub mod WholeLaws
 pub mod Sample
+pub mod PackLaws

@@ -1,8 +1,10 @@
-// The bundle loader on slices (01, 'Bundle and loader'): everything that the program `loader` decides and prints.
+// Bundles on slices (01, 'Bundle and loader'): everything that the program `loader` decides and prints, and the bundle that the program `pack` writes.
+mod packing;
 mod parts;
 mod run;
 mod text;
 
+pub use packing::pack;
 use text::put;
 use text::put_line;
 use text::put_state;

@@ -1,0 +1,18 @@
+use borrow.Author.Needs.{needs}
+use Rattle.bundle.proofs.packing.written.Statement.{statement}
+use Rattle.bundle.proofs.packing.written.Tie as tie
+
+enum-known-sent : tie.Need-enum-known-sent
+enum-known-sent c = search needs
+
+enum-told : tie.Need-enum-told
+enum-told c = search needs
+
+returns : tie.Need-returns
+returns c = λ k e. cc
+
+returns-2 : tie.Need-returns-2
+returns-2 c = λ k e. cc
+
+pub written-spec : {M : Type 1} → statement M
+written-spec = tie.close (tie.spec enum-known-sent enum-told returns returns-2)

@@ -1,0 +1,72 @@
+// A bundle as the showroom makes it (01, 'Bundle and loader'): the block messages, the kind 1 message and the trailer, with no filler.
+use octets::copy;
+use sender::Sent;
+use wire::Refusal;
+use wire::block_count;
+use wire::wrong_size;
+ghost use mathlib.Core.Path.{_≡_};
+ghost use mathlib.Core.Bool.{false};
+ghost use mathlib.Core.List.{_++_};
+ghost use Prim.Native.Nat.{ℕ, _≤_};
+ghost use lib.ListN.{length, drop};
+ghost use Rattle.sha256.specs.Sha256.{digest};
+ghost use Rattle.sender.specs.Job.{job, count};
+ghost use Rattle.sender.specs.Send.{Does, badSize};
+ghost use Rattle.bundle.specs.Bundle.{blockMessages, sendBundle};
+
+// How many bytes the sender wrote.
+fn written(sent: Sent) -> usize
+    ensures { λ r. ⌜ ((k : ℕ) → sent ≡ Sent.Written k → r ≡ k) ⌝ }
+{
+    match sent {
+        Sent::Written(k) => k,
+        Sent::Refused(_) => 0,
+    }
+}
+
+// The n block messages, from the start of `out`, and the index behind them. Only `pack` calls this, and nothing is left to refuse.
+fn put_blocks(image: &[u8], len: u32, n: u32, out: &mut [u8]) -> usize
+    requires { ⌜ (badSize (job (now image) len 0 0) ≡ false) × (n ≡ count (job (now image) len 0 0))
+        × (length (blockMessages digest (job (now image) len 0 0) n) ≤ length (now out)) ⌝ }
+    ensures { λ r. ⌜ (r ≡ length (blockMessages digest (job (now (image .entry)) len 0 0) n))
+        × (now (out .exit) ≡ blockMessages digest (job (now (image .entry)) len 0 0) n ++ drop r (now (out .entry))) ⌝ }
+{
+    let mut at: usize = 0;
+    let mut number: u32 = 0;
+    while number < n {
+        number += 1;
+        at += written(sender::block(image, len, number, &mut out[at..]));
+    }
+    at
+}
+
+// Refusals 5 and 8, in this order; then the bundle at the start of `out`, and no other byte.
+pub fn pack(
+    image: &[u8],
+    len: u32,
+    model: u32,
+    serial: u32,
+    signature: &[u8],
+    out: &mut [u8],
+) -> Sent
+    ensures { λ r. ⌜ Does (sendBundle (job (now (image .entry)) len model serial) (now (signature .entry)) (now (out .entry))) r (now (out .exit)) ⌝ }
+{
+    let block = len as usize;
+    if wrong_size(block, image.len()) {
+        return Sent::Refused(Refusal::Size);
+    }
+    let n = block_count(block, image.len());
+    // A block message has kind, number and block; all n together carry n - 1 hashes. Then the kind 1 message, without its signature, and the trailer.
+    let least = n * (3 + block) + merkle::HASH_LEN * (n - 1) + 49 + 4;
+    if out.len() < least {
+        return Sent::Refused(Refusal::Area);
+    }
+    if out.len() - least < signature.len() {
+        return Sent::Refused(Refusal::Area);
+    }
+    let at = put_blocks(image, len, n as u32, out);
+    let distance = written(sender::program(image, len, model, serial, signature, &mut out[at..]));
+    let end = at + distance;
+    copy(out, end, &octets::be32((distance % 0x100000000) as u32));
+    Sent::Written(end + 4)
+}

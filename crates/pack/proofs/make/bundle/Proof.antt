@@ -1,0 +1,20 @@
+use native.Mathlib.Omega.{arith}
+use Rattle.pack.proofs.MakeLaws.{bundle-fits, makes}
+use borrow.Author.Needs.{needs}
+use Rattle.pack.proofs.make.bundle.Statement.{statement}
+use Rattle.pack.proofs.make.bundle.Tie as tie
+
+pack-requires : tie.Need-pack-requires
+pack-requires c κs = search needs
+
+outcome-requires : tie.Need-outcome-requires
+outcome-requires c κs = search needs
+
+same-length : tie.Need-same-length
+same-length c = search needs
+
+returns : tie.Need-returns
+returns c = (makes (c .before .before .before .pack .ensures) (c .outcome .ensures), bundle-fits _ _ _ _ (c .before .before .before .pack .ensures) (c .outcome .ensures .1) (omega arith))
+
+pub bundle-spec : {M : Type 1} → statement M
+bundle-spec = tie.close (tie.spec pack-requires outcome-requires same-length returns)

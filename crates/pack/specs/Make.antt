@@ -1,0 +1,23 @@
+-- What the tool learns from the sender's answer.
+use mathlib.Core.Path.{_≡_}
+use mathlib.Core.Bool.{Bool, true, false}
+use mathlib.Core.List.{List}
+use Prim.Native.Nat.{ℕ}
+use Rattle.sender.specs.declared.send.Sent.{Sent}
+use Rattle.sender.specs.declared.send.Sent.the-variants.{Written, Refused}
+use Rattle.sender.specs.Send.{Result}
+
+-- whether anything was written, and how many bytes
+abbrev pub wrote : Sent → Bool
+wrote (Written k) = true
+wrote (Refused r) = false
+
+abbrev pub lengthOf : Sent → ℕ
+lengthOf (Written k) = k
+lengthOf (Refused r) = 0
+
+-- both, and the buffer, are those of the result
+pub record Makes (s : Result) (done : Bool) (len : ℕ) (buffer : List ℕ) : Type 0 where
+  pub told : done ≡ wrote (s .answer)
+  pub counted : len ≡ lengthOf (s .answer)
+  pub left : buffer ≡ s .buffer

@@ -1,0 +1,66 @@
+// The bytes of slip.bin and bundle.bin. A refusal is told on standard error by its word.
+use libc::STDERR_FILENO;
+use sender::Sent;
+use wire::Refusal;
+ghost use mathlib.Core.Path.{_≡_};
+ghost use Rattle.io.specs.Counts.{Counts};
+ghost use Rattle.sender.specs.Job.{job};
+ghost use Rattle.sender.specs.Send.{sendManifest};
+ghost use Rattle.bundle.specs.Bundle.{sendBundle};
+ghost use Rattle.pack.specs.Make.{wrote, lengthOf, Makes};
+
+// So many bytes, or, where nothing is done, none.
+pub struct Made {
+    pub len: usize,
+    pub done: bool,
+}
+
+fn refuse(refusal: Refusal) {
+    if let Refusal::Size = refusal {
+        io::write_all(
+            STDERR_FILENO,
+            b"size: BLOCK must be 64, 128, 256, 512 or 1024, and image.bin 1 to 4096 blocks long\n",
+        );
+    } else {
+        io::write_all(
+            STDERR_FILENO,
+            b"area: the bundle would have over 65536 bytes\n",
+        );
+    }
+}
+
+fn outcome(sent: Sent) -> Made
+    ensures { λ r. ⌜ (r .done ≡ wrote sent) × (r .len ≡ lengthOf sent) ⌝ }
+{
+    match sent {
+        Sent::Written(len) => Made { len, done: true },
+        Sent::Refused(refusal) => {
+            refuse(refusal);
+            Made {
+                len: 0,
+                done: false,
+            }
+        }
+    }
+}
+
+// The manifest, for signing.
+pub fn slip(image: &[u8], len: u32, model: u32, serial: u32, out: &mut [u8]) -> Made
+    ensures { λ r. ⌜ Makes (sendManifest (job (now (image .entry)) len model serial) (now (out .entry))) (r .done) (r .len) (now (out .exit)) ⌝ }
+{
+    outcome(sender::manifest(image, len, model, serial, out))
+}
+
+pub fn bundle(
+    image: &[u8],
+    len: u32,
+    model: u32,
+    serial: u32,
+    signature: &[u8],
+    out: &mut [u8],
+) -> Made
+    ensures { λ r. ⌜ Makes (sendBundle (job (now (image .entry)) len model serial) (now (signature .entry)) (now (out .entry))) (r .done) (r .len) (now (out .exit)) ⌝ }
+    ensures { λ r. ⌜ Counts (r .len) (now (out .exit)) ⌝ }
+{
+    outcome(bundle::pack(image, len, model, serial, signature, out))
+}
