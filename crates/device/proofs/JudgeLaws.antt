@@ -65,12 +65,12 @@ pass (later e f) = (e, pass f)
 -- Kinds 1 and 3, after the manifest's own tests.
 module _ (H : List ℕ → List ℕ) (valid : (key message signature : List ℕ) → Bool) (d : Device) (flash m : List ℕ) where
   abbrev pub programRest : Manifest → List (Refusal × Bool)
-  programRest s = (refusal.Area, tooSmall s flash) ∷ (refusal.Unsigned, unsigned H valid d (manifestBytes m) (programSignature m)) ∷ []
+  programRest s = (refusal.Area, tooSmall s flash) ∷ (refusal.Unsigned, unsigned valid d (manifestBytes m) (programSignature m)) ∷ []
 
   abbrev pub updateEnd : Manifest → List (Refusal × Bool)
   updateEnd s =
       (refusal.Length, ltb (length m) (51 + s .block))
-      ∷ (refusal.Unsigned, unsigned H valid d (manifestBytes m) (updateSignature (s .block) m))
+      ∷ (refusal.Unsigned, unsigned valid d (manifestBytes m) (updateSignature (s .block) m))
       ∷ (refusal.Mismatch, lacksRoot H s (withBlock (s .block) flash (updateNumber m) (updateBlock (s .block) m)))
       ∷ []
 
@@ -81,7 +81,7 @@ module _ (H : List ℕ → List ℕ) (valid : (key message signature : List ℕ)
       ∷ (refusal.Turn, outside (countOf s) (updateNumber m))
       ∷ updateEnd s
 
-  pub program-found : {s : Manifest} {a : Answer} → s ≡ manifestIn m → Cascade (ofManifest d s ++ programRest s) a → a ≡ answerOf (firstThatApplies (ofProgram H valid d flash m))
+  pub program-found : {s : Manifest} {a : Answer} → s ≡ manifestIn m → Cascade (ofManifest d s ++ programRest s) a → a ≡ answerOf (firstThatApplies (ofProgram valid d flash m))
   unfolding ofProgram ofManifest
   program-found {s} {a} e k = found (subst (λ z. Cascade (ofManifest d z ++ programRest z) a) e k)
 
@@ -99,7 +99,7 @@ module _ (H : List ℕ → List ℕ) (valid : (key message signature : List ℕ)
       ∷ (refusal.Length, wrongLength (d .manifest) i m)
       ∷ (refusal.Mismatch, mismatch H d i m)
       ∷ []) a
-      → a ≡ answerOf (firstThatApplies (ofBlock H valid d flash m))
+      → a ≡ answerOf (firstThatApplies (ofBlock H d flash m))
   unfolding ofBlock
   block-found e k = found (rw e at k)
 

@@ -88,29 +88,14 @@ withBlock L flash i block = paste flash (pred i * L) block (length block)
 unfoldable pub updated : List ℕ → List ℕ → List ℕ
 updated flash m = let s = manifestIn m in withBlock (s .block) flash (updateNumber m) (updateBlock (s .block) m)
 
-module _ (H : List ℕ → List ℕ) where
-  -- the root of the tree over the first n blocks of the flash
-  unfoldable pub treeOver : Manifest → List ℕ → List ℕ
-  treeOver s flash = hash H [] [] (cut (s .block) flash) 0 (shape (countOf s))
+-- "always 1, 2, 3"
+unfoldable pub always : Kind → Device → List ℕ → List (Refusal × Bool)
+always k d m = (refusal.State, senseless d) ∷ (refusal.Kind, noKind k) ∷ (refusal.Short, short k m) ∷ []
 
-  -- 14 for kind 2: the hash worked out from block and message differs from the held one
-  unfoldable pub mismatch : Device → ℕ → List ℕ → Bool
-  mismatch d i m =
-      let s = d .manifest in
-      not (fits H [] [] (countOf s) (pred i) (d .hashes) (blockIn (s .block) m) (hashesAfter (s .block) m))
-
-  -- 14 for kind 3: the tree over the flash with the new block lacks the new root
-  unfoldable pub lacksRoot : Manifest → List ℕ → Bool
-  lacksRoot s flash = not (equal (treeOver s flash) (s .root))
-
-module _ (H : List ℕ → List ℕ) (valid : (key message signature : List ℕ) → Bool) where
+module _ (valid : (key message signature : List ℕ) → Bool) where
   -- 9: signature not valid
   unfoldable pub unsigned : Device → (manifest signature : List ℕ) → Bool
   unsigned d manifest signature = not (valid (d .key) manifest signature)
-
-  -- "always 1, 2, 3"
-  unfoldable pub always : Kind → Device → List ℕ → List (Refusal × Bool)
-  always k d m = (refusal.State, senseless d) ∷ (refusal.Kind, noKind k) ∷ (refusal.Short, short k m) ∷ []
 
   -- "then kind 1: 4, 5, 6, 7, 8, 9"
   unfoldable pub ofProgram : Device → List ℕ → List ℕ → List (Refusal × Bool)
@@ -123,6 +108,13 @@ module _ (H : List ℕ → List ℕ) (valid : (key message signature : List ℕ)
       ∷ (refusal.Unsigned, unsigned d (manifestBytes m) (programSignature m))
       ∷ []
 
+module _ (H : List ℕ → List ℕ) where
+  -- 14 for kind 2: the hash worked out from block and message differs from the held one
+  unfoldable pub mismatch : Device → ℕ → List ℕ → Bool
+  mismatch d i m =
+      let s = d .manifest in
+      not (fits H [] [] (countOf s) (pred i) (d .hashes) (blockIn (s .block) m) (hashesAfter (s .block) m))
+
   -- "Kind 2: 10, 8, 11, 12, 14"
   unfoldable pub ofBlock : Device → List ℕ → List ℕ → List (Refusal × Bool)
   ofBlock d flash m =
@@ -132,9 +124,18 @@ module _ (H : List ℕ → List ℕ) (valid : (key message signature : List ℕ)
       ∷ (refusal.Area, tooSmall s flash)
       ∷ (refusal.Turn, notNext i m)
       ∷ (refusal.Length, wrongLength s i m)
-      ∷ (refusal.Mismatch, mismatch H d i m)
+      ∷ (refusal.Mismatch, mismatch d i m)
       ∷ []
 
+  -- the root of the tree over the first n blocks of the flash
+  unfoldable pub treeOver : Manifest → List ℕ → List ℕ
+  treeOver s flash = hash H [] [] (cut (s .block) flash) 0 (shape (countOf s))
+
+  -- 14 for kind 3: the tree over the flash with the new block lacks the new root
+  unfoldable pub lacksRoot : Manifest → List ℕ → Bool
+  lacksRoot s flash = not (equal (treeOver s flash) (s .root))
+
+module _ (H : List ℕ → List ℕ) (valid : (key message signature : List ℕ) → Bool) where
   -- "Kind 3: 10, 4, 5, 6, 7, 13, 8, 11, 12, 9, 14"
   unfoldable pub ofUpdate : Device → List ℕ → List ℕ → List (Refusal × Bool)
   ofUpdate d flash m =
@@ -148,12 +149,13 @@ module _ (H : List ℕ → List ℕ) (valid : (key message signature : List ℕ)
       ∷ (refusal.Area, tooSmall s flash)
       ∷ (refusal.Turn, outside (countOf s) (updateNumber m))
       ∷ (refusal.Length, ltb (length m) (51 + s .block))
-      ∷ (refusal.Unsigned, unsigned d (manifestBytes m) (updateSignature (s .block) m))
+      ∷ (refusal.Unsigned, unsigned valid d (manifestBytes m) (updateSignature (s .block) m))
       ∷ (refusal.Mismatch, lacksRoot H s (updated flash m))
       ∷ []
 
   unfoldable pub ofKind : Kind → Device → List ℕ → List ℕ → List (Refusal × Bool)
-  ofKind k d flash m = elim k [ kinds.Program ↦ ofProgram d flash m | kinds.Block ↦ ofBlock d flash m | kinds.Update ↦ ofUpdate d flash m | kinds.Unknown ↦ [] ]
+  ofKind k d flash m =
+      elim k [ kinds.Program ↦ ofProgram valid d flash m | kinds.Block ↦ ofBlock H d flash m | kinds.Update ↦ ofUpdate d flash m | kinds.Unknown ↦ [] ]
 
   unfoldable pub refusals : Kind → Device → List ℕ → List ℕ → List (Refusal × Bool)
   refusals k d flash m = always k d m ++ ofKind k d flash m

@@ -100,7 +100,7 @@ pub fn too_small(manifest: Manifest, flash: &[u8]) -> bool
 // 9, for a signature that starts at index `at`.
 pub fn unsigned(device: Device, message: &[u8], at: usize) -> bool
     requires { ⌜ (49 ≤ at) × (at ≤ length (now message)) ⌝ }
-    ensures { λ r. ⌜ r ≡ spec.unsigned digest valid device (manifestBytes (now (message .entry))) (drop at (now (message .entry))) ⌝ }
+    ensures { λ r. ⌜ r ≡ spec.unsigned valid device (manifestBytes (now (message .entry))) (drop at (now (message .entry))) ⌝ }
 {
     let key = device.key;
     !lms::verify(&key, &message[1..49], &message[at..])

@@ -84,7 +84,7 @@ fn judge_manifest(device: Device, manifest: Manifest) -> Answer
 // Kind 1: 4, 5, 6, 7, 8, 9.
 fn judge_program(device: Device, flash: &[u8], message: &[u8]) -> Answer
     requires { ⌜ 49 ≤ length (now message) ⌝ }
-    ensures { λ r. ⌜ r ≡ answerOf (firstThatApplies (ofProgram digest valid device (now (flash .entry)) (now (message .entry)))) ⌝ }
+    ensures { λ r. ⌜ r ≡ answerOf (firstThatApplies (ofProgram valid device (now (flash .entry)) (now (message .entry)))) ⌝ }
 {
     let manifest = wire::read(message, 1);
     let first = judge_manifest(device, manifest);
@@ -103,7 +103,7 @@ fn judge_program(device: Device, flash: &[u8], message: &[u8]) -> Answer
 // Kind 2: 10, 8, 11, 12, 14.
 fn judge_block(device: Device, flash: &[u8], message: &[u8]) -> Answer
     requires { ⌜ (spec.senseless device ≡ false) × (3 ≤ length (now message)) ⌝ }
-    ensures { λ r. ⌜ r ≡ answerOf (firstThatApplies (ofBlock digest valid device (now (flash .entry)) (now (message .entry)))) ⌝ }
+    ensures { λ r. ⌜ r ≡ answerOf (firstThatApplies (ofBlock digest device (now (flash .entry)) (now (message .entry)))) ⌝ }
 {
     let stage = device.stage;
     if not_loading(stage) {
