@@ -10,8 +10,6 @@ use lib.Seq.{take-all, drop-drop}
 use borrow.Author.Tests.{lt-ltb, le-ltb, ltb-false}
 use Rattle.wire.proofs.SizeLaws.{or-false}
 use Rattle.octets.specs.Octets.{number, part}
-use Rattle.merkle.specs.Limits.{hashLength}
-use Rattle.merkle.specs.Frontier.{carried, messageLength}
 use Rattle.bundle.specs.declared.parts.Start.the-variants.{At, Nowhere}
 use Rattle.bundle.specs.Parts.{trailerAt, distance, nowhere, slipAt, slipIn, beforeSlip}
 use Rattle.bundle.specs.Steps.{startOf, Cut}
@@ -31,12 +29,6 @@ cut-short b from len h g =
       message = take-all (length b - from) (drop from b) (omega arith) ∙ sym (take-all len (drop from b) (omega arith));
       rest = drop-of-length-le b {i = length b} (omega arith) ∙ sym (drop-of-length-le (drop from b) {i = len} (omega arith));
     }
-
-pub due-is : (L n i c : ℕ) → 0 < i → c ≡ carried n (i - 1 + 1) → 3 + L + hashLength * c ≡ messageLength L n i
-unfolding messageLength
-due-is L n i c pos e =
-    let z : i - 1 + 1 ≡ i = omega arith in
-    ap (λ (x : ℕ). 3 + L + hashLength * x) (e ∙ ap (carried n) z)
 
 module _ (b : List ℕ) where
   pub starts-nowhere : nowhere b ≡ true → Nowhere ≡ startOf b

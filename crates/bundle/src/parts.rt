@@ -1,9 +1,7 @@
 // Where the messages of a bundle stand.
 ghost use mathlib.Core.Path.{_≡_};
-ghost use Prim.Native.Nat.{_≤_, _<_};
+ghost use Prim.Native.Nat.{_≤_};
 ghost use lib.ListN.{length};
-ghost use Rattle.merkle.specs.Limits.{maxBlocks};
-ghost use Rattle.merkle.specs.Frontier.{messageLength};
 ghost use Rattle.bundle.specs.Steps.{startOf, Cut};
 
 // Where the kind 1 message (01: the slip) starts.
@@ -26,16 +24,7 @@ pub fn start_of(bundle: &[u8]) -> Start
     Start::At(trailer - distance)
 }
 
-// The bytes of block message `number` of n (01: its due length). Only `blocks` calls this and `cut`.
-pub fn due(block: usize, n: usize, number: usize) -> usize
-    requires { ⌜ (block ≤ 1024) × (0 < number) × (number ≤ n) × (n ≤ maxBlocks) ⌝ }
-    ensures { λ r. ⌜ r ≡ messageLength block n number ⌝ }
-{
-    let counts = merkle::count(n, number - 1);
-    3 + block + merkle::HASH_LEN * counts.carried
-}
-
-// The end of a message of `len` bytes from index `from` on, or the end of the bytes.
+// The end of a message of `len` bytes from index `from` on, or the end of the bytes. Only `blocks` calls this.
 pub fn cut(bytes: &[u8], from: usize, len: usize) -> usize
     requires { ⌜ from ≤ length (now bytes) ⌝ }
     ensures { λ r. ⌜ Cut (now (bytes .entry)) from len r ⌝ }

@@ -1,7 +1,6 @@
 // The messages of a bundle, handed to a device one after the other. Only `load` calls these, and meets their `requires`.
 use crate::parts::Start;
 use crate::parts::cut;
-use crate::parts::due;
 use crate::parts::start_of;
 use crate::text::put_message;
 use crate::text::put_state;
@@ -37,7 +36,7 @@ fn blocks(start: Device, flash: &mut [u8], bytes: &[u8], out: &mut [u8], from: u
     let mut read: usize = 0;
     let mut number: usize = 1;
     while number <= n {
-        let end = cut(bytes, read, due(block, n, number));
+        let end = cut(bytes, read, merkle::message_len(block, n, number));
         let reply = device::receive(device, flash, &bytes[read..end]);
         let answer = reply.answer;
         let next = reply.device;

@@ -90,13 +90,6 @@ due s i m e =
     let z : length m ≡ 3 + s .block + hashLength * carried (countOf s) i = eqb-true _ _ (not-false _ e) in
     record { long = omega arith; rest = length-drop (3 + s .block) m ∙ omega arith }
 
--- the length due, as the code works it out
-pub due-is : (s : Manifest) (i n c : ℕ) → 0 < i → n ≡ countOf s → c ≡ carried n (i - 1 + 1) → 3 + s .block + hashLength * c ≡ messageLength (s .block) (countOf s) i
-unfolding messageLength
-due-is s i n c pos e f =
-    let z : i - 1 + 1 ≡ i = omega arith in
-    ap (λ x. 3 + s .block + hashLength * x) (f ∙ ap₂ carried e z)
-
 -- the slices that the code takes of a block message
 pub slice-rest : (L : ℕ) (m : List ℕ) → take (length m - (3 + L)) (drop (3 + L) m) ≡ hashesAfter L m
 unfolding hashesAfter

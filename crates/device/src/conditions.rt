@@ -152,8 +152,7 @@ pub fn wrong_length(manifest: Manifest, next: u16, message: &[u8]) -> bool
     requires { ⌜ (badSize manifest ≡ false) × (0 < next) × (next ≤ countOf manifest) ⌝ }
     ensures { λ r. ⌜ r ≡ wrongLength manifest next (now (message .entry)) ⌝ }
 {
-    let counts = merkle::count(count(manifest), next as usize - 1);
-    message.len() != 3 + manifest.block as usize + merkle::HASH_LEN * counts.carried
+    message.len() != merkle::message_len(manifest.block as usize, count(manifest), next as usize)
 }
 
 // 13.

@@ -2,13 +2,13 @@
 use mathlib.Core.Path.{_≡_, refl, sym, ap, _∙_}
 use mathlib.Core.Logic.{⊎-elim}
 use mathlib.Core.List.{List, [], _∷_}
-use Prim.Native.Nat.{ℕ, zero, suc, _+_, _-_, _^_, max, _≤_, _<_}
+use Prim.Native.Nat.{ℕ, zero, suc, _+_, _-_, _*_, _^_, max, _≤_, _<_}
 use native.Mathlib.Omega.{arith}
 use lib.Dec.{lit≤}
 use lib.ListN.{length, length-append}
-use Rattle.merkle.specs.Limits.{maxBlocks, maxHeld}
+use Rattle.merkle.specs.Limits.{maxBlocks, maxHeld, hashLength}
 use Rattle.merkle.specs.Shape.{Shape, leaf, node, size, depth, split, shape}
-use Rattle.merkle.specs.Frontier.{rightSiblings, siblings, frontier, carried, held}
+use Rattle.merkle.specs.Frontier.{rightSiblings, siblings, frontier, carried, messageLength, held}
 use Rattle.merkle.proofs.ShapeLaws.{lt-or-le, shape-leaf, size-shape, depth-fits, depth-least, height, height-node, height-shape, halves, size-left, size-right}
 use Rattle.merkle.proofs.FrontierLaws.{on-halves, largest-zero, largest-left, largest-right, frontier-zero, frontier-leaf, frontier-left, frontier-right, frontier-all, Next, next}
 use Rattle.merkle.proofs.HashLaws.{Same, length-hashes, siblings-same, frontier-same}
@@ -145,3 +145,8 @@ counted-most n i h c lt le e =
     let most = k .most in
     let enough = k .enough in
     (omega arith, omega arith, omega arith)
+
+-- the bytes of a block message, from the count of hashes that it carries
+pub message-length : (L n i c : ℕ) → 0 < i → c ≡ carried n (i - 1 + 1) → 3 + L + hashLength * c ≡ messageLength L n i
+unfolding messageLength
+message-length L n i c pos e = let z : i - 1 + 1 ≡ i = omega arith in ap (λ x. 3 + L + hashLength * x) (e ∙ ap (carried n) z)

@@ -8,6 +8,7 @@ mod tree;
 
 pub use counting::Counts;
 pub use counting::count;
+pub use counting::message_len;
 pub use frontier::advance;
 pub use frontier::begin;
 pub use frontier::fits;

@@ -6,7 +6,6 @@ use mathlib.Core.List.{List, [], _++_, append-assoc}
 use Prim.Native.Nat.{ℕ, suc, _+_, _-_, _*_, _≤_, _<_}
 use native.Mathlib.Nat.{mul-le-mul-right, zero-add}
 use native.Mathlib.Omega.{arith}
-use native.Mathlib.Numerals.{add-one}
 use lib.ListN.{length, take, drop, replicate, length-append, length-drop, length-replicate, replicate-append-replicate}
 use lib.Seq.{paste, take-length, take-all, take-at, drop-at}
 use Rattle.octets.proofs.CopyLaws.{part-between}
@@ -17,7 +16,7 @@ use Rattle.merkle.specs.Hash.{hash}
 use Rattle.merkle.specs.Frontier.{carried, messageLength}
 use Rattle.merkle.specs.Held.{joined, sent}
 use Rattle.merkle.proofs.ShapeLaws.{lt-or-le, size-shape}
-use Rattle.merkle.proofs.CountLaws.{room}
+use Rattle.merkle.proofs.CountLaws.{message-length}
 use Rattle.merkle.proofs.HashLaws.{Same, hash-same, siblings-same}
 use Rattle.merkle.proofs.BlockLaws.{overlay-same, overlay-other}
 use Rattle.wire.specs.Size.{wrongSize, outside}
@@ -104,16 +103,12 @@ module _ (image : List ℕ) (len number n : ℕ) where
       let i = inside n number (sym eo ∙ o) in
       record { size = size; sized = z; count = e; inside = sym eo ∙ o; low = i .0; high = i .1; few = rw e (z .count) }
 
-  -- the message's length, from the count of hashes that it carries
-  module _ (t : Tested) (carries : ℕ) (e : carries ≡ carried n (number - 1 + 1)) where
-    number-back : number - 1 + 1 ≡ number
-    number-back = omega (arith, t .low)
-
-    pub carries-few : carries ≤ 13
-    carries-few = omega (arith, e, ap (carried n) (add-one (number - 1)), room n (number - 1) (omega (arith, t .low, t .high)) (t .few) .enough)
-
-    pub due : (model serial : ℕ) → length (blockFor digest (job image len model serial) number) ≡ 3 + len + 32 * carries
-    unfolding count messageLength
+  -- the message's length, and the hashes in it
+  module _ (t : Tested) where
+    pub due : (model serial : ℕ) → length (blockFor digest (job image len model serial) number) ≡ messageLength len n number
+    unfolding count
     due model serial =
-        length-block (job image len model serial) (t .sized) number (t .low) (omega (arith, t .high, t .count))
-        ∙ ap (λ (x : ℕ). 3 + len + 32 * x) (ap₂ carried (sym (t .count)) (sym number-back) ∙ sym e)
+        length-block (job image len model serial) (t .sized) number (t .low) (omega (arith, t .high, t .count)) ∙ ap (λ (x : ℕ). messageLength len x number) (sym (t .count))
+
+    pub parts : messageLength len n number ≡ 3 + len + 32 * carried n (number - 1 + 1)
+    parts = sym (message-length len n number (carried n (number - 1 + 1)) (t .low) refl)

@@ -74,8 +74,7 @@ pub fn block(image: &[u8], len: u32, number: u32, out: &mut [u8]) -> Sent
     if outside(n, i) {
         return Sent::Refused(Refusal::Turn);
     }
-    let counts = merkle::count(n, i - 1);
-    let due = 3 + block + 32 * counts.carried;
+    let due = merkle::message_len(block, n, i);
     if out.len() < due {
         return Sent::Refused(Refusal::Area);
     }

@@ -29,8 +29,8 @@ block-count-requires c κs = let z = sound _ (c .before .before .before .before 
 loop-holds : tie.Need-loop-holds Inv-loop μ-loop
 loop-holds c = looping-start _ _ _ _ _ _ _
 
-due-requires : tie.Need-due-requires Inv-loop μ-loop
-due-requires c κs =
+message-len-requires : tie.Need-message-len-requires Inv-loop μ-loop
+message-len-requires c κs =
     let z = sound _ (c .before .before .before .before .before .before .before .before .before .pre .0) in
     let l = c .before .loop in
     (omega (arith, z .most), l .inv .first, omega arith, few-blocks _ (c .before .before .before .before .before .before .before .before .before .pre .0) (c .before .before .block-count .ensures))
@@ -87,7 +87,7 @@ returns c =
     let s = c .before .before .before .before .before .before .before .before .before .before .before .before .before .before .before .before .before .before .before .before .before .before .before .before .before in
     let n = c .before .before .before .before .before .before .before .before .before .before .before .before .before .before .before .before .before .before .block-count in
     let few : n .result ≤ 4096 = few-blocks _ (s .pre .0) (n .ensures) in
-    let r = stopped _ _ _ _ _ _ _ (l .inv) (omega (arith, c .before .before .before .before .before .before .before .before .before .before .before .before .before .before .before .before .loop-test .taken)) few (s .pre .1) _ _ _ (c .before .before .before .before .before .before .before .before .before .before .before .before .before .before .before .due .ensures) (c .before .before .before .before .before .before .before .before .before .before .before .before .before .before .cut .ensures) (c .before .before .before .before .before .before .before .before .before .before .before .receive .ensures) _
+    let r = stopped _ _ _ _ _ _ _ (l .inv) (omega (arith, c .before .before .before .before .before .before .before .before .before .before .before .before .before .before .before .before .loop-test .taken)) few (s .pre .1) _ _ _ (c .before .before .before .before .before .before .before .before .before .before .before .before .before .before .before .message-len .ensures) (c .before .before .before .before .before .before .before .before .before .before .before .before .before .before .cut .ensures) (c .before .before .before .before .before .before .before .before .before .before .before .receive .ensures) _
     (c .before .before .before .before .before .answer-number .ensures) (omega arith) (c .before .before .before .before .put-message .ensures) _ (c .enum-told2 .given .1) in
     (rerun (all-blocks _ _ _ (n .ensures)) (r .0), r .1)
 
@@ -108,7 +108,7 @@ loop-again c =
     let s = c .before .before .before .before .before .before .before .before .before .before .before .before .before .before .before .before .before .before .before .before .before .before .before .before .before in
     let n = c .before .before .before .before .before .before .before .before .before .before .before .before .before .before .before .before .before .before .block-count in
     let few : n .result ≤ 4096 = few-blocks _ (s .pre .0) (n .ensures) in
-    one-more _ _ _ _ _ _ _ (l .inv) (omega (arith, c .before .before .before .before .before .before .before .before .before .before .before .before .before .before .before .before .loop-test .taken)) few (s .pre .1) _ _ _ (c .before .before .before .before .before .before .before .before .before .before .before .before .before .before .before .due .ensures) (c .before .before .before .before .before .before .before .before .before .before .before .before .before .before .cut .ensures) (c .before .before .before .before .before .before .before .before .before .before .before .receive .ensures) _
+    one-more _ _ _ _ _ _ _ (l .inv) (omega (arith, c .before .before .before .before .before .before .before .before .before .before .before .before .before .before .before .before .loop-test .taken)) few (s .pre .1) _ _ _ (c .before .before .before .before .before .before .before .before .before .before .before .before .before .before .before .message-len .ensures) (c .before .before .before .before .before .before .before .before .before .before .before .before .before .before .cut .ensures) (c .before .before .before .before .before .before .before .before .before .before .before .receive .ensures) _
     (c .before .before .before .before .before .answer-number .ensures) (omega arith) (c .before .before .before .before .put-message .ensures) (omega arith) (c .enum-told .given .1)
 
 same-length-3 : tie.Need-same-length-3 Inv-loop μ-loop
@@ -141,7 +141,7 @@ blocks-spec =
     cast-block-count
     block-count-requires
     loop-holds
-    due-requires
+    message-len-requires
     cut-requires
     sub-receive
     part-receive-start

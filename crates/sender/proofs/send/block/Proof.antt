@@ -14,7 +14,7 @@ use Rattle.wire.proofs.SizeLaws.{sized}
 use Rattle.wire.proofs.ImageLaws as image
 use Rattle.sender.specs.Job.{job, count, blockFor}
 use Rattle.sender.specs.Send.{badSize, sendBlock}
-use Rattle.sender.proofs.BlockLaws.{bounds, same-sent, Tested, tested, carries-few, due}
+use Rattle.sender.proofs.BlockLaws.{bounds, same-sent, Tested, tested, due, parts}
 use Rattle.sender.proofs.JobLaws as lengths
 use Rattle.sender.proofs.PutLaws.{length-put, put-part, block-head}
 use Rattle.sender.proofs.SendLaws.{size-refused-at, turn-refused, area-refused-at, all-written-at}
@@ -51,93 +51,82 @@ returns-2 c =
     turn-refused j (blockFor digest j (a .number)) (a .out .now) (a .number) (sym (c .before .before .before .before .wrong-size .ensures) ∙ c .before .before .before .if1 .left)
     (rw (k .ensures) at (sym (c .before .outside .ensures) ∙ c .if2 .taken))
 
-sub-count : tie.Need-sub-count
-sub-count c = let t = passed c in omega (arith, t .low)
-
-count-requires : tie.Need-count-requires
-count-requires c κs = let t = passed c in (omega (arith, t .low, t .high), t .few)
-
-add-due : tie.Need-add-due
-add-due c = search needs
-
-mul-due : tie.Need-mul-due
-mul-due c = let t = passed (c .before .before) in omega (arith, carries-few _ _ _ _ t _ (c .before .count .ensures .1))
-
-add-due-2 : tie.Need-add-due-2
-add-due-2 c = let t = passed (c .before .before) in omega (arith, carries-few _ _ _ _ t _ (c .before .count .ensures .1), t .sized .most)
+message-len-requires : tie.Need-message-len-requires
+message-len-requires c κs = let t = passed c in (t .sized .most, t .low, t .high, t .few)
 
 returns-3 : tie.Need-returns-3
 unfolding sendBlock badSize count
 returns-3 c =
-    let s = c .before .before .before in
+    let s = c .before .before in
     let a = s .before .before .before .before .before .before .before .args in
     let t = passed s in
     let j = job (a .image .now) (a .len) 0 0 in
     let o = rw (t .count) at (t .inside) in
-    area-refused-at j (blockFor digest j (a .number)) (a .out .now) (a .number) (t .size) o (omega (arith, due _ _ _ _ t _ (c .before .before .count .ensures .1) 0 0))
+    area-refused-at j (blockFor digest j (a .number)) (a .out .now) (a .number) (t .size) o (omega (arith, due _ _ _ _ t 0 0, c .before .message-len .ensures))
 
 last-block-requires : tie.Need-last-block-requires
-last-block-requires c κs = let t = passed (c .before .before .before) in (t .size, t .count)
+last-block-requires c κs = let t = passed (c .before .before) in (t .size, t .count)
 
 cast-put-block : tie.Need-cast-put-block
-cast-put-block c = let t = passed (c .before .before .before .before) in omega (arith, t .high, t .few)
+cast-put-block c = let t = passed (c .before .before .before) in omega (arith, t .high, t .few)
 
 array-share-prefix-last : tie.Need-array-share-prefix-last
-array-share-prefix-last c = let t = passed (c .before .before .before .before) in omega (arith, t .sized .most, c .last-block .ensures .0)
+array-share-prefix-last c = let t = passed (c .before .before .before) in omega (arith, t .sized .most, c .last-block .ensures .0)
 
 slice-aggregate-block-of : tie.Need-slice-aggregate-block-of
-slice-aggregate-block-of c = let t = passed (c .before .before .before .before .before) in simp length-take (omega (arith, t .sized .most, c .before .last-block .ensures .0))
+slice-aggregate-block-of c = let t = passed (c .before .before .before .before) in simp length-take (omega (arith, t .sized .most, c .before .last-block .ensures .0))
 
 sub-block-of : tie.Need-sub-block-of
-sub-block-of c = let t = passed (c .before .before .before .before .before) in omega (arith, t .low)
+sub-block-of c = let t = passed (c .before .before .before .before) in omega (arith, t .low)
 
 block-of-requires : tie.Need-block-of-requires
-block-of-requires c κs = let t = passed (c .before .before .before .before .before) in (t .size, t .count, omega (arith, t .low, t .high), c .before .last-block .ensures .1)
+block-of-requires c κs = let t = passed (c .before .before .before .before) in (t .size, t .count, omega (arith, t .low, t .high), c .before .last-block .ensures .1)
 
 put-block-requires : tie.Need-put-block-requires
 put-block-requires c κs =
-    let s = c .before .before .before .before .before .before .before in
+    let s = c .before .before .before .before .before .before in
     let a = s .before .before .before .before .before .before .before .args in
     let t = passed s in
     let l = ap length (c .before .block-of .ensures) ∙ image.length-block (a .len) (a .image .now) (t .sized) (a .number - 1) (omega (arith, t .low, t .high, t .count)) in
-    omega (arith, l)
+    omega (arith, l, parts _ _ _ _ t, c .before .before .before .before .before .message-len .ensures)
 
 add-from : tie.Need-add-from
 add-from c = search needs
 
 sub-write-siblings : tie.Need-sub-write-siblings
-sub-write-siblings c = search needs
+sub-write-siblings c = let t = passed (c .before .before .before .before .before .before .before .before .before) in omega (arith, parts _ _ _ _ t, c .before .before .before .before .before .before .before .before .message-len .ensures, c .before .before .before .before .before .before .before .if3 .left)
 
 part-write-siblings-start : tie.Need-part-write-siblings-start
-part-write-siblings-start c = search needs
+part-write-siblings-start c = let t = passed (c .before .before .before .before .before .before .before .before .before) in omega (arith, parts _ _ _ _ t, c .before .before .before .before .before .before .before .before .message-len .ensures, c .before .before .before .before .before .before .before .if3 .left)
 
 part-write-siblings-end : tie.Need-part-write-siblings-end
 part-write-siblings-end c = search needs
 
 sub-write-siblings-2 : tie.Need-sub-write-siblings-2
-sub-write-siblings-2 c = let t = passed (c .before .before .before .before .before .before .before .before .before .before .before) in omega (arith, t .low)
+sub-write-siblings-2 c = let t = passed (c .before .before .before .before .before .before .before .before .before .before) in omega (arith, t .low)
 
 sub-write-siblings-3 : tie.Need-sub-write-siblings-3
-sub-write-siblings-3 c = let t = passed (c .before .before .before .before .before .before .before .before .before .before .before) in omega (arith, t .low, t .high)
+sub-write-siblings-3 c = let t = passed (c .before .before .before .before .before .before .before .before .before .before) in omega (arith, t .low, t .high)
 
 array-share-prefix-last-2 : tie.Need-array-share-prefix-last-2
-array-share-prefix-last-2 c = let t = passed (c .before .before .before .before .before .before .before .before .before .before .before) in omega (arith, t .sized .most, c .before .before .before .before .before .before .before .last-block .ensures .0)
+array-share-prefix-last-2 c = let t = passed (c .before .before .before .before .before .before .before .before .before .before) in omega (arith, t .sized .most, c .before .before .before .before .before .before .before .last-block .ensures .0)
 
 slice-aggregate-write-siblings : tie.Need-slice-aggregate-write-siblings
-slice-aggregate-write-siblings c = let t = passed (c .before .before .before .before .before .before .before .before .before .before .before .before) in simp length-take (omega (arith, t .sized .most, c .before .before .before .before .before .before .before .before .last-block .ensures .0))
+slice-aggregate-write-siblings c = let t = passed (c .before .before .before .before .before .before .before .before .before .before .before) in simp length-take (omega (arith, t .sized .most, c .before .before .before .before .before .before .before .before .last-block .ensures .0))
 
 write-siblings-requires : tie.Need-write-siblings-requires
 write-siblings-requires c κs =
-    let s = c .before .before .before .before .before .before .before .before .before .before .before .before in
+    let s = c .before .before .before .before .before .before .before .before .before .before .before in
     let a = s .before .before .before .before .before .before .before .args in
     let t = passed s in
-    let k = c .before .before .before .before .before .before .before .before .before .before .before .count in
+    let k = c .before .before .before .before .before .before .before .before .before .before .message-len in
     let b = c .before .before .before .before .before .before .block-of in
     let l = ap length (b .ensures) ∙ image.length-block (a .len) (a .image .now) (t .sized) (a .number - 1) (omega (arith, t .low, t .high, t .count)) in
     let q = block-head (a .out .now) (c .before .before .before .before .put-block .last .1 .1 .0) (b .result .now) (a .number) (3 + a .len) (omega (arith, l)) (c .before .before .before .before .put-block .ensures) in
-    let r = length-put q (omega (arith, l)) in
+    let e = parts _ _ _ _ t in
+    let r = length-put q (omega (arith, l, e, k .ensures)) in
     let n = bounds (a .len) (a .image .now) (s .before .before .block-count .result) (t .sized) (t .count) in
-    (omega (arith, t .low, t .high), t .few, omega (arith, n), simp (length-take, length-drop) (omega (arith, k .ensures .1, l, r)))
+    (omega (arith, t .low, t .high), t .few, omega (arith, n), simp (length-take, length-drop) (omega (arith, k .ensures, e, l, r)))
 
 same-length : tie.Need-same-length
 same-length c = search needs
@@ -145,12 +134,12 @@ same-length c = search needs
 returns-4 : tie.Need-returns-4
 unfolding sendBlock badSize count
 returns-4 c =
-    let s = c .before .before .before .before .before .before .before .before .before .before .before .before .before .before .before in
+    let s = c .before .before .before .before .before .before .before .before .before .before .before .before .before .before in
     let a = s .before .before .before .before .before .before .before .args in
     let t = passed s in
     let j = job (a .image .now) (a .len) 0 0 in
     let n = s .before .before .block-count .result in
-    let k = c .before .before .before .before .before .before .before .before .before .before .before .before .before .before .count in
+    let k = c .before .before .before .before .before .before .before .before .before .before .before .before .before .message-len in
     let b = c .before .before .before .before .before .before .before .before .before .block-of in
     let l = ap length (b .ensures) ∙ image.length-block (a .len) (a .image .now) (t .sized) (a .number - 1) (omega (arith, t .low, t .high, t .count)) in
     let q = block-head (a .out .now) (c .before .before .before .before .before .before .before .put-block .last .1 .1 .0) (b .result .now) (a .number) (3 + a .len) (omega (arith, l)) (c .before .before .before .before .before .before .before .put-block .ensures) in
@@ -159,12 +148,11 @@ returns-4 c =
     let hs = sent digest [] [] n blocks (a .number - 1) in
     let m = length-sent digest [] [] length-digest n blocks (a .number - 1) in
     let h : 32 * carried n (a .number - 1 + 1) ≡ length hs = ap (λ (x : ℕ). 32 * carried n x) (add-one (a .number - 1)) ∙ sym m in
-    let full = 3 + a .len + 32 * k .result .carried in
     let same = same-sent (a .len) (a .image .now) n (t .sized) (t .count) digest last (c .before .before .before .before .before .before .before .before .before .before .before .last-block .ensures .1) (a .number - 1) in
     let is = lengths.block-is j n (a .number) (b .result .now) hs (t .count) (b .ensures) same in
-    let size : 3 + a .len + length hs ≡ full = omega (arith, h, k .ensures .1) in
+    let size : 3 + a .len + length hs ≡ k .result = omega (arith, h, k .ensures, parts _ _ _ _ t) in
     let o = rw (t .count) at (t .inside) in
-    all-written-at j (blockFor digest j (a .number)) (a .out .now) (a .number) (t .size) o full _ (due _ _ _ _ t _ (k .ensures .1) 0 0) (omega (arith, c .before .before .before .before .before .before .before .before .before .before .before .before .if3 .left))
+    all-written-at j (blockFor digest j (a .number)) (a .out .now) (a .number) (t .size) o (k .result) _ (due _ _ _ _ t 0 0 ∙ sym (k .ensures)) (omega (arith, c .before .before .before .before .before .before .before .before .before .before .before .before .if3 .left))
     (put-part q hs _ (omega (arith, size, c .before .before .before .before .before .before .before .before .before .before .before .before .if3 .left)) (rw h at (c .before .before .write-siblings .ensures)) ∙ ap₂ (λ (x : List ℕ) (y : ℕ). x ++ drop y (a .out .now)) is size)
 
 pub block-spec : {M : Type 1} → statement M
@@ -176,11 +164,7 @@ block-spec =
     block-count-requires
     outside-requires
     returns-2
-    sub-count
-    count-requires
-    add-due
-    mul-due
-    add-due-2
+    message-len-requires
     returns-3
     last-block-requires
     cast-put-block

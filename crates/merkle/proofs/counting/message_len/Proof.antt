@@ -1,10 +1,9 @@
 use Prim.Native.Nat.{_-_, _≤_}
 use native.Mathlib.Omega.{arith}
-use Rattle.merkle.proofs.CountLaws.{counted-most}
-use Rattle.bundle.proofs.PartLaws.{due-is}
+use Rattle.merkle.proofs.CountLaws.{counted-most, message-length}
 use borrow.Author.Needs.{needs}
-use Rattle.bundle.proofs.parts.due.Statement.{statement}
-use Rattle.bundle.proofs.parts.due.Tie as tie
+use Rattle.merkle.proofs.counting.message_len.Statement.{statement}
+use Rattle.merkle.proofs.counting.message_len.Tie as tie
 
 -- few hashes are carried
 few : (c : tie.After-struct-known) → c .before .count .result .carried ≤ 13
@@ -30,7 +29,7 @@ add-result-2 : tie.Need-add-result-2
 add-result-2 c = let z = few c in omega arith
 
 returns : tie.Need-returns
-returns c = let k = c .before in due-is _ _ _ _ (omega arith) (k .count .ensures .1)
+returns c = let k = c .before in message-length _ _ _ _ (omega arith) (k .count .ensures .1)
 
-pub due-spec : {M : Type 1} → statement M
-due-spec = tie.close (tie.spec sub-count count-requires add-result mul-result add-result-2 returns)
+pub message-len-spec : {M : Type 1} → statement M
+message-len-spec = tie.close (tie.spec sub-count count-requires add-result mul-result add-result-2 returns)
