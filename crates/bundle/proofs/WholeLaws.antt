@@ -1,6 +1,6 @@
 -- The bundle that the showroom makes for an image loads to complete.
 use mathlib.Core.Path.{_≡_, refl, sym, ap, ap₂, _∙_, subst}
-use mathlib.Core.Bool.{Bool, true, false}
+use mathlib.Core.Bool.{true, false}
 use mathlib.Core.List.{List, [], _++_, append-assoc, append-nil}
 use mathlib.Core.Option.{none}
 use Prim.Native.Nat.{ℕ, zero, suc, _+_, _-_, _*_, _≤_, _<_}
@@ -25,9 +25,9 @@ use Rattle.wire.proofs.MessageLaws.{OfProgram}
 use Rattle.sender.specs.Job.{Job, count, manifestFor, programFor, blockFor}
 use Rattle.device.specs.declared.state.Device.{Device}
 use Rattle.device.specs.declared.state.Answer.the-variants.{Accepted}
-use Rattle.device.specs.Device.{countOf, Fresh, freshWith, Situation, Outcome}
+use Rattle.device.specs.Device.{countOf, Fresh, freshWith, Situation}
 use Rattle.device.specs.Step.{accept, outcome, refusalOf, step}
-use Rattle.device.specs.Readers.{numberOf, acceptedBlocks}
+use Rattle.device.specs.Readers.{acceptedBlocks}
 use Rattle.device.specs.Demand3.{Sendable}
 use Rattle.device.proofs.RefusalLaws.{program-passed}
 use Rattle.device.proofs.SentLaws.{root-long, block-sent}
@@ -35,7 +35,7 @@ use Rattle.device.proofs.HonestLaws.{Here, next-accepted, next-here, first-here
 use Rattle.device.proofs.Reached.{is-program, program-accepted}
 use Rattle.bundle.specs.Text.{bundle‿, slip‿, block‿, stateComplete‿, line, messageLine, stateWords, stateLine}
 use Rattle.bundle.specs.Parts.{trailerAt, distance, nowhere, slipAt, slipIn, beforeSlip}
-use Rattle.bundle.specs.Load.{Printed, _before_, stop, ifAccepted, blocksFrom, blocks, messages, withState, deviceFor, loaded}
+use Rattle.bundle.specs.Load.{Printed, _before_, ifAccepted, blocksFrom, blocks, messages, withState, deviceFor, loaded}
 use Rattle.bundle.specs.Bundle.{blockMessages, bundleFor, acceptedFrom, Whole}
 use Rattle.bundle.proofs.LoadLaws.{all-printed}
 

@@ -1,5 +1,5 @@
 -- What the loader does with key.bin and bundle.bin (01, 'Bundle and loader'): the text that it prints, and the flash that it leaves.
-use mathlib.Core.Bool.{true, false, not}
+use mathlib.Core.Bool.{true, false}
 use mathlib.Core.List.{List, [], _++_}
 use Prim.Native.Nat.{ℕ, zero, suc}
 use lib.Dec.{eqb, ltb}
@@ -10,7 +10,6 @@ use Rattle.sha256.specs.Sha256.{digest}
 use Rattle.merkle.specs.Frontier.{messageLength}
 use Rattle.lms.specs.Lms.{valid}
 use Rattle.device.specs.declared.state.Device.{Device}
-use Rattle.device.specs.declared.state.Answer.{Answer}
 use Rattle.device.specs.declared.state.Answer.the-variants.{Accepted, Refused}
 use Rattle.device.specs.Device.{countOf, freshWith, Outcome}
 use Rattle.device.specs.Step.{step}

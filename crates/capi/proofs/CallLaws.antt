@@ -4,7 +4,6 @@ use mathlib.Core.Bool.{Bool, true, false, cond}
 use mathlib.Core.List.{List}
 use mathlib.Core.Option.{Option, none, some}
 use Prim.Native.Nat.{ℕ}
-use native.Mathlib.Omega.{arith}
 use lib.Dec.{eqb}
 use lib.ListN.{length}
 use lib.Seq.{paste}
@@ -16,7 +15,6 @@ use Rattle.sender.specs.declared.send.Sent.{Sent}
 use Rattle.sender.specs.Send.{Result, Does}
 use Rattle.device.specs.declared.state.Stage.{Stage}
 use Rattle.device.specs.declared.state.Device.{Device}
-use Rattle.device.specs.declared.state.Answer.{Answer}
 use Rattle.device.specs.declared.state.Answer.the-variants.{Accepted, Refused}
 use Rattle.wire.specs.declared.refusal.Refusal.{Refusal}
 use Rattle.device.specs.Device.{Outcome}
@@ -25,9 +23,9 @@ use Rattle.device.specs.Step.{step}
 use Rattle.capi.specs.declared.state.Found.{Found}
 use Rattle.capi.specs.declared.state.Found.the-variants.{At, Nothing}
 use Rattle.capi.specs.Found.{found}
-use Rattle.capi.specs.State.{stateLength, encode, stageIn, deviceIn, decode}
+use Rattle.capi.specs.State.{stateLength, encode, stageIn, deviceIn}
 use Rattle.capi.proofs.StateLaws.{Fits, decode-none, decode-some, decode-encode}
-use Rattle.capi.specs.Call.{sentNumber, sentLength, Sends, Called, stateAfter, called, receive}
+use Rattle.capi.specs.Call.{sentNumber, sentLength, Sends, stateAfter, called, receive}
 
 pub sends : {s : Result} {a : Sent} {w r w′ : ℕ} {b : List ℕ} → Does s a b → (r ≡ sentNumber a) × (w′ ≡ sentLength a w) → Sends s w r w′ b
 sends {s} {a} {w} d e =

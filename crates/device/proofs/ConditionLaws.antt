@@ -1,5 +1,5 @@
 -- What a manifest, a block's place and a block message are known to be where the tests before have passed.
-use mathlib.Core.Path.{_≡_, refl, sym, ap, ap₂, _∙_}
+use mathlib.Core.Path.{_≡_, refl, sym, ap, _∙_}
 use mathlib.Core.Logic.{_⊎_, inl, inr}
 use mathlib.Core.Bool.{Bool, false, not}
 use mathlib.Core.List.{List, [], map}

@@ -1,6 +1,6 @@
 -- What a device answers to a message, and what device and flash are then.
 use mathlib.Core.Bool.{Bool, cond}
-use mathlib.Core.List.{List, []}
+use mathlib.Core.List.{List}
 use mathlib.Core.Option.{Option, none, some}
 use Prim.Native.Nat.{ℕ, suc, pred}
 use lib.Dec.{ltb}

@@ -7,7 +7,7 @@ use Prim.Native.Nat.{ℕ, suc, _+_, _-_, _*_, _≤_, _<_}
 use native.Mathlib.Nat.{mul-le-mul-right, zero-add}
 use native.Mathlib.Omega.{arith}
 use lib.ListN.{length, take, drop, replicate, length-append, length-drop, length-replicate, replicate-append-replicate}
-use lib.Seq.{paste, take-length, take-all, take-at, drop-at}
+use lib.Seq.{paste, take-length, take-at, drop-at}
 use Rattle.octets.proofs.CopyLaws.{part-between}
 use Rattle.sha256.specs.Sha256.{digest}
 use Rattle.merkle.specs.Blocks.{blockCount, cut, overlay}
@@ -20,7 +20,7 @@ use Rattle.merkle.proofs.CountLaws.{message-length}
 use Rattle.merkle.proofs.HashLaws.{Same, hash-same, siblings-same}
 use Rattle.merkle.proofs.BlockLaws.{overlay-same, overlay-other}
 use Rattle.wire.specs.Size.{wrongSize, outside}
-use Rattle.wire.specs.Image.{filled, imageBlocks}
+use Rattle.wire.specs.Image.{imageBlocks}
 use Rattle.wire.proofs.SizeLaws.{Sized, sized, inside}
 use Rattle.wire.proofs.ImageLaws.{block-early, block-last}
 use Rattle.sender.specs.Job.{job, count, blockFor}

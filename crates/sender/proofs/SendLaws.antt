@@ -8,7 +8,6 @@ use borrow.Author.Tests.{lt-ltb, le-ltb}
 use Rattle.wire.specs.declared.refusal.Refusal.the-variants.{Size, Turn, Area}
 use Rattle.wire.specs.Refusal.{firstThatApplies}
 use Rattle.wire.specs.Size.{outside}
-use Rattle.sender.specs.declared.send.Sent.{Sent}
 use Rattle.sender.specs.declared.send.Sent.the-variants.{Written, Refused}
 use Rattle.sender.specs.Job.{Job, count}
 use Rattle.sender.specs.Send.{Does, send, badSize, tooShort, unnumbered, numbered}

@@ -1,7 +1,7 @@
 // The parts of a message, one behind the other from the start of the buffer, which is long enough. What is behind them stays.
 use octets::copy;
 ghost use mathlib.Core.Path.{_≡_};
-ghost use mathlib.Core.List.{[], _∷_, _++_};
+ghost use mathlib.Core.List.{_∷_, _++_};
 ghost use Prim.Native.Nat.{_+_, _≤_};
 ghost use lib.ListN.{length, drop};
 ghost use Rattle.octets.specs.Octets.{bytes};

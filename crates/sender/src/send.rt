@@ -11,7 +11,6 @@ use wire::block_count;
 use wire::outside;
 use wire::to_bytes;
 use wire::wrong_size;
-ghost use mathlib.Core.Path.{_≡_};
 ghost use Rattle.sender.specs.Job.{job};
 ghost use Rattle.sender.specs.Send.{Does, sendManifest, sendProgram, sendBlock, sendUpdate};
 

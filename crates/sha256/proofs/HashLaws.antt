@@ -1,6 +1,6 @@
 -- The hash value over the blocks of a message that grows, and the digest from the bytes after the whole blocks.
 use mathlib.Core.Path.{_≡_, refl, sym, ap, ap₂, _∙_}
-use mathlib.Core.List.{List, [], _++_}
+use mathlib.Core.List.{List, _++_}
 use Prim.Native.Nat.{ℕ, zero, suc, _+_, _*_, _/_, _-_, _%_, _^_, _≤_}
 use native.Mathlib.Nat.{mul-suc, mul-add}
 use native.Mathlib.Omega.{arith}

@@ -1,10 +1,10 @@
 -- The padding: its zero bits are the least that do, its length, and the last block or two.
 use mathlib.Core.Path.{_≡_, refl, sym, ap, ap₂, _∙_}
 use mathlib.Core.List.{List, [], _∷_, _++_, append-assoc, append-nil}
-use Prim.Native.Nat.{ℕ, zero, suc, _+_, _*_, _-_, _/_, _%_, _^_, _≤_, _<_}
+use Prim.Native.Nat.{ℕ, suc, _+_, _*_, _-_, _/_, _%_, _^_, _≤_, _<_}
 use native.Mathlib.Omega.{arith}
 use lib.ListN.{length, take, drop, drop-of-length-le, set, replicate, length-append, length-replicate, replicate-append-replicate}
-use lib.Seq.{paste, take-length, take-all, take-at, drop-at, set-at, take-append-add}
+use lib.Seq.{paste, take-length, take-all, take-at, drop-at, set-at}
 use Rattle.octets.specs.Octets.{bytes}
 use Rattle.octets.proofs.NumberLaws.{length-bytes, bytes-mod}
 use Rattle.sha256.specs.Sha256.{zeroBits, padding, pad, hashValue, block, compress, digest, concatenated}

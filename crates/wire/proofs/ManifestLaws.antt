@@ -1,11 +1,11 @@
 -- The manifest's bytes, written and read: each the other's inverse.
-use mathlib.Core.Path.{_≡_, refl, sym, ap, ap₂, _∙_}
-use mathlib.Core.List.{List, [], _++_, append-nil}
+use mathlib.Core.Path.{_≡_, refl, ap, _∙_}
+use mathlib.Core.List.{List, _++_}
 use Prim.Native.Nat.{ℕ, _+_, _^_, _≤_, _<_}
 use native.Mathlib.Omega.{arith}
-use lib.ListN.{length, take, drop, replicate, length-append}
+use lib.ListN.{length, replicate, length-append}
 use lib.Seq.{paste, take-add, take-all}
-use Rattle.octets.specs.Octets.{bytes, number, part}
+use Rattle.octets.specs.Octets.{bytes, part}
 use Rattle.octets.proofs.CopyLaws.{length-part, part-first, part-second}
 use Rattle.octets.proofs.BufferLaws.{begun, more, whole}
 use Rattle.octets.proofs.NumberLaws.{Bytes, length-bytes, number-back, bytes-part, part-below}

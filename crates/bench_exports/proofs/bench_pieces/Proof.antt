@@ -1,8 +1,7 @@
 use mathlib.Core.Path.{_≡_, sym, ap, _∙_, subst}
-use mathlib.Core.List.{List}
 use Prim.Native.Nat.{ℕ, _+_, _-_, _≤_}
 use native.Mathlib.Omega.{arith}
-use lib.ListN.{length, take, drop}
+use lib.ListN.{length, take}
 use lib.Seq.{take-add, take-all}
 use Rattle.sha256.specs.Context.{Absorbed}
 use Rattle.sha256.specs.Sha256.{digest}

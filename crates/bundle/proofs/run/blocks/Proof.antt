@@ -1,8 +1,5 @@
-use mathlib.Core.Path.{_≡_, sym, _∙_}
-use Prim.Native.Nat.{_+_, _-_, _≤_, _<_}
+use Prim.Native.Nat.{_+_, _-_, _≤_}
 use native.Mathlib.Omega.{arith}
-use lib.ListN.{length}
-use Rattle.wire.proofs.SizeLaws.{Sized}
 use Rattle.device.proofs.ConditionLaws.{sound}
 use Rattle.bundle.proofs.RunLaws.{Looping, looping-start, looping-end, out-kept, line-fits, one-more, stopped, all-blocks, rerun, few-blocks}
 use borrow.Author.Needs.{needs}

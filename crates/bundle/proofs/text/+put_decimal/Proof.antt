@@ -1,13 +1,12 @@
 -- `bundle::text::put_decimal` meets its contract. The measure is the number, which falls at the call.
 use mathlib.Core.Path.{_≡_, refl, sym, ap, _∙_}
-use mathlib.Core.List.{[], _∷_, _++_}
+use mathlib.Core.List.{[], _∷_}
 use Prim.Native.Nat.{ℕ, _+_, _/_, _%_, _<_}
 use native.Mathlib.Omega.{arith}
 use lib.ListN.{length, length-append}
 use borrow.Fn.Kinds.{In}
 use borrow.Fn.PlainCycle.{Measures, is, falls, and}
 use Rattle.bundle.specs.Text.{decimal}
-use Rattle.bundle.specs.Steps.{Written}
 use Rattle.bundle.proofs.TextLaws.{decimal-small, decimal-large}
 use Rattle.bundle.proofs.WrittenLaws.{length-kept, retold, joined}
 use Rattle.bundle.proofs.text.put_decimal.Reads as reads

@@ -1,9 +1,8 @@
-use mathlib.Core.List.{[], _∷_}
 use Prim.Native.Nat.{_+_}
 use native.Mathlib.Omega.{arith}
 use lib.ListN.{length, length-append}
-use Rattle.bundle.specs.Text.{decimal, line, messageLine}
-use Rattle.bundle.proofs.TextLaws.{length-line, length-message}
+use Rattle.bundle.specs.Text.{decimal, line}
+use Rattle.bundle.proofs.TextLaws.{length-line}
 use Rattle.bundle.proofs.WrittenLaws.{room, joined}
 use borrow.Author.Needs.{needs}
 use Rattle.bundle.proofs.text.put_line.Statement.{statement}

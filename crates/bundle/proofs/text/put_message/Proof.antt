@@ -3,7 +3,7 @@ use Prim.Native.Nat.{_+_}
 use native.Mathlib.Omega.{arith}
 use lib.ListN.{length, length-append}
 use Rattle.bundle.specs.Text.{decimal, line, messageLine}
-use Rattle.bundle.proofs.TextLaws.{length-line, length-message}
+use Rattle.bundle.proofs.TextLaws.{length-message}
 use Rattle.bundle.proofs.WrittenLaws.{room, joined}
 use borrow.Author.Needs.{needs}
 use Rattle.bundle.proofs.text.put_message.Statement.{statement}
