@@ -1,4 +1,4 @@
--- While loading: the accepted blocks and the held hashes are those of any blocks with the root, or these collide with the path of a message.
+-- While loading: the accepted blocks and the held hashes are those of any blocks with the root, or these collide with the path of a message. For change 11 of 02.
 use mathlib.Core.Path.{_≡_, refl, sym, ap, ap₂, _∙_, subst}
 use mathlib.Core.Logic.{_⊎_, inl, inr, ⊎-elim}
 use mathlib.Core.List.{List, [], _∷_, _++_, head-eq-of-cons-eq, tail-eq-of-cons-eq}

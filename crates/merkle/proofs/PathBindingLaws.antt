@@ -1,4 +1,4 @@
--- A path that leads to a tree's hash: its block and siblings are the tree's, or the two collide at one place, which is given.
+-- A path that leads to a tree's hash: its block and siblings are the tree's, or the two collide at one place, which is given. For changes 1 and 11 of 02.
 use mathlib.Core.Path.{_≡_, refl, sym, ap, ap₂, _∙_}
 use mathlib.Core.Logic.{_⊎_, inl, inr, ⊎-elim}
 use mathlib.Core.Bool.{Bool, true, false}

@@ -1,4 +1,4 @@
--- The way from a block up to the root, and the siblings beside it.
+-- The way from a block up to the root, and the siblings beside it. Nothing on the wire carries a whole path yet; changes 1 and 11 of 02 speak of it.
 use mathlib.Core.Path.{_≡_}
 use mathlib.Core.Logic.{_≢_}
 use mathlib.Core.Bool.{Bool, true, false, cond}
