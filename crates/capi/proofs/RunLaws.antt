@@ -7,9 +7,9 @@ use Prim.Native.Nat.{ℕ, suc, pred, _+_, _*_, _^_, _≤_, _<_}
 use native.Mathlib.Omega.{arith}
 use lib.Dec.{ltb}
 use lib.ListN.{length, drop, length-drop, length-replicate}
-use Rattle.octets.specs.Octets.{part}
+use Rattle.octets.specs.Octets.{Bytes, part}
 use Rattle.octets.proofs.CopyLaws.{length-part}
-use Rattle.octets.proofs.NumberLaws.{Bytes, part-bytes}
+use Rattle.octets.proofs.NumberLaws.{part-bytes}
 use Rattle.sha256.specs.Sha256.{digest}
 use Rattle.merkle.specs.Frontier.{carried, messageLength}
 use Rattle.merkle.proofs.HeldLaws.{length-begun, advance}
@@ -30,7 +30,8 @@ use Rattle.device.specs.Step.{acceptProgram, stageAfter, acceptBlock, acceptUpd
 use Rattle.device.specs.Run.{Messages, empty, _▷_, after}
 use Rattle.device.proofs.RefusalLaws.{BlockPassed, program-passed, block-passed, update-passed}
 use Rattle.capi.specs.State.{encode}
-use Rattle.capi.specs.Call.{Called, called, stateAfter, receive}
+use Rattle.capi.specs.Call.{called, stateAfter, receive}
+use Rattle.capi.specs.Run.{Memory, left, callsAfter, AllBytes}
 use Rattle.capi.proofs.StateLaws.{Fits}
 use Rattle.capi.proofs.CallLaws.{receive-encode}
 
@@ -109,23 +110,6 @@ fresh-fits model key h l =
       manifest = record { version = omega arith; block = omega arith; model = omega arith; serial = omega arith; image = omega arith; root = length-replicate {A = ℕ} 32 0 };
       hashes = length-replicate {A = ℕ} 384 0;
     }
-
--- what the caller's memory holds after a list of calls
-pub record Memory : Type 0 where
-  pub state : List ℕ
-  pub flash : List ℕ
-
-abbrev left : Called → Memory
-left c = record { state = c .state; flash = c .flash }
-
-unfoldable pub callsAfter : (state flash : List ℕ) → Messages → Memory
-callsAfter state flash empty = record { state = state; flash = flash }
-callsAfter state flash (ms ▷ m) = let b = callsAfter state flash ms in left (receive (b .state) (b .flash) m)
-
--- every message is a string of bytes
-pub AllBytes : Messages → Type 0
-AllBytes empty = Unit {0}
-AllBytes (ms ▷ m) = AllBytes ms × Bytes m
 
 -- the memory that holds a device and its flash
 abbrev holding : Device → List ℕ → Memory

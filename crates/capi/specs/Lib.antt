@@ -1,3 +1,4 @@
 pub mod State
 pub mod Call
 pub mod Found
+pub mod Run

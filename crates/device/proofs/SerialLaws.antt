@@ -8,9 +8,9 @@ use Prim.Native.Nat.{ℕ, _≤_, _<_}
 use native.Mathlib.Omega.{arith}
 use lib.ListN.{length}
 use borrow.Author.Tests.{ltb-true, not-false}
-use Rattle.octets.specs.Octets.{part}
+use Rattle.octets.specs.Octets.{Bytes, part}
 use Rattle.octets.proofs.CopyLaws.{length-part}
-use Rattle.octets.proofs.NumberLaws.{Bytes, part-bytes}
+use Rattle.octets.proofs.NumberLaws.{part-bytes}
 use Rattle.wire.specs.declared.kind.Kind.the-variants.{Program, Update}
 use Rattle.wire.specs.Message.{kind, manifestBytes, manifestIn}
 use Rattle.wire.proofs.ManifestLaws.{read-fits}

@@ -8,7 +8,7 @@ use lib.Arith.{mod-mul, digits-div, digits-mod}
 use lib.Dec.{lit<}
 use lib.ListN.{length, length-append, drop, getD, take}
 use lib.Seq.{drop-cons, take-suc, take-length, getD-take, getD-drop}
-use Rattle.octets.specs.Octets.{bytes, number, part}
+use Rattle.octets.specs.Octets.{Bytes, bytes, number, part}
 use Rattle.octets.proofs.CopyLaws.{length-part}
 
 pub length-bytes : (k x : ℕ) → length (bytes k x) ≡ k
@@ -68,10 +68,6 @@ number-four s i h =
     let b : suc (suc i) ≡ i + 2 = omega arith in
     let d : suc (suc (suc i)) ≡ i + 3 = omega arith in
     rw (part-suc s i 3 (omega arith), part-suc s (suc i) 2 (omega arith), part-suc s (suc (suc i)) 1 (omega arith), part-suc s (suc (suc (suc i))) 0 (omega arith), d, b, a) (omega arith)
-
--- every element is a byte
-abbrev pub Bytes : List ℕ → Type 0
-Bytes s = (i : ℕ) → i < length s → getD s i 0 < 256
 
 bytes-front : (s : List ℕ) → Bytes s → (n : ℕ) → n ≤ length s → bytes n (number (take n s)) ≡ take n s
 unfolding bytes

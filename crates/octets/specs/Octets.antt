@@ -1,9 +1,13 @@
 -- Strings of bytes and the numbers that they stand for. A byte is a number below 256, a string a list of them; numbers are big-endian.
 use mathlib.Core.Bool.{Bool, true, false, _&&_}
 use mathlib.Core.List.{List, [], _∷_, _++_}
-use Prim.Native.Nat.{ℕ, zero, suc, _+_, _*_, _/_, _%_, _^_}
+use Prim.Native.Nat.{ℕ, zero, suc, _+_, _*_, _/_, _%_, _^_, _<_}
 use lib.Dec.{eqb}
-use lib.ListN.{length, take, drop}
+use lib.ListN.{length, take, drop, getD}
+
+-- a string of bytes, and not of other numbers
+abbrev pub Bytes : List ℕ → Type 0
+Bytes s = (i : ℕ) → i < length s → getD s i 0 < 256
 
 -- x as k bytes, modulo 256 ^ k
 unfoldable pub bytes : ℕ → ℕ → List ℕ

@@ -5,10 +5,10 @@ use Prim.Native.Nat.{ℕ, _+_, _^_, _≤_, _<_}
 use native.Mathlib.Omega.{arith}
 use lib.ListN.{length, replicate, length-append}
 use lib.Seq.{paste, take-add, take-all}
-use Rattle.octets.specs.Octets.{bytes, part}
+use Rattle.octets.specs.Octets.{Bytes, bytes, part}
 use Rattle.octets.proofs.CopyLaws.{length-part, part-first, part-second}
 use Rattle.octets.proofs.BufferLaws.{begun, more, whole}
-use Rattle.octets.proofs.NumberLaws.{Bytes, length-bytes, number-back, bytes-part, part-below}
+use Rattle.octets.proofs.NumberLaws.{length-bytes, number-back, bytes-part, part-below}
 use Rattle.wire.specs.declared.manifest.Manifest.{Manifest}
 use Rattle.wire.specs.Manifest.{written, read}
 

@@ -1,0 +1,23 @@
+-- A list of calls from C: the caller keeps state and flash from call to call.
+use mathlib.Core.List.{List}
+use Prim.Native.Nat.{ℕ}
+use Rattle.octets.specs.Octets.{Bytes}
+use Rattle.device.specs.Run.{Messages, empty, _▷_}
+use Rattle.capi.specs.Call.{Called, receive}
+
+-- what the caller's memory holds after a list of calls
+pub record Memory : Type 0 where
+  pub state : List ℕ
+  pub flash : List ℕ
+
+abbrev pub left : Called → Memory
+left c = record { state = c .state; flash = c .flash }
+
+unfoldable pub callsAfter : (state flash : List ℕ) → Messages → Memory
+callsAfter state flash empty = record { state = state; flash = flash }
+callsAfter state flash (ms ▷ m) = let b = callsAfter state flash ms in left (receive (b .state) (b .flash) m)
+
+-- every message is a string of bytes
+unfoldable pub AllBytes : Messages → Type 0
+AllBytes empty = Unit {0}
+AllBytes (ms ▷ m) = AllBytes ms × Bytes m
