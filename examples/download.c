@@ -1,4 +1,4 @@
-/* A download, both sides in one program: the sender makes the messages, the device takes them one by one.
+/* A download, both sides in one program: the sender makes a bundle of all messages, and the device takes it block by block.
  *
  *     rt staticlib capi
  *     gcc -Wall -Wextra -Werror -Iinclude -o target/download examples/download.c target/staticlib/libcapi.a
@@ -14,13 +14,14 @@ enum { IMAGE_LENGTH = 300, BLOCK_LENGTH = 64, BLOCKS = 5, MODEL = 7, SERIAL = 1 
 
 static uint8_t image[IMAGE_LENGTH];
 
+/* What goes over the radio: the block messages, the new program's message, and a trailer of four bytes, the distance back to that message's start. Message i,
+ * from 0, ends where the next one starts; the new program's is the last. */
+static uint8_t bundle[4096];
+static size_t starts[BLOCKS + 2];
+
 /* What the device keeps: in a drive, a page of its own and the program memory. */
 static uint8_t state[LERTXUNO_STATE_LENGTH];
 static uint8_t flash[BLOCKS * BLOCK_LENGTH];
-
-/* The radio: the longest message here is the new program's. */
-static uint8_t message[2048];
-static size_t length;
 
 static void expect(const char *what, uint32_t answer, uint32_t due) {
     printf("%-24s %u\n", what, (unsigned)answer);
@@ -28,35 +29,55 @@ static void expect(const char *what, uint32_t answer, uint32_t due) {
         exit(1);
 }
 
-static uint32_t receive(void) {
-    return lertxuno_receive(state, sizeof state, flash, sizeof flash, message, length);
-}
+/* The sender's side. */
 
-static void send_program(void) {
+static void sign(void) {
     uint8_t manifest[LERTXUNO_MANIFEST_LENGTH];
+    size_t length;
     expect("sender, manifest", lertxuno_manifest(image, sizeof image, BLOCK_LENGTH, MODEL, SERIAL, manifest, sizeof manifest, &length), LERTXUNO_ACCEPTED);
     expect("signature", lertxuno_verify(sample_key, sizeof sample_key, manifest, length, sample_signature, sizeof sample_signature), LERTXUNO_ACCEPTED);
-    expect("sender, program", lertxuno_program(image, sizeof image, BLOCK_LENGTH, MODEL, SERIAL, sample_signature, sizeof sample_signature,
-                                               message, sizeof message, &length), LERTXUNO_ACCEPTED);
-    expect("device, program", receive(), LERTXUNO_ACCEPTED);
 }
 
-static void send_block(uint32_t number) {
-    expect("sender, block", lertxuno_block(image, sizeof image, BLOCK_LENGTH, number, message, sizeof message, &length), LERTXUNO_ACCEPTED);
-    message[3] ^= 1;
-    expect("device, damaged block", receive(), LERTXUNO_MISMATCH);
-    message[3] ^= 1;
-    expect("device, block", receive(), LERTXUNO_ACCEPTED);
-    expect("device, the same again", receive(), number < BLOCKS ? LERTXUNO_TURN : LERTXUNO_STAGE);
+static void make_bundle(void) {
+    size_t at = 0, length;
+    for (uint32_t i = 0; i < BLOCKS; i++) {
+        starts[i] = at;
+        expect("sender, block", lertxuno_block(image, sizeof image, BLOCK_LENGTH, i + 1, bundle + at, sizeof bundle - at, &length), LERTXUNO_ACCEPTED);
+        at += length;
+    }
+    starts[BLOCKS] = at;
+    expect("sender, program", lertxuno_program(image, sizeof image, BLOCK_LENGTH, MODEL, SERIAL, sample_signature, sizeof sample_signature,
+                                               bundle + at, sizeof bundle - at, &length), LERTXUNO_ACCEPTED);
+    at += length;
+    starts[BLOCKS + 1] = at;
+    for (int i = 0; i < 4; i++)
+        bundle[at + i] = (uint8_t)(length >> (24 - 8 * i));
+}
+
+/* The device's side. */
+
+static uint32_t receive(uint32_t i) {
+    return lertxuno_receive(state, sizeof state, flash, sizeof flash, bundle + starts[i], starts[i + 1] - starts[i]);
+}
+
+static void take_block(uint32_t i) {
+    uint8_t *first = bundle + starts[i] + 3;
+    *first ^= 1;
+    expect("device, damaged block", receive(i), LERTXUNO_MISMATCH);
+    *first ^= 1;
+    expect("device, block", receive(i), LERTXUNO_ACCEPTED);
+    expect("device, the same again", receive(i), i + 1 < BLOCKS ? LERTXUNO_TURN : LERTXUNO_STAGE);
 }
 
 int main(void) {
     for (unsigned i = 0; i < sizeof image; i++)
         image[i] = (uint8_t)(7 * i + 3);
+    sign();
+    make_bundle();
     lertxuno_fresh(MODEL, sample_key, state);
-    send_program();
-    for (uint32_t number = 1; number <= BLOCKS; number++)
-        send_block(number);
+    expect("device, program", receive(BLOCKS), LERTXUNO_ACCEPTED);
+    for (uint32_t i = 0; i < BLOCKS; i++)
+        take_block(i);
     if (memcmp(flash, image, sizeof image) != 0)
         return 1;
     puts("the flash begins with the image");
