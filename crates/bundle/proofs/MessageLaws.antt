@@ -26,7 +26,7 @@ use Rattle.device.specs.Step.{acceptProgram, accept, outcome, refusalOf, step}
 use Rattle.device.specs.Readers.{numberOf}
 use Rattle.device.proofs.RefusalLaws.{program-passed, block-passed, update-passed, unknown-refused}
 use Rattle.bundle.specs.Text.{slip‿, messageLine}
-use Rattle.bundle.specs.Parts.{nowhere, slipIn, beforeSlip}
+use Rattle.bundle.specs.Parts.{nowhere, programIn, beforeProgram}
 use Rattle.bundle.specs.Load.{Printed, _before_, stop, ifAccepted, blocks, messages}
 use Rattle.bundle.specs.Steps.{Written, Ran}
 use Rattle.bundle.proofs.PartLaws.{Somewhere}
@@ -59,28 +59,28 @@ module _ (d : Device) (flash m : List ℕ) (idle : d .stage ≡ Idle) where
           absurd (let z : _≡_ {A = ℕ} 0 1 = cc in omega arith)
 
 module _ (d : Device) (flash b : List ℕ) where
-  no-slip : nowhere b ≡ true → messages d flash b ≡ messageLine slip‿ 0 3 before stop d flash
+  no-program : nowhere b ≡ true → messages d flash b ≡ messageLine slip‿ 0 3 before stop d flash
   unfolding messages
-  no-slip e = rw (e, messages)
+  no-program e = rw (e, messages)
 
-  with-slip : nowhere b ≡ false
+  with-program : nowhere b ≡ false
       → messages d flash b
-      ≡ (let o = step digest valid d flash (slipIn b) in messageLine slip‿ 0 (numberOf (o .answer)) before ifAccepted o (blocks (o .device) (o .flash) (beforeSlip b)))
+      ≡ (let o = step digest valid d flash (programIn b) in messageLine slip‿ 0 (numberOf (o .answer)) before ifAccepted o (blocks (o .device) (o .flash) (beforeProgram b)))
   unfolding messages
-  with-slip e = rw (e, messages)
+  with-program e = rw (e, messages)
 
   pub ran-nowhere : {out out' : List ℕ} {at next : ℕ} → nowhere b ≡ true → Written out at out' next (messageLine slip‿ 0 3) → Ran (messages d flash b) out at out' next d flash
-  ran-nowhere e w = ran (sym (before-stop _ d flash) ∙ sym (no-slip e)) w
+  ran-nowhere e w = ran (sym (before-stop _ d flash) ∙ sym (no-program e)) w
 
   module _ (start : ℕ) (z : Somewhere b start) (o : Outcome) (done : step digest valid d flash (take (length b - 4 - start) (drop start b)) ≡ o) (answer : ℕ)
       (answer-is : answer ≡ numberOf (o .answer)) where
     follows : messageLine slip‿ 0 answer before ifAccepted o (blocks (o .device) (o .flash) (take start b)) ≡ messages d flash b
     follows =
-        let q : step digest valid d flash (slipIn b) ≡ o = ap (step digest valid d flash) (sym (z .slip)) ∙ done in
+        let q : step digest valid d flash (programIn b) ≡ o = ap (step digest valid d flash) (sym (z .program)) ∙ done in
         let after : Outcome → ℕ → List ℕ → Printed = λ x y f. messageLine slip‿ 0 y before ifAccepted x (blocks (x .device) (x .flash) f) in
         ap (λ (y : ℕ). after o y (take start b)) answer-is
         ∙ ap₂ {C = Printed} (λ (x : Outcome) (f : List ℕ). after x (numberOf (x .answer)) f) (sym q) (z .front)
-        ∙ sym (with-slip (z .there))
+        ∙ sym (with-program (z .there))
 
     pub ran-refused : {out out' : List ℕ} {at next : ℕ} → Written out at out' next (messageLine slip‿ 0 answer) → (r : Refusal) → o .answer ≡ Refused r
         → Ran (messages d flash b) out at out' next (o .device) (o .flash)

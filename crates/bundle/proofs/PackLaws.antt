@@ -26,7 +26,7 @@ use Rattle.wire.proofs.SizeLaws.{Sized, sized, outside-not}
 use Rattle.sender.specs.declared.send.Sent.{Sent}
 use Rattle.sender.specs.declared.send.Sent.the-variants.{Written}
 use Rattle.sender.specs.Job.{Job, job, count, blocks, programFor, blockFor}
-use Rattle.sender.specs.Send.{Does, send, badSize, tooShort, unnumbered, numbered, sendProgram, sendBlock}
+use Rattle.sender.specs.Send.{lengthOf, Does, send, badSize, tooShort, unnumbered, numbered, sendProgram, sendBlock}
 use Rattle.sender.proofs.JobLaws.{length-block, length-program}
 use Rattle.sender.proofs.PutLaws.{Put, put-more, length-put, put-part}
 use Rattle.bundle.specs.Bundle.{blockMessages, bundleFor}
@@ -107,7 +107,7 @@ module _ {d r p : List ℕ} {at : ℕ} (b : Put d r p at) where
     },
   )
 
-module _ (j : Job) (z : badSize j ≡ false) {d r : List ℕ} {at : ℕ} {answer : Sent} {mid : List ℕ} {k : ℕ} (wrote : (x : ℕ) → answer ≡ Written x → k ≡ x) where
+module _ (j : Job) (z : badSize j ≡ false) {d r : List ℕ} {at : ℕ} {answer : Sent} {mid : List ℕ} {k : ℕ} (wrote : k ≡ lengthOf answer) where
   -- one block message more
   pub block-behind : (i : ℕ) (b : Put d r (blockMessages digest j i) at) → i < count j → length (blockMessages digest j (count j)) ≤ length d
       → Does (sendBlock j (i + 1) (rest b)) answer mid → (at + k ≤ length d) × Put d (putMid at (length r - at) r mid) (blockMessages digest j (i + 1)) (at + k)
@@ -115,7 +115,7 @@ module _ (j : Job) (z : badSize j ≡ false) {d r : List ℕ} {at : ℕ} {answer
   block-behind i b h room does =
       let fits : at + length (blockFor digest j (suc i)) ≤ length d = omega (arith, b .size, more-messages j i, messages-grow j (suc i) (count j) h) in
       let w = block-wrote j z (rest b) (suc i) (omega arith) h (omega (arith, length-rest b (omega arith))) (rw (add-one i) at does) in
-      rw (add-one i) (wrote-behind b (blockFor digest j (suc i)) mid k fits (w .1) (wrote _ (w .0)))
+      rw (add-one i) (wrote-behind b (blockFor digest j (suc i)) mid k fits (w .1) (wrote ∙ ap lengthOf (w .0)))
 
   -- the kind 1 message
   pub program-behind : {p : List ℕ} (b : Put d r p at) (signature : List ℕ) → at + (49 + length signature) ≤ length d → Does (sendProgram j signature (rest b)) answer mid
@@ -123,7 +123,7 @@ module _ (j : Job) (z : badSize j ≡ false) {d r : List ℕ} {at : ℕ} {answer
   program-behind b signature room does =
       let l = length-program j signature in
       let w = program-wrote j z (rest b) signature (omega (arith, length-rest b (omega arith))) does in
-      let is = wrote _ (w .0) in
+      let is = wrote ∙ ap lengthOf (w .0) in
       (is ∙ l, wrote-behind b (programFor digest j signature) mid k (omega arith) (w .1) is .1)
 
 -- What is known of image and block length where refusal 5 is not given, n the count.

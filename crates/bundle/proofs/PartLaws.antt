@@ -11,7 +11,7 @@ use borrow.Author.Tests.{lt-ltb, le-ltb, ltb-false}
 use Rattle.wire.proofs.SizeLaws.{or-false}
 use Rattle.octets.specs.Octets.{number, part}
 use Rattle.bundle.specs.declared.parts.Start.the-variants.{At, Nowhere}
-use Rattle.bundle.specs.Parts.{trailerAt, distance, nowhere, slipAt, slipIn, beforeSlip}
+use Rattle.bundle.specs.Parts.{trailerAt, distance, nowhere, programAt, programIn, beforeProgram}
 use Rattle.bundle.specs.Steps.{startOf, Cut}
 
 -- the whole message is there, or the bytes end before it does
@@ -35,7 +35,7 @@ module _ (b : List ℕ) where
   unfolding startOf
   starts-nowhere e = rw (e, startOf)
 
-  pub starts-at : nowhere b ≡ false → At (slipAt b) ≡ startOf b
+  pub starts-at : nowhere b ≡ false → At (programAt b) ≡ startOf b
   unfolding startOf
   starts-at e = rw (e, startOf)
 
@@ -55,18 +55,18 @@ module _ (b : List ℕ) where
     pub somewhere : d ≤ length b - 4 → nowhere b ≡ false
     somewhere h = test-is ∙ le-ltb (length b - 4) d h
 
-    pub slip-at : length b - 4 - d ≡ slipAt b
-    unfolding slipAt trailerAt distance
-    slip-at = ap (λ (x : ℕ). length b - 4 - x) e
+    pub program-at : length b - 4 - d ≡ programAt b
+    unfolding programAt trailerAt distance
+    program-at = ap (λ (x : ℕ). length b - 4 - x) e
 
   -- what the answer of `start_of` says
   pub record Somewhere (at : ℕ) : Type 0 where
     pub there : nowhere b ≡ false
-    pub is : at ≡ slipAt b
+    pub is : at ≡ programAt b
     pub long : 4 ≤ length b
     pub below : at ≤ length b - 4
-    pub slip : take (length b - 4 - at) (drop at b) ≡ slipIn b
-    pub front : take at b ≡ beforeSlip b
+    pub program : take (length b - 4 - at) (drop at b) ≡ programIn b
+    pub front : take at b ≡ beforeProgram b
 
   pub nothing : startOf b ≡ Nowhere → nowhere b ≡ true
   unfolding startOf
@@ -77,7 +77,7 @@ module _ (b : List ℕ) where
       go false q = absurd (let x = starts-at q in let z : _≡_ {A = ℕ} 0 1 = cc in omega arith)
 
   pub found : (at : ℕ) → startOf b ≡ At at → Somewhere at
-  unfolding nowhere trailerAt slipAt slipIn beforeSlip
+  unfolding nowhere trailerAt programAt programIn beforeProgram
   found at e = go (nowhere b) refl
     where
       go : (t : Bool) → nowhere b ≡ t → Somewhere at
@@ -93,6 +93,6 @@ module _ (b : List ℕ) where
             is = i;
             long = ltb-false (length b) 4 (o .0);
             below = omega arith;
-            slip = ap₂ {C = List ℕ} (λ (n f : ℕ). take n (drop f b)) k i;
+            program = ap₂ {C = List ℕ} (λ (n f : ℕ). take n (drop f b)) k i;
             front = ap (λ (f : ℕ). take f b) i;
           }

@@ -34,7 +34,7 @@ use Rattle.device.proofs.SentLaws.{root-long, block-sent}
 use Rattle.device.proofs.HonestLaws.{Here, next-accepted, next-here, first-here, is-complete, flash-is}
 use Rattle.device.proofs.Reached.{is-program, program-accepted}
 use Rattle.bundle.specs.Text.{bundle‿, slip‿, block‿, stateComplete‿, line, messageLine, stateWords, stateLine}
-use Rattle.bundle.specs.Parts.{trailerAt, distance, nowhere, slipAt, slipIn, beforeSlip}
+use Rattle.bundle.specs.Parts.{trailerAt, distance, nowhere, programAt, programIn, beforeProgram}
 use Rattle.bundle.specs.Load.{Printed, _before_, ifAccepted, blocksFrom, blocks, messages, withState, deviceFor, loaded}
 use Rattle.bundle.specs.Bundle.{blockMessages, bundleFor, acceptedFrom, Whole}
 use Rattle.bundle.proofs.LoadLaws.{all-printed}
@@ -97,32 +97,32 @@ module _ (job : Job) (ok : Sendable job) (old : List ℕ) where
       subst (Runs (suc left) j) (sym same) (record { text = ap (λ x. messageLine block‿ (suc j) 0 ++ x) (r .text); here = r .here })
 
 -- where the loader finds the kind 1 message, and what stands before it
-module _ (front slip : List ℕ) where
+module _ (front program : List ℕ) where
   abbrev bundle : List ℕ
-  bundle = front ++ slip ++ bytes 4 (length slip)
+  bundle = front ++ program ++ bytes 4 (length program)
 
   record Found : Type 0 where
     somewhere : nowhere bundle ≡ false
-    slip-is : slipIn bundle ≡ slip
-    front-is : beforeSlip bundle ≡ front
+    program-is : programIn bundle ≡ program
+    front-is : beforeProgram bundle ≡ front
 
   found : length bundle ≤ 65536 → Found
-  unfolding nowhere trailerAt distance slipAt slipIn beforeSlip
+  unfolding nowhere trailerAt distance programAt programIn beforeProgram
   found h =
-      let t : List ℕ = bytes 4 (length slip) in
-      let four : length t ≡ 4 = length-bytes 4 (length slip) in
-      let both = length-append front slip in
-      let all : length bundle ≡ length (front ++ slip) + length t = length-append (front ++ slip) t in
-      let at : length (front ++ slip) ≡ length bundle - 4 = omega arith in
-      let trailer : part (length bundle - 4) 4 bundle ≡ t = part-second (front ++ slip) t (length bundle - 4) 4 at four in
-      let far : distance bundle ≡ length slip = ap number trailer ∙ number-bytes 4 (length slip) ∙ mod-eq-of-lt (omega arith) in
-      let start : slipAt bundle ≡ length front = omega arith in
-      let split : bundle ≡ front ++ (slip ++ t) = append-assoc front slip t in
+      let t : List ℕ = bytes 4 (length program) in
+      let four : length t ≡ 4 = length-bytes 4 (length program) in
+      let both = length-append front program in
+      let all : length bundle ≡ length (front ++ program) + length t = length-append (front ++ program) t in
+      let at : length (front ++ program) ≡ length bundle - 4 = omega arith in
+      let trailer : part (length bundle - 4) 4 bundle ≡ t = part-second (front ++ program) t (length bundle - 4) 4 at four in
+      let far : distance bundle ≡ length program = ap number trailer ∙ number-bytes 4 (length program) ∙ mod-eq-of-lt (omega arith) in
+      let start : programAt bundle ≡ length front = omega arith in
+      let split : bundle ≡ front ++ (program ++ t) = append-assoc front program t in
       record {
         somewhere = rw (le-ltb (length bundle) 4 (omega arith), le-ltb (length bundle - 4) (distance bundle) (omega arith)) refl;
-        slip-is = ap₂ (λ i k. take k (drop i bundle)) start far ∙ ap (λ b. take (length slip) (drop (length front) b)) split
-            ∙ ap (take (length slip)) (drop-at front (slip ++ t) (length front) refl) ∙ take-at slip t (length slip) refl;
-        front-is = ap (λ i. take i bundle) start ∙ ap (take (length front)) split ∙ take-at front (slip ++ t) (length front) refl;
+        program-is = ap₂ (λ i k. take k (drop i bundle)) start far ∙ ap (λ b. take (length program) (drop (length front) b)) split
+            ∙ ap (take (length program)) (drop-at front (program ++ t) (length front) refl) ∙ take-at program t (length program) refl;
+        front-is = ap (λ i. take i bundle) start ∙ ap (take (length front)) split ∙ take-at front (program ++ t) (length front) refl;
       }
 
 module _ (key flash : List ℕ) (job : Job) (ok : Sendable job) (filler signature : List ℕ) (key-long : length key ≡ 60) (model : job .model ≡ number (part 56 4 key)) (serial : 0 < job .serial)
@@ -131,15 +131,15 @@ module _ (key flash : List ℕ) (job : Job) (ok : Sendable job) (filler signatur
   abbrev d : Device
   d = deviceFor key
 
-  abbrev slip : List ℕ
-  slip = programFor digest job signature
+  abbrev program : List ℕ
+  program = programFor digest job signature
 
   abbrev front : List ℕ
   front = blockMessages digest job (count job) ++ filler
 
-  -- the slip, accepted
+  -- the kind 1 message, accepted
   abbrev begun : Situation
-  begun = accept Program d flash slip
+  begun = accept Program d flash program
 
   fresh : Fresh d
   unfolding deviceFor freshWith
@@ -153,14 +153,14 @@ module _ (key flash : List ℕ) (job : Job) (ok : Sendable job) (filler signatur
   unfolding deviceFor freshWith
   signed-is = signed
 
-  none-applies : refusalOf digest valid d flash slip ≡ none
+  none-applies : refusalOf digest valid d flash program ≡ none
   none-applies = program-accepted digest length-digest valid d fresh flash job ok signature model-is serial room signed-is
 
-  is-slip : OfProgram (manifestFor digest job) (root-long digest length-digest job ok) signature slip
-  is-slip = is-program digest length-digest valid d fresh flash job ok signature model-is serial room signed-is
+  is-sent : OfProgram (manifestFor digest job) (root-long digest length-digest job ok) signature program
+  is-sent = is-program digest length-digest valid d fresh flash job ok signature model-is serial room signed-is
 
   here : Here digest length-digest valid job ok flash 0 begun
-  here = first-here digest length-digest valid job ok d flash slip (is-slip .manifest) (program-passed digest valid d flash slip (is-slip .is) none-applies)
+  here = first-here digest length-digest valid job ok d flash program (is-sent .manifest) (program-passed digest valid d flash program (is-sent .is) none-applies)
 
   ran : Runs job ok flash (count job) 0 (blocks (begun .device) (begun .flash) front)
   unfolding blocks
@@ -176,13 +176,13 @@ module _ (key flash : List ℕ) (job : Job) (ok : Sendable job) (filler signatur
       of-messages = unfold blockMessages in
           ap (from (job .block) (count job)) (ap (blockMessages digest job) (sym (zero-add (count job))) ∙ messages-after job (count job) 0)
 
-  taken : messages d flash (bundle front slip) ≡ messageLine slip‿ 0 0 before blocks (begun .device) (begun .flash) front
+  taken : messages d flash (bundle front program) ≡ messageLine slip‿ 0 0 before blocks (begun .device) (begun .flash) front
   unfolding messages ifAccepted
   taken =
-      let f = found front slip (unfold bundleFor in fits) in
-      let o : step digest valid d flash slip ≡ record { answer = Accepted; device = begun .device; flash = begun .flash } =
-      accepted-step d flash slip none-applies ∙ ap (λ k. let t = accept k d flash slip in record { answer = Accepted; device = t .device; flash = t .flash }) (is-slip .is) in
-      rw (f .somewhere, f .slip-is, f .front-is, o, messages) refl
+      let f = found front program (unfold bundleFor in fits) in
+      let o : step digest valid d flash program ≡ record { answer = Accepted; device = begun .device; flash = begun .flash } =
+      accepted-step d flash program none-applies ∙ ap (λ k. let t = accept k d flash program in record { answer = Accepted; device = t .device; flash = t .flash }) (is-sent .is) in
+      rw (f .somewhere, f .program-is, f .front-is, o, messages) refl
 
   state-is : (p : Printed) → Runs job ok flash (count job) 0 p → stateLine (p .device) ≡ line stateComplete‿ (count job)
   unfolding stateLine stateWords acceptedBlocks
@@ -195,7 +195,7 @@ module _ (key flash : List ℕ) (job : Job) (ok : Sendable job) (filler signatur
   pub loads-whole : Whole job (bundleFor digest job filler signature) flash (loaded key (bundleFor digest job filler signature) flash)
   unfolding bundleFor _before_ withState
   loads-whole =
-      let b : List ℕ = bundle front slip in
+      let b : List ℕ = bundle front program in
       let p : Printed = blocks (begun .device) (begun .flash) front in
       let s : Situation = record { device = p .device; flash = p .flash } in
       let first : List ℕ = line bundle‿ (length b) in

@@ -22,8 +22,8 @@ module _ (H : List ℕ → List ℕ) where
   -- byte"
   unfoldable pub bundleFor : Job → (filler signature : List ℕ) → List ℕ
   bundleFor job filler signature =
-      let slip = programFor H job signature in
-      blockMessages job (count job) ++ filler ++ slip ++ bytes 4 (length slip)
+      let program = programFor H job signature in
+      blockMessages job (count job) ++ filler ++ program ++ bytes 4 (length program)
 
 -- What `pack` answers, and what it leaves in the caller's buffer: a bundle without filler. It refuses 5 and 8, as the sender does.
 unfoldable pub sendBundle : Job → (signature buffer : List ℕ) → Result

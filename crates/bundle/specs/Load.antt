@@ -15,7 +15,7 @@ use Rattle.device.specs.Device.{countOf, freshWith, Outcome}
 use Rattle.device.specs.Step.{step}
 use Rattle.device.specs.Readers.{numberOf}
 use Rattle.bundle.specs.Text.{bundle‿, slip‿, block‿, keyAlone, bundleOver, line, messageLine, stateLine}
-use Rattle.bundle.specs.Parts.{nowhere, slipIn, beforeSlip}
+use Rattle.bundle.specs.Parts.{nowhere, programIn, beforeProgram}
 
 -- Text printed so far or from here on, with device and flash at its end.
 pub record Printed : Type 0 where
@@ -36,7 +36,7 @@ stop d flash = record { text = []; device = d; flash = flash }
 unfoldable pub ifAccepted : Outcome → Printed → Printed
 ifAccepted o then = elim (o .answer) [ Accepted ↦ then | Refused r ↦ stop (o .device) (o .flash) ]
 
--- `left` block messages of blocks of L bytes, from number i on, n in all; bytes are those left before the slip.
+-- `left` block messages of blocks of L bytes, from number i on, n in all; bytes are those left before the kind 1 message.
 -- "Each block message is cut at its due length, or at the bytes left before the slip." "`block` and the number due, then 0 if accepted or the refusal number"
 unfoldable pub blocksFrom : (L n left i : ℕ) → Device → (flash bytes : List ℕ) → Printed
 blocksFrom L n zero i d flash bytes = stop d flash
@@ -55,8 +55,8 @@ messages d flash bundle =
     elim (nowhere bundle) [
       | true ↦ messageLine slip‿ 0 3 before stop d flash
       | false ↦
-          let o = step digest valid d flash (slipIn bundle) in
-          messageLine slip‿ 0 (numberOf (o .answer)) before ifAccepted o (blocks (o .device) (o .flash) (beforeSlip bundle))
+          let o = step digest valid d flash (programIn bundle) in
+          messageLine slip‿ 0 (numberOf (o .answer)) before ifAccepted o (blocks (o .device) (o .flash) (beforeProgram bundle))
     ]
 
 -- "last `state`, the stage's name, the accepted blocks"

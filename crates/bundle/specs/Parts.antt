@@ -19,12 +19,12 @@ unfoldable pub nowhere : List ℕ → Bool
 nowhere b = ltb (length b) 4 || ltb (trailerAt b) (distance b)
 
 -- where the kind 1 message (01: the slip) starts, and the message
-unfoldable pub slipAt : List ℕ → ℕ
-slipAt b = trailerAt b - distance b
+unfoldable pub programAt : List ℕ → ℕ
+programAt b = trailerAt b - distance b
 
-unfoldable pub slipIn : List ℕ → List ℕ
-slipIn b = part (slipAt b) (distance b) b
+unfoldable pub programIn : List ℕ → List ℕ
+programIn b = part (programAt b) (distance b) b
 
 -- what stands before it: block messages and filler
-unfoldable pub beforeSlip : List ℕ → List ℕ
-beforeSlip b = take (slipAt b) b
+unfoldable pub beforeProgram : List ℕ → List ℕ
+beforeProgram b = take (programAt b) b

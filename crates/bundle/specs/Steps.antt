@@ -8,11 +8,11 @@ use lib.Seq.{paste}
 use Rattle.device.specs.declared.state.Device.{Device}
 use Rattle.bundle.specs.declared.parts.Start.{Start}
 use Rattle.bundle.specs.declared.parts.Start.the-variants.{At, Nowhere}
-use Rattle.bundle.specs.Parts.{nowhere, slipAt}
+use Rattle.bundle.specs.Parts.{nowhere, programAt}
 use Rattle.bundle.specs.Load.{Printed}
 
 unfoldable pub startOf : List ℕ → Start
-startOf b = elim (nowhere b) [ true ↦ Nowhere | false ↦ At (slipAt b) ]
+startOf b = elim (nowhere b) [ true ↦ Nowhere | false ↦ At (programAt b) ]
 
 -- A message of len bytes that starts at index from, or what is left of it, ends at index to.
 pub record Cut (bytes : List ℕ) (from len to : ℕ) : Type 0 where

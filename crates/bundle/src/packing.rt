@@ -7,16 +7,16 @@ use wire::wrong_size;
 ghost use mathlib.Core.Path.{_≡_};
 ghost use mathlib.Core.Bool.{false};
 ghost use mathlib.Core.List.{_++_};
-ghost use Prim.Native.Nat.{ℕ, _≤_};
+ghost use Prim.Native.Nat.{_≤_};
 ghost use lib.ListN.{length, drop};
 ghost use Rattle.sha256.specs.Sha256.{digest};
 ghost use Rattle.sender.specs.Job.{job, count};
-ghost use Rattle.sender.specs.Send.{Does, badSize};
+ghost use Rattle.sender.specs.Send.{lengthOf, Does, badSize};
 ghost use Rattle.bundle.specs.Bundle.{blockMessages, sendBundle};
 
 // How many bytes the sender wrote.
 fn written(sent: Sent) -> usize
-    ensures { λ r. ⌜ ((k : ℕ) → sent ≡ Sent.Written k → r ≡ k) ⌝ }
+    ensures { λ r. ⌜ r ≡ lengthOf sent ⌝ }
 {
     match sent {
         Sent::Written(k) => k,

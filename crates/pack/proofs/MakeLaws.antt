@@ -14,8 +14,8 @@ use Rattle.wire.specs.Refusal.{firstThatApplies}
 use Rattle.sender.specs.declared.send.Sent.{Sent}
 use Rattle.sender.specs.declared.send.Sent.the-variants.{Written, Refused}
 use Rattle.sender.specs.Job.{Job}
-use Rattle.sender.specs.Send.{Result, Does, send, badSize, tooShort, unnumbered}
-use Rattle.pack.specs.Make.{wrote, lengthOf, Makes}
+use Rattle.sender.specs.Send.{Result, lengthOf, Does, send, badSize, tooShort, unnumbered}
+use Rattle.pack.specs.Make.{wrote, Makes}
 use Rattle.bundle.specs.Bundle.{bundleFor, sendBundle}
 
 -- what was written has room in the buffer

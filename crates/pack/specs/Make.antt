@@ -5,18 +5,14 @@ use mathlib.Core.List.{List}
 use Prim.Native.Nat.{ℕ}
 use Rattle.sender.specs.declared.send.Sent.{Sent}
 use Rattle.sender.specs.declared.send.Sent.the-variants.{Written, Refused}
-use Rattle.sender.specs.Send.{Result}
+use Rattle.sender.specs.Send.{Result, lengthOf}
 
--- whether anything was written, and how many bytes
+-- whether anything was written
 abbrev pub wrote : Sent → Bool
 wrote (Written k) = true
 wrote (Refused r) = false
 
-abbrev pub lengthOf : Sent → ℕ
-lengthOf (Written k) = k
-lengthOf (Refused r) = 0
-
--- both, and the buffer, are those of the result
+-- that, the length and the buffer are those of the result
 pub record Makes (s : Result) (done : Bool) (len : ℕ) (buffer : List ℕ) : Type 0 where
   pub told : done ≡ wrote (s .answer)
   pub counted : len ≡ lengthOf (s .answer)

@@ -111,28 +111,28 @@ fn commit(name: &[u8], path: &[u8]) -> bool {
     true
 }
 
-pub fn save_slip(slip: &[u8]) -> bool {
+pub fn save_manifest(manifest: &[u8]) -> bool {
     let mut name = *b"slip.bin.XXXXXX";
-    if !stage(b"slip.bin", slip, &mut name) {
+    if !stage(b"slip.bin", manifest, &mut name) {
         return false;
     }
     commit(&name, b"slip.bin")
 }
 
 // Both or neither: all that may fail is done before either gets its name.
-pub fn save_both(slip: &[u8], bundle: &[u8]) -> bool {
-    let mut slip_name = *b"slip.bin.XXXXXX";
+pub fn save_both(manifest: &[u8], bundle: &[u8]) -> bool {
+    let mut manifest_name = *b"slip.bin.XXXXXX";
     let mut bundle_name = *b"bundle.bin.XXXXXX";
-    if !stage(b"slip.bin", slip, &mut slip_name) {
+    if !stage(b"slip.bin", manifest, &mut manifest_name) {
         return false;
     }
     if !stage(b"bundle.bin", bundle, &mut bundle_name) {
-        os::unlink(&slip_name);
+        os::unlink(&manifest_name);
         return false;
     }
     if !commit(&bundle_name, b"bundle.bin") {
-        os::unlink(&slip_name);
+        os::unlink(&manifest_name);
         return false;
     }
-    commit(&slip_name, b"slip.bin")
+    commit(&manifest_name, b"slip.bin")
 }

@@ -36,22 +36,29 @@ fn argument(i: usize, name: &[u8]) -> Parsed {
     number
 }
 
-fn with_signature(image: &[u8], len: u32, model: u32, serial: u32, signature: &[u8], slip: &[u8]) {
+fn with_signature(
+    image: &[u8],
+    len: u32,
+    model: u32,
+    serial: u32,
+    signature: &[u8],
+    manifest: &[u8],
+) {
     let mut bundle = [0u8; bundle::BUNDLE_LEN];
     let made = make::bundle(image, len, model, serial, signature, &mut bundle);
     if !made.done {
         return;
     }
     let n = made.len;
-    if files::save_both(slip, &bundle[..n]) {
+    if files::save_both(manifest, &bundle[..n]) {
         io::write_all(STDOUT_FILENO, b"slip.bin 48\nbundle.bin ");
         io::print_decimal(STDOUT_FILENO, n as u64);
         io::write_all(STDOUT_FILENO, b"\n");
     }
 }
 
-fn without_signature(slip: &[u8]) {
-    if files::save_slip(slip) {
+fn without_signature(manifest: &[u8]) {
+    if files::save_manifest(manifest) {
         io::write_all(
             STDOUT_FILENO,
             b"slip.bin 48\nno signature.bin: bundle.bin was not written\n",
@@ -60,8 +67,8 @@ fn without_signature(slip: &[u8]) {
 }
 
 fn with_image(image: &[u8], len: u32, model: u32, serial: u32) {
-    let mut slip = [0u8; 48];
-    let made = make::slip(image, len, model, serial, &mut slip);
+    let mut manifest = [0u8; 48];
+    let made = make::manifest(image, len, model, serial, &mut manifest);
     if !made.done {
         return;
     }
@@ -71,8 +78,8 @@ fn with_image(image: &[u8], len: u32, model: u32, serial: u32) {
     let n = input.len;
     let found = input.found;
     match found {
-        Found::Whole => with_signature(image, len, model, serial, &signature[..n], &slip),
-        Found::Missing => without_signature(&slip),
+        Found::Whole => with_signature(image, len, model, serial, &signature[..n], &manifest),
+        Found::Missing => without_signature(&manifest),
         Found::Unusable => {}
     }
 }

@@ -5,9 +5,9 @@ use wire::Refusal;
 ghost use mathlib.Core.Path.{_≡_};
 ghost use Rattle.io.specs.Counts.{Counts};
 ghost use Rattle.sender.specs.Job.{job};
-ghost use Rattle.sender.specs.Send.{sendManifest};
+ghost use Rattle.sender.specs.Send.{lengthOf, sendManifest};
 ghost use Rattle.bundle.specs.Bundle.{sendBundle};
-ghost use Rattle.pack.specs.Make.{wrote, lengthOf, Makes};
+ghost use Rattle.pack.specs.Make.{wrote, Makes};
 
 // So many bytes, or, where nothing is done, none.
 pub struct Made {
@@ -45,7 +45,7 @@ fn outcome(sent: Sent) -> Made
 }
 
 // The manifest, for signing.
-pub fn slip(image: &[u8], len: u32, model: u32, serial: u32, out: &mut [u8]) -> Made
+pub fn manifest(image: &[u8], len: u32, model: u32, serial: u32, out: &mut [u8]) -> Made
     ensures { λ r. ⌜ Makes (sendManifest (job (now (image .entry)) len model serial) (now (out .entry))) (r .done) (r .len) (now (out .exit)) ⌝ }
 {
     outcome(sender::manifest(image, len, model, serial, out))

@@ -20,6 +20,11 @@ pub record Result : Type 0 where
   pub answer : Sent
   pub buffer : List ℕ
 
+-- how many bytes an answer says were written
+abbrev pub lengthOf : Sent → ℕ
+lengthOf (Written k) = k
+lengthOf (Refused r) = 0
+
 -- the answer and the buffer at exit are those of the result
 pub record Does (s : Result) (answer : Sent) (buffer : List ℕ) : Type 0 where
   pub answered : answer ≡ s .answer

@@ -9,10 +9,10 @@ enum-told : tie.Need-enum-told
 enum-told c = search needs
 
 returns : tie.Need-returns
-returns c = λ k e. cc
+returns c = search needs
 
 returns-2 : tie.Need-returns-2
-returns-2 c = λ k e. cc
+returns-2 c = search needs
 
 pub written-spec : {M : Type 1} → statement M
 written-spec = tie.close (tie.spec enum-known-sent enum-told returns returns-2)

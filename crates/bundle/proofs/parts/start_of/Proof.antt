@@ -1,7 +1,7 @@
 use mathlib.Core.Path.{ap, _∙_}
 use native.Mathlib.Omega.{arith}
 use Rattle.bundle.specs.declared.parts.Start.the-variants.{At}
-use Rattle.bundle.proofs.PartLaws.{starts-nowhere, starts-at, nowhere-short, nowhere-beyond, somewhere, slip-at}
+use Rattle.bundle.proofs.PartLaws.{starts-nowhere, starts-at, nowhere-short, nowhere-beyond, somewhere, program-at}
 use borrow.Author.Needs.{needs}
 use Rattle.bundle.proofs.parts.start_of.Statement.{statement}
 use Rattle.bundle.proofs.parts.start_of.Tie as tie
@@ -24,7 +24,7 @@ returns-2 c = starts-nowhere _ (nowhere-beyond _ _ (omega arith) (c .before .u32
 returns-3 : tie.Need-returns-3
 returns-3 c =
     let e = c .before .u32-at .ensures in
-    ap At (slip-at _ _ (omega arith) e) ∙ starts-at _ (somewhere _ _ (omega arith) e (omega arith))
+    ap At (program-at _ _ (omega arith) e) ∙ starts-at _ (somewhere _ _ (omega arith) e (omega arith))
 
 pub start-of-spec : {M : Type 1} → statement M
 start-of-spec =

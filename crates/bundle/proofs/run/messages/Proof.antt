@@ -10,7 +10,7 @@ use borrow.Author.Needs.{needs}
 use Rattle.bundle.proofs.run.messages.Statement.{statement}
 use Rattle.bundle.proofs.run.messages.Tie as tie
 
--- the slip has a place
+-- the kind 1 message has a place
 there : (c : tie.After-place) → Somewhere (c .before .before .before .before .before .before .args .bundle .now) (c .place .given .0 .0)
 there c = found _ _ (sym (c .before .before .start-of .ensures) ∙ c .place .given .1)
 

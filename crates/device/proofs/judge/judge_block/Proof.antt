@@ -1,8 +1,13 @@
-use mathlib.Core.Path.{sym, _∙_}
+use mathlib.Core.Path.{_≡_, sym, _∙_}
+use mathlib.Core.List.{[], _∷_}
 use Rattle.sha256.specs.Sha256.{digest}
 use Rattle.lms.specs.Lms.{valid}
-use Rattle.device.specs.Refusals.{ofBlock}
-use Rattle.device.proofs.JudgeLaws.{passed, here, later, found, block-found, Awaits, awaits}
+use Rattle.wire.specs.declared.refusal.Refusal.the-variants.{Mismatch}
+use Rattle.wire.specs.Refusal.{firstThatApplies}
+use Rattle.device.specs.declared.state.Answer.{Answer}
+use Rattle.device.specs.Refusals.{mismatch, ofBlock}
+use Rattle.device.specs.Answers.{answerOf}
+use Rattle.device.proofs.JudgeLaws.{Cascade, passed, here, later, found, block-found, Awaits, awaits}
 use borrow.Author.Needs.{needs}
 use Rattle.device.proofs.judge.judge_block.Statement.{statement}
 use Rattle.device.proofs.judge.judge_block.Tie as tie
@@ -12,6 +17,19 @@ awaited : (c : tie.After-manifest) → Awaits (c .before .before .before .before
 awaited c =
     let e1 = c .before .before in
     awaits _ (e1 .before .before .before .before .pre .0) (sym (e1 .before .not-loading .ensures) ∙ e1 .if1 .left) (c .before .next-of .ensures)
+
+-- As long as it should be: the comparison decides.
+end : (c : tie.Else4) {a : Answer} → Cascade ((Mismatch, mismatch digest (c .before .before .before .before .before .before .before .before .before .before .before .before .args .device) (c .before .before .before .before .before .before .before .next-of .result) (c .before .before .before .before .before .before .before .before .before .before .before .before .args .message .now)) ∷ []) a
+    → a ≡ answerOf (firstThatApplies (ofBlock digest (c .before .before .before .before .before .before .before .before .before .before .before .before .args .device) (c .before .before .before .before .before .before .before .before .before .before .before .before .args .flash .now) (c .before .before .before .before .before .before .before .before .before .before .before .before .args .message .now)))
+end c k =
+    let e3 = c .before .before in
+    let e2 = e3 .before .before in
+    let n = e2 .before .before .before in
+    let e1 = n .before in
+    block-found digest valid _ _ _ (n .next-of .ensures)
+    (later (sym (e1 .before .not-loading .ensures) ∙ e1 .if1 .left)
+    (later (sym (e2 .before .too-small .ensures) ∙ e2 .if2 .left)
+    (later (sym (e3 .before .not-next .ensures) ∙ e3 .if3 .left) (later (sym (c .before .wrong-length .ensures) ∙ c .if4 .left) k))))
 
 not-loading-requires : tie.Need-not-loading-requires
 not-loading-requires c κs = search needs
@@ -67,30 +85,10 @@ mismatch-requires c κs =
     (w .size, w .low, w .high, sym (c .before .wrong-length .ensures) ∙ c .if4 .left)
 
 returns-5 : tie.Need-returns-5
-returns-5 c =
-    let e4 = c .before .before in
-    let e3 = e4 .before .before in
-    let e2 = e3 .before .before in
-    let n = e2 .before .before .before in
-    let e1 = n .before in
-    block-found digest valid _ _ _ (n .next-of .ensures)
-    (later (sym (e1 .before .not-loading .ensures) ∙ e1 .if1 .left)
-    (later (sym (e2 .before .too-small .ensures) ∙ e2 .if2 .left)
-    (later (sym (e3 .before .not-next .ensures) ∙ e3 .if3 .left)
-    (later (sym (e4 .before .wrong-length .ensures) ∙ e4 .if4 .left) (here (sym (c .before .mismatch .ensures) ∙ c .if5 .taken))))))
+returns-5 c = end (c .before .before) (here (sym (c .before .mismatch .ensures) ∙ c .if5 .taken))
 
 returns-6 : tie.Need-returns-6
-returns-6 c =
-    let e4 = c .before .before in
-    let e3 = e4 .before .before in
-    let e2 = e3 .before .before in
-    let n = e2 .before .before .before in
-    let e1 = n .before in
-    block-found digest valid _ _ _ (n .next-of .ensures)
-    (later (sym (e1 .before .not-loading .ensures) ∙ e1 .if1 .left)
-    (later (sym (e2 .before .too-small .ensures) ∙ e2 .if2 .left)
-    (later (sym (e3 .before .not-next .ensures) ∙ e3 .if3 .left)
-    (later (sym (e4 .before .wrong-length .ensures) ∙ e4 .if4 .left) (later (sym (c .before .mismatch .ensures) ∙ c .if5 .left) passed)))))
+returns-6 c = end (c .before .before) (later (sym (c .before .mismatch .ensures) ∙ c .if5 .left) passed)
 
 pub judge-block-spec : {M : Type 1} → statement M
 judge-block-spec =

@@ -1,9 +1,11 @@
-use mathlib.Core.Path.{_≡_, sym, ap, ap₂, _∙_}
+use mathlib.Core.Path.{_≡_, sym, ap, ap₂, _∙_, subst}
+use mathlib.Core.List.{[], _∷_}
 use lib.ListN.{length}
 use borrow.Author.Tests.{lt-ltb, le-ltb}
 use Rattle.octets.proofs.CopyLaws.{length-part, part-between}
 use Rattle.sha256.specs.Sha256.{digest}
 use Rattle.lms.specs.Lms.{valid}
+use Rattle.wire.specs.declared.refusal.Refusal.the-variants.{Mismatch}
 use Rattle.wire.specs.Refusal.{firstThatApplies}
 use Rattle.wire.specs.Size.{outside}
 use Rattle.wire.specs.Message.{manifestBytes, manifestIn, updateNumber, updateSignature}
@@ -151,31 +153,26 @@ lacks-root-requires c κs =
       ap length (part-between m 51 (s .read .result .block)) ∙ length-part m 51 (s .read .result .block) (e5 .if5 .left),
     )
 
-returns-8 : tie.Need-returns-8
+-- Signed: the tree's comparison decides.
+last : (c : tie.After-lacks-root) {a : Answer} → Cascade ((Mismatch, c .lacks-root .result) ∷ []) a
+    → a ≡ answerOf (firstThatApplies (ofUpdate digest valid (c .before .before .before .before .before .before .before .before .before .before .before .before .before .before .before .before .before .before .before .before .before .before .before .args .device) (c .before .before .before .before .before .before .before .before .before .before .before .before .before .before .before .before .before .before .before .before .before .before .before .args .flash .now) (c .before .before .before .before .before .before .before .before .before .before .before .before .before .before .before .before .before .before .before .before .before .before .before .args .message .now)))
 unfolding updateSignature updateNumber
-returns-8 c =
-    let e6 = c .before .before .before in
+last c {a} k =
+    let e6 = c .before .before in
     let e5 = e6 .before .before in
     let e4 = e5 .before .before in
     let s = e4 .before .before .before .before .before .before .before .before .before .before .before .before in
-    let a = s .before .before .before .before .before .args in
+    let g = s .before .before .before .before .before .args in
     end e4
     (later (le-ltb _ _ (e5 .if5 .left))
     (later (sym (e6 .before .unsigned .ensures) ∙ e6 .if6 .left)
-    (here (sym (lacks-found digest (s .read .result) (a .flash .now) (a .message .now) (e4 .before .before .before .u16-at .ensures) (c .before .lacks-root .ensures)) ∙ c .if7 .taken))))
+    (subst (λ t. Cascade ((Mismatch, t) ∷ []) a) (lacks-found digest (s .read .result) (g .flash .now) (g .message .now) (e4 .before .before .before .u16-at .ensures) (c .lacks-root .ensures)) k)))
+
+returns-8 : tie.Need-returns-8
+returns-8 c = last (c .before) (here (c .if7 .taken))
 
 returns-9 : tie.Need-returns-9
-unfolding updateSignature updateNumber
-returns-9 c =
-    let e6 = c .before .before .before in
-    let e5 = e6 .before .before in
-    let e4 = e5 .before .before in
-    let s = e4 .before .before .before .before .before .before .before .before .before .before .before .before in
-    let a = s .before .before .before .before .before .args in
-    end e4
-    (later (le-ltb _ _ (e5 .if5 .left))
-    (later (sym (e6 .before .unsigned .ensures) ∙ e6 .if6 .left)
-    (later (sym (lacks-found digest (s .read .result) (a .flash .now) (a .message .now) (e4 .before .before .before .u16-at .ensures) (c .before .lacks-root .ensures)) ∙ c .if7 .left) passed)))
+returns-9 c = last (c .before) (later (c .if7 .left) passed)
 
 pub judge-update-spec : {M : Type 1} → statement M
 judge-update-spec =

@@ -1,7 +1,7 @@
 use Rattle.pack.proofs.MakeLaws.{makes}
 use borrow.Author.Needs.{needs}
-use Rattle.pack.proofs.make.slip.Statement.{statement}
-use Rattle.pack.proofs.make.slip.Tie as tie
+use Rattle.pack.proofs.make.manifest.Statement.{statement}
+use Rattle.pack.proofs.make.manifest.Tie as tie
 
 manifest-requires : tie.Need-manifest-requires
 manifest-requires c κs = search needs
@@ -15,5 +15,5 @@ same-length c = search needs
 returns : tie.Need-returns
 returns c = makes (c .before .before .before .manifest .ensures) (c .outcome .ensures)
 
-pub slip-spec : {M : Type 1} → statement M
-slip-spec = tie.close (tie.spec manifest-requires outcome-requires same-length returns)
+pub manifest-spec : {M : Type 1} → statement M
+manifest-spec = tie.close (tie.spec manifest-requires outcome-requires same-length returns)
