@@ -2,3 +2,4 @@ pub mod BufferLaws
 pub mod CopyLaws
 pub mod EqualLaws
 pub mod NumberLaws
+pub mod SixLaws

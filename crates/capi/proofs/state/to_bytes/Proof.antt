@@ -4,7 +4,7 @@ use native.Mathlib.Omega.{arith}
 use lib.ListN.{length, length-map}
 use Rattle.octets.proofs.NumberLaws.{length-bytes}
 use Rattle.capi.specs.State.{encode}
-use Rattle.capi.proofs.StateLaws.{copied}
+use Rattle.octets.proofs.SixLaws.{copied}
 use borrow.Author.Needs.{needs}
 use Rattle.capi.proofs.state.to_bytes.Statement.{statement}
 use Rattle.capi.proofs.state.to_bytes.Tie as tie
