@@ -8,6 +8,7 @@ use native.Mathlib.Omega.{arith}
 use lib.Dec.{ltb}
 use lib.ListN.{length, drop, length-drop, length-replicate}
 use Rattle.octets.specs.Octets.{Bytes, part}
+use Rattle.merkle.specs.Limits.{maxBlocks, heldBytes}
 use Rattle.octets.proofs.CopyLaws.{length-part}
 use Rattle.octets.proofs.NumberLaws.{part-bytes}
 use Rattle.sha256.specs.Sha256.{digest}
@@ -50,12 +51,12 @@ module _ (d : Device) (flash m : List ℕ) (bytes : Bytes m) (f : Fits d) where
       go false = omega arith
 
   -- the next number is one of the manifest's blocks
-  awaited : BlockPassed digest valid d flash m → (0 < nextOf (d .stage)) × (nextOf (d .stage) ≤ countOf (d .manifest)) × (countOf (d .manifest) ≤ 4096)
+  awaited : BlockPassed digest valid d flash m → (0 < nextOf (d .stage)) × (nextOf (d .stage) ≤ countOf (d .manifest)) × (countOf (d .manifest) ≤ maxBlocks)
   unfolding notLoading senseless badSize nextOf countOf
   awaited p = go (d .stage) (p .loading) (p .sense)
     where
       go : (t : Stage) → notLoading t ≡ false → senseless (record { model = d .model; key = d .key; stage = t; manifest = d .manifest; hashes = d .hashes }) ≡ false
-          → (0 < nextOf t) × (nextOf t ≤ countOf (d .manifest)) × (countOf (d .manifest) ≤ 4096)
+          → (0 < nextOf t) × (nextOf t ≤ countOf (d .manifest)) × (countOf (d .manifest) ≤ maxBlocks)
       go Idle l s = absurd (true≢false l)
       go Complete l s = absurd (true≢false l)
       go (Loading i) l s =
@@ -108,7 +109,7 @@ fresh-fits model key h l =
       key = l;
       next = omega arith;
       manifest = record { version = omega arith; block = omega arith; model = omega arith; serial = omega arith; image = omega arith; root = length-replicate {A = ℕ} 32 0 };
-      hashes = length-replicate {A = ℕ} 384 0;
+      hashes = length-replicate {A = ℕ} heldBytes 0;
     }
 
 -- the memory that holds a device and its flash

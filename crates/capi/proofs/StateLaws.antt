@@ -7,6 +7,7 @@ use native.Mathlib.Omega.{arith}
 use lib.ListN.{length}
 use borrow.Author.Tests.{ne-eqb}
 use Rattle.octets.specs.Octets.{bytes, number, part}
+use Rattle.merkle.specs.Limits.{heldBytes}
 use Rattle.octets.proofs.SixLaws as six
 use Rattle.octets.proofs.NumberLaws.{length-bytes, number-back}
 use Rattle.wire.specs.Manifest.{written, read}
@@ -23,7 +24,7 @@ pub record Fits (d : Device) : Type 0 where
   pub key : length (d .key) ≡ 56
   pub next : nextOf (d .stage) < 256 ^ 2
   pub manifest : manifest.Fits (d .manifest)
-  pub hashes : length (d .hashes) ≡ 384
+  pub hashes : length (d .hashes) ≡ heldBytes
 
 -- what `stageIn` says of bytes by their length
 pub other-length : (b : List ℕ) → (length b ≡ stateLength → ⊥) → stageIn b ≡ none
@@ -63,7 +64,7 @@ module _ (d : Device) (f : Fits d) where
       (manifest.length-written (d .manifest) (f .manifest .root)) (f .hashes)
 
   fields : (part 0 4 (encode d) ≡ bytes 4 (d .model)) × (part 4 56 (encode d) ≡ d .key) × (part 60 2 (encode d) ≡ bytes 2 (stageNumber (d .stage)))
-      × (part 62 2 (encode d) ≡ bytes 2 (nextOf (d .stage))) × (part 64 48 (encode d) ≡ written (d .manifest)) × (part 112 384 (encode d) ≡ d .hashes)
+      × (part 62 2 (encode d) ≡ bytes 2 (nextOf (d .stage))) × (part 64 48 (encode d) ≡ written (d .manifest)) × (part 112 heldBytes (encode d) ≡ d .hashes)
   unfolding encode
   fields =
       six.places (bytes 4 (d .model)) (d .key) (bytes 2 (stageNumber (d .stage))) (bytes 2 (nextOf (d .stage))) (written (d .manifest)) (d .hashes)

@@ -2,10 +2,11 @@
 use mathlib.Core.Bool.{cond}
 use mathlib.Core.List.{List, _++_}
 use mathlib.Core.Option.{Option, none, some}
-use Prim.Native.Nat.{ℕ}
+use Prim.Native.Nat.{ℕ, _+_}
 use lib.Dec.{eqb}
 use lib.ListN.{length}
 use Rattle.octets.specs.Octets.{bytes, number, part}
+use Rattle.merkle.specs.Limits.{heldBytes}
 use Rattle.wire.specs.Manifest.{written, read}
 use Rattle.device.specs.declared.state.Stage.{Stage}
 use Rattle.device.specs.declared.state.Stage.the-variants.{Idle, Loading, Complete}
@@ -13,7 +14,7 @@ use Rattle.device.specs.declared.state.Device.{Device}
 use Rattle.device.specs.Refusals.{nextOf}
 
 abbrev pub stateLength : ℕ
-stateLength = 496
+stateLength = 112 + heldBytes
 
 unfoldable pub stageNumber : Stage → ℕ
 stageNumber t = elim t [ Idle ↦ 0 | Loading i ↦ 1 | Complete ↦ 2 ]
@@ -33,7 +34,7 @@ stageIn b = cond (eqb (length b) stateLength) (stageFrom (number (part 60 2 b)) 
 
 -- the device at this stage whose other fields stand in b
 unfoldable pub deviceIn : List ℕ → Stage → Device
-deviceIn b t = record { model = number (part 0 4 b); key = part 4 56 b; stage = t; manifest = read (part 64 48 b); hashes = part 112 384 b }
+deviceIn b t = record { model = number (part 0 4 b); key = part 4 56 b; stage = t; manifest = read (part 64 48 b); hashes = part 112 heldBytes b }
 
 unfoldable pub decode : List ℕ → Option Device
 decode b = elim (stageIn b) [ none ↦ none | some t ↦ some (deviceIn b t) ]

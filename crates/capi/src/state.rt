@@ -6,7 +6,7 @@ ghost use lib.ListN.{length};
 ghost use Rattle.capi.specs.State.{encode, deviceIn, stageIn, stageNumber, stateLength};
 ghost use Rattle.capi.specs.Found.{found};
 
-pub const STATE_LEN: usize = 496;
+pub const STATE_LEN: usize = 112 + merkle::HELD_LEN;
 
 pub fn stage_number(stage: Stage) -> u16
     ensures { λ r. ⌜ r ≡ stageNumber stage ⌝ }
@@ -67,7 +67,7 @@ pub fn device_in(s: &[u8], stage: Stage) -> Device
     let mut key = [0u8; 56];
     octets::copy(&mut key, 0, &s[4..60]);
     let mut hashes = [0u8; merkle::HELD_LEN];
-    octets::copy(&mut hashes, 0, &s[112..496]);
+    octets::copy(&mut hashes, 0, &s[112..STATE_LEN]);
     Device {
         model: octets::u32_at(s, 0),
         key,

@@ -5,7 +5,7 @@ use Prim.Native.Nat.{ℕ, suc, _*_, _≤_, _<_}
 use native.Mathlib.Nat.{mul-le-mul-right}
 use native.Mathlib.Omega.{arith}
 use lib.ListN.{length}
-use Rattle.merkle.specs.Limits.{hashLength}
+use Rattle.merkle.specs.Limits.{maxBlocks, hashLength}
 use Rattle.merkle.specs.Blocks.{blockCount}
 use Rattle.merkle.specs.Shape.{shape}
 use Rattle.merkle.specs.Frontier.{messageLength}
@@ -31,7 +31,7 @@ module _ (H : List ℕ → List ℕ) (hash-long : (x : List ℕ) → length (H x
   unfolding count
   count-some = job-sized .first
 
-  pub count-most : count job ≤ 4096
+  pub count-most : count job ≤ maxBlocks
   unfolding count
   count-most = job-sized .count
 
@@ -51,7 +51,7 @@ module _ (H : List ℕ → List ℕ) (hash-long : (x : List ℕ) → length (H x
   unfolding manifestFor
   manifest-fits =
       let z = job-sized in
-      let m : blockCount (job .block) (length (job .image)) * job .block ≤ 4096 * job .block = mul-le-mul-right (job .block) (z .count) in
+      let m : blockCount (job .block) (length (job .image)) * job .block ≤ maxBlocks * job .block = mul-le-mul-right (job .block) (z .count) in
       record { version = omega arith; block = omega arith; model = ok .model; serial = ok .serial; image = omega arith; root = root-long }
 
   -- a message with exactly the job's manifest

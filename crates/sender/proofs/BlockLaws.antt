@@ -10,6 +10,7 @@ use lib.ListN.{length, take, drop, replicate, length-append, length-drop, length
 use lib.Seq.{paste, take-length, take-at, drop-at}
 use Rattle.octets.proofs.CopyLaws.{part-between}
 use Rattle.sha256.specs.Sha256.{digest}
+use Rattle.merkle.specs.Limits.{maxBlocks}
 use Rattle.merkle.specs.Blocks.{blockCount, cut, overlay}
 use Rattle.merkle.specs.Shape.{shape}
 use Rattle.merkle.specs.Hash.{hash}
@@ -94,7 +95,7 @@ module _ (image : List ℕ) (len number n : ℕ) where
     pub inside : outside n number ≡ false
     pub low : 0 < number
     pub high : number ≤ n
-    pub few : n ≤ 4096
+    pub few : n ≤ maxBlocks
 
   pub tested : {w o : Bool} → w ≡ wrongSize len (length image) → w ≡ false → n ≡ blockCount len (length image) → o ≡ outside n number → o ≡ false → Tested
   tested ew w e eo o =

@@ -1,5 +1,6 @@
 use Prim.Native.Nat.{_+_, _-_, _≤_}
 use native.Mathlib.Omega.{arith}
+use Rattle.merkle.specs.Limits.{maxBlocks}
 use Rattle.device.proofs.ConditionLaws.{sound}
 use Rattle.bundle.proofs.RunLaws.{Looping, looping-start, looping-end, out-kept, line-fits, one-more, stopped, all-blocks, rerun, few-blocks}
 use borrow.Author.Needs.{needs}
@@ -58,7 +59,7 @@ put-message-requires c κs =
     let l = c .before .before .before .before .before .before .before .before .before .before .before .before .loop in
     let s = c .before .before .before .before .before .before .before .before .before .before .before .before .before .before .before .before .before .before .before .before in
     let n = c .before .before .before .before .before .before .before .before .before .before .before .before .before .block-count in
-    let few : n .result ≤ 4096 = few-blocks _ (s .pre .0) (n .ensures) in
+    let few : n .result ≤ maxBlocks = few-blocks _ (s .pre .0) (n .ensures) in
     line-fits _ _ _ _ _ _ _ (l .inv) (l .inv .last) few (s .pre .1) _ (omega (arith, c .before .before .before .before .before .before .before .before .before .before .before .loop-test .taken)) (omega arith)
 
 enum-told : tie.Need-enum-told Inv-loop μ-loop
@@ -75,7 +76,7 @@ same-length-2 c =
     let l = c .before .before .before .before .before .before .before .before .before .before .before .before .before .before .before .before .before .loop in
     let s = c .before .before .before .before .before .before .before .before .before .before .before .before .before .before .before .before .before .before .before .before .before .before .before .before .before in
     let n = c .before .before .before .before .before .before .before .before .before .before .before .before .before .before .before .before .before .before .block-count in
-    let few : n .result ≤ 4096 = few-blocks _ (s .pre .0) (n .ensures) in
+    let few : n .result ≤ maxBlocks = few-blocks _ (s .pre .0) (n .ensures) in
     omega (arith, out-kept _ _ _ _ _ _ _ (l .inv) (l .inv .last) few (s .pre .1))
 
 returns : tie.Need-returns Inv-loop μ-loop
@@ -83,7 +84,7 @@ returns c =
     let l = c .before .before .before .before .before .before .before .before .before .before .before .before .before .before .before .before .before .loop in
     let s = c .before .before .before .before .before .before .before .before .before .before .before .before .before .before .before .before .before .before .before .before .before .before .before .before .before in
     let n = c .before .before .before .before .before .before .before .before .before .before .before .before .before .before .before .before .before .before .block-count in
-    let few : n .result ≤ 4096 = few-blocks _ (s .pre .0) (n .ensures) in
+    let few : n .result ≤ maxBlocks = few-blocks _ (s .pre .0) (n .ensures) in
     let r = stopped _ _ _ _ _ _ _ (l .inv) (omega (arith, c .before .before .before .before .before .before .before .before .before .before .before .before .before .before .before .before .loop-test .taken)) few (s .pre .1) _ _ _ (c .before .before .before .before .before .before .before .before .before .before .before .before .before .before .before .message-len .ensures) (c .before .before .before .before .before .before .before .before .before .before .before .before .before .before .cut .ensures) (c .before .before .before .before .before .before .before .before .before .before .before .receive .ensures) _
     (c .before .before .before .before .before .answer-number .ensures) (omega arith) (c .before .before .before .before .put-message .ensures) _ (c .enum-told2 .given .1) in
     (rerun (all-blocks _ _ _ (n .ensures)) (r .0), r .1)
@@ -93,7 +94,7 @@ add-number c =
     let l = c .before .before .before .before .before .before .before .before .before .before .before .before .before .before .before .before .before .loop in
     let s = c .before .before .before .before .before .before .before .before .before .before .before .before .before .before .before .before .before .before .before .before .before .before .before .before .before in
     let n = c .before .before .before .before .before .before .before .before .before .before .before .before .before .before .before .before .before .before .block-count in
-    let few : n .result ≤ 4096 = few-blocks _ (s .pre .0) (n .ensures) in
+    let few : n .result ≤ maxBlocks = few-blocks _ (s .pre .0) (n .ensures) in
     omega (arith, c .before .before .before .before .before .before .before .before .before .before .before .before .before .before .before .before .loop-test .taken)
 
 loop-less : tie.Need-loop-less Inv-loop μ-loop
@@ -104,7 +105,7 @@ loop-again c =
     let l = c .before .before .before .before .before .before .before .before .before .before .before .before .before .before .before .before .before .loop in
     let s = c .before .before .before .before .before .before .before .before .before .before .before .before .before .before .before .before .before .before .before .before .before .before .before .before .before in
     let n = c .before .before .before .before .before .before .before .before .before .before .before .before .before .before .before .before .before .before .block-count in
-    let few : n .result ≤ 4096 = few-blocks _ (s .pre .0) (n .ensures) in
+    let few : n .result ≤ maxBlocks = few-blocks _ (s .pre .0) (n .ensures) in
     one-more _ _ _ _ _ _ _ (l .inv) (omega (arith, c .before .before .before .before .before .before .before .before .before .before .before .before .before .before .before .before .loop-test .taken)) few (s .pre .1) _ _ _ (c .before .before .before .before .before .before .before .before .before .before .before .before .before .before .before .message-len .ensures) (c .before .before .before .before .before .before .before .before .before .before .before .before .before .before .cut .ensures) (c .before .before .before .before .before .before .before .before .before .before .before .receive .ensures) _
     (c .before .before .before .before .before .answer-number .ensures) (omega arith) (c .before .before .before .before .put-message .ensures) (omega arith) (c .enum-told .given .1)
 
@@ -116,7 +117,7 @@ same-length-4 c =
     let l = c .before .loop in
     let s = c .before .before .before .before .before .before .before .before .before in
     let n = c .before .before .block-count in
-    let few : n .result ≤ 4096 = few-blocks _ (s .pre .0) (n .ensures) in
+    let few : n .result ≤ maxBlocks = few-blocks _ (s .pre .0) (n .ensures) in
     out-kept _ _ _ _ _ _ _ (l .inv) (l .inv .last) few (s .pre .1)
 
 returns-2 : tie.Need-returns-2 Inv-loop μ-loop
@@ -124,7 +125,7 @@ returns-2 c =
     let l = c .before .loop in
     let s = c .before .before .before .before .before .before .before .before .before in
     let n = c .before .before .block-count in
-    let few : n .result ≤ 4096 = few-blocks _ (s .pre .0) (n .ensures) in
+    let few : n .result ≤ maxBlocks = few-blocks _ (s .pre .0) (n .ensures) in
     let r = looping-end _ _ _ _ _ _ _ (l .inv) (omega arith) few in
     (rerun (all-blocks _ _ _ (n .ensures)) (r .0), r .1)
 

@@ -3,6 +3,7 @@ use Prim.Native.Nat.{ℕ}
 use native.Mathlib.Omega.{arith}
 use lib.ListN.{length, length-map}
 use Rattle.octets.proofs.NumberLaws.{length-bytes}
+use Rattle.merkle.specs.Limits.{heldBytes}
 use Rattle.capi.specs.State.{encode}
 use Rattle.octets.proofs.SixLaws.{copied}
 use borrow.Author.Needs.{needs}
@@ -12,7 +13,7 @@ use Rattle.capi.proofs.state.to_bytes.Tie as tie
 key-length : (c : tie.Start) → length (c .args .device .key) ≡ 56
 key-length c = sym (length-map (c .args .device .key) (λ (v : ℕ). v)) ∙ c .good .0 .1 .1 .1 .0 .1 .0 .1
 
-hashes-length : (c : tie.Start) → length (c .args .device .hashes) ≡ 384
+hashes-length : (c : tie.Start) → length (c .args .device .hashes) ≡ heldBytes
 hashes-length c = sym (length-map (c .args .device .hashes) (λ (v : ℕ). v)) ∙ c .good .0 .1 .1 .1 .1 .1 .1 .0 .1 .0 .1
 
 be32-requires : tie.Need-be32-requires
