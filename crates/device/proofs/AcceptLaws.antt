@@ -23,7 +23,7 @@ use Rattle.device.specs.declared.state.Device.{Device}
 use Rattle.device.specs.declared.state.Answer.{Answer}
 use Rattle.device.specs.declared.state.Answer.the-variants.{Accepted, Refused}
 use Rattle.device.specs.Device.{countOf, Situation}
-use Rattle.device.specs.Refusals.{short, leastLength, nextOf, tooSmall, wrongLength, withBlock, updated, always, ofBlock, ofUpdate, ofKind, refusals}
+use Rattle.device.specs.Refusals.{ofManifest, short, leastLength, nextOf, tooSmall, wrongLength, withBlock, updated, always, ofBlock, ofUpdate, ofKind, refusals}
 use Rattle.device.specs.Step.{acceptProgram, acceptBlock, acceptUpdate, stageAfter, accept, outcome, refusalOf, step}
 use Rattle.device.specs.Answers.{answerOf}
 use Rattle.device.proofs.ConditionLaws.{before-is, room, slice-rest, slice-block}
@@ -63,7 +63,7 @@ module _ (d : Device) (flash m : List ℕ) where
     update-long e = ltb-false (length m) 51 (pass (cascade _ e) .1 .1 .0)
 
     pub update-due : {s : Manifest} {i : ℕ} → NoneOf kinds.Update → s ≡ manifestIn m → i ≡ updateNumber m → UpdateDue s i
-    unfolding refusals always ofKind ofUpdate NoneApplies
+    unfolding refusals always ofKind ofManifest ofUpdate NoneApplies
     update-due {s} {i} e es ei =
         let t = pass (cascade (refusals H valid kinds.Update d flash m) e) .1 .1 .1 .1 .1 .1 .1 .1 .1 in
         let n = inside _ _ (t .1 .0) in

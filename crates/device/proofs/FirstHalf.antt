@@ -30,6 +30,7 @@ use Rattle.device.specs.Refusals.{treeOver}
 use Rattle.device.specs.Step.{step}
 use Rattle.device.specs.Run.{Messages, lastProgram, blocksSince, lastCarrier, Completed}
 use Rattle.device.specs.Demand3.{Bound, FirstHalf}
+use Rattle.device.proofs.RefusalLaws.{passed}
 use Rattle.device.proofs.InvariantLaws.{Carried, InComplete, Holds, Invariant, kept}
 use Rattle.device.proofs.RunLaws.{now, taken, every-list}
 
@@ -103,7 +104,9 @@ module _ (H : List ℕ → List ℕ) (valid : (key message signature : List ℕ)
   unfolding lastProgram lastCarrier
   invariant fresh ms =
       every-list H valid d flash (λ s taken. Invariant H valid (d .key) (length flash) (s .device) (s .flash) taken)
-      (λ ms m v e. kept H valid (d .key) (length flash) (now H valid d flash ms .device) (now H valid d flash ms .flash) m (taken H valid d flash ms) v e)
+      (λ ms m v e.
+      let s : Situation = now H valid d flash ms in
+      kept H valid (d .key) (length flash) (s .device) (s .flash) m (taken H valid d flash ms) v (passed H valid (s .device) (s .flash) m e))
       (record { same = refl; long = refl; holds = rw (fresh .idle) (refl, refl) }) ms
 
 module _ (H : List ℕ → List ℕ) (hash-long : (x : List ℕ) → length (H x) ≡ hashLength) (valid : (key message signature : List ℕ) → Bool) (d : Device) (fresh : Fresh d)

@@ -24,7 +24,6 @@ use Rattle.merkle.proofs.LoadingLaws.{hashes-zero}
 use Rattle.merkle.proofs.RunLaws.{Honest, honest}
 use Rattle.wire.specs.declared.kind.Kind.the-variants.{Program, Block}
 use Rattle.wire.specs.declared.manifest.Manifest.{Manifest}
-use Rattle.wire.specs.Refusal.{firstThatApplies}
 use Rattle.wire.specs.Size.{outside}
 use Rattle.wire.specs.Manifest.{written}
 use Rattle.wire.specs.Image.{filled, imageBlocks}
@@ -33,10 +32,10 @@ use Rattle.sender.specs.Job.{Job, count, blocks, rootOf, manifestFor, blockFor}
 use Rattle.device.specs.declared.state.Stage.the-variants.{Loading, Complete}
 use Rattle.device.specs.declared.state.Device.{Device}
 use Rattle.device.specs.Device.{countOf, heldBy, Situation}
-use Rattle.device.specs.Refusals.{wrongVersion, badSize, senseless, noKind, short, leastLength, tooSmall, notLoading, nextOf, notNext, wrongLength, withBlock, mismatch, always, ofBlock, ofKind, refusals}
+use Rattle.device.specs.Refusals.{wrongVersion, badSize, senseless, short, leastLength, tooSmall, notLoading, nextOf, notNext, wrongLength, withBlock, mismatch}
 use Rattle.device.specs.Step.{acceptProgram, stageAfter, acceptBlock, accept, refusalOf}
 use Rattle.device.specs.Demand3.{Sendable}
-use Rattle.device.proofs.RefusalLaws.{NoneApplies, _then_, applies-none, ProgramPassed}
+use Rattle.device.proofs.RefusalLaws.{ProgramPassed, NextDue, due-unrefused}
 use Rattle.device.proofs.FlashLaws.{more-blocks}
 use Rattle.device.proofs.SentLaws.{count-some, count-most, job-length, block-length, root-long, manifest-is, Sent, block-sent}
 
@@ -70,22 +69,20 @@ module _ (H : List ℕ → List ℕ) (hash-long : (x : List ℕ) → length (H x
     matches : fits H [] [] (count job) j array (blockIn (job .block) (blockFor H job (suc j))) (hashesAfter (job .block) (blockFor H job (suc j))) ≡ true
     matches = rw (is-sent .block, is-sent .after) (run .accepted)
 
-    no-refusal : (model : ℕ) (key f : List ℕ) → count job * job .block ≤ length f → refusalOf H valid (loadingAt H job model key j array) f (blockFor H job (suc j)) ≡ none
-    unfolding refusalOf refusals always ofKind ofBlock senseless noKind short leastLength notLoading tooSmall nextOf notNext wrongLength mismatch wrongVersion badSize outside countOf count loadingAt manifestFor NoneApplies messageLength
-    no-refusal model key f room =
+    is-due : (model : ℕ) (key f : List ℕ) → count job * job .block ≤ length f → NextDue H valid (loadingAt H job model key j array) f (blockFor H job (suc j))
+    unfolding senseless short leastLength notLoading tooSmall nextOf notNext wrongLength mismatch wrongVersion badSize outside countOf count loadingAt manifestFor messageLength
+    is-due model key f room =
         let m : List ℕ = blockFor H job (suc j) in
-        let d : Device = loadingAt H job model key j array in
-        subst (λ k. firstThatApplies (refusals H valid k d f m) ≡ none) (sym (is-sent .is))
-        (applies-none (refusals H valid Block d f m)
-        (both-false _ _ (ok .size) (both-false (eqb (suc j) 0) _ (eqb·suc-zero j) (le-ltb (count job) (suc j) (omega arith)))
-        then refl
-        then le-ltb (length m) 3 (omega (arith, is-sent .size))
-        then refl
-        then le-ltb (length f) _ room
-        then ap not (eq-eqb (numberIn m) (suc j) (is-sent .number))
-        then ap not (eq-eqb (length m) _ (is-sent .size))
-        then ap not matches
-        then tt))
+        record {
+          is = is-sent .is;
+          sense = both-false _ _ (ok .size) (both-false (eqb (suc j) 0) _ (eqb·suc-zero j) (le-ltb (count job) (suc j) (omega arith)));
+          head = le-ltb (length m) 3 (omega (arith, is-sent .size));
+          loading = refl;
+          area = le-ltb (length f) _ room;
+          turn = ap not (eq-eqb (numberIn m) (suc j) (is-sent .number));
+          size = ap not (eq-eqb (length m) _ (is-sent .size));
+          same = ap not matches;
+        }
 
   module _ (old : List ℕ) (j : ℕ) (s : Situation) (w : Here old j s) where
     room-now : count job * job .block ≤ length (s .flash)
@@ -100,10 +97,13 @@ module _ (H : List ℕ → List ℕ) (hash-long : (x : List ℕ) → length (H x
         let t : s .device .stage ≡ Loading (suc j) = w .stage ∙ rw (lt-ltb j (count job) h) in
         λ i. record { model = s .device .model; key = s .device .key; stage = t i; manifest = w .manifest i; hashes = s .device .hashes }
 
+    pub next-due : j < count job → NextDue H valid (s .device) (s .flash) (blockFor H job (suc j))
+    next-due h =
+        subst (λ d. NextDue H valid d (s .flash) (blockFor H job (suc j))) (sym (is-loading h))
+        (is-due j (s .device .hashes) h (w .array) (w .holds) (s .device .model) (s .device .key) (s .flash) room-now)
+
     pub next-accepted : j < count job → refusalOf H valid (s .device) (s .flash) (blockFor H job (suc j)) ≡ none
-    next-accepted h =
-        subst (λ d. refusalOf H valid d (s .flash) (blockFor H job (suc j)) ≡ none) (sym (is-loading h))
-        (no-refusal j (s .device .hashes) h (w .array) (w .holds) (s .device .model) (s .device .key) (s .flash) room-now)
+    next-accepted h = due-unrefused H valid (s .device) (s .flash) (blockFor H job (suc j)) (next-due h)
 
     next-flash : j < count job → withBlock (job .block) (s .flash) (suc j) (blockIn (job .block) (blockFor H job (suc j)))
         ≡ take (suc j * job .block) (filled (job .block) (job .image)) ++ drop (suc j * job .block) old

@@ -1,7 +1,7 @@
 -- What every list of messages keeps, from a fresh device on: the invariant behind demand 3's first half.
 use mathlib.Core.Path.{_≡_, refl, ap, _∙_, subst}
 use mathlib.Core.Logic.{_⊎_, inl, inr}
-use mathlib.Core.Bool.{Bool, true, cond, true≢false}
+use mathlib.Core.Bool.{Bool, true, false, _||_, cond, true≢false}
 use mathlib.Core.List.{List, []}
 use mathlib.Core.Option.{none, some}
 use Prim.Native.Nat.{ℕ, zero, suc, _+_, _*_, _≤_, _<_}
@@ -9,10 +9,10 @@ use native.Mathlib.Omega.{arith}
 use lib.Dec.{ltb}
 use lib.ListN.{length, drop, length-drop}
 use lib.Seq.{length-take-le}
-use borrow.Author.Tests.{lt-ltb, le-ltb}
+use borrow.Author.Tests.{lt-ltb, le-ltb, ne-eqb}
 use Rattle.octets.specs.Octets.{part}
 use Rattle.merkle.specs.Limits.{maxBlocks, hashLength, heldBytes}
-use Rattle.merkle.specs.Blocks.{cut}
+use Rattle.merkle.specs.Blocks.{blockCount, cut}
 use Rattle.merkle.specs.Shape.{shape}
 use Rattle.merkle.specs.Frontier.{carried, messageLength}
 use Rattle.merkle.specs.Held.{heldIn, advanced, fits}
@@ -20,20 +20,20 @@ use Rattle.merkle.proofs.ShapeLaws.{lt-or-le, size-shape}
 use Rattle.merkle.proofs.HeldLaws.{begun-held, length-begun, all-held, advance}
 use Rattle.merkle.proofs.LoadingLaws.{Loaded, loaded-start, loaded-end}
 use Rattle.merkle.proofs.RunLaws.{loaded-fits}
-use Rattle.wire.specs.declared.kind.Kind.{Kind}
-use Rattle.wire.specs.declared.kind.Kind.the-variants.{Program, Block, Update, Unknown}
+use Rattle.wire.specs.declared.kind.Kind.the-variants.{Program, Block, Update}
 use Rattle.wire.specs.declared.manifest.Manifest.{Manifest}
+use Rattle.wire.specs.Size.{wrongSize}
 use Rattle.wire.specs.Manifest.{read}
 use Rattle.wire.specs.Message.{kind, manifestBytes, manifestIn, programSignature, blockIn, hashesAfter, updateNumber, updateBlock, updateSignature}
-use Rattle.wire.proofs.SizeLaws.{Sized}
+use Rattle.wire.proofs.SizeLaws.{Sized, outside-not}
 use Rattle.device.specs.declared.state.Stage.{Stage}
 use Rattle.device.specs.declared.state.Stage.the-variants.{Idle, Loading, Complete}
 use Rattle.device.specs.declared.state.Device.{Device}
 use Rattle.device.specs.Device.{countOf, Situation}
-use Rattle.device.specs.Refusals.{notLoading, notComplete, nextOf, withBlock, updated, treeOver}
-use Rattle.device.specs.Step.{acceptProgram, stageAfter, acceptBlock, acceptUpdate, accept, refusalOf}
+use Rattle.device.specs.Refusals.{wrongVersion, badSize, senseless, notLoading, notComplete, nextOf, withBlock, updated, treeOver}
+use Rattle.device.specs.Step.{acceptProgram, stageAfter, acceptBlock, acceptUpdate, accept}
 use Rattle.device.specs.Run.{Messages, _▷_, lastProgram, blocksSince, lastCarrier, signatureIn}
-use Rattle.device.proofs.RefusalLaws.{ProgramPassed, BlockPassed, UpdatePassed, program-passed, block-passed, update-passed, unknown-refused}
+use Rattle.device.proofs.RefusalLaws.{ProgramPassed, BlockPassed, UpdatePassed, Passed, took-program, took-block, took-update}
 use Rattle.device.proofs.FlashLaws.{length-with, with-here, with-before}
 
 -- what an accepted message of each kind adds to the list of those accepted
@@ -57,6 +57,10 @@ root-length m e =
     let a : length (part 1 48 m) ≡ 48 = length-take-le 48 (drop 1 m) (rw (length-drop 1 m) (omega arith)) in
     length-take-le 32 (drop 16 (part 1 48 m)) (rw (length-drop 16 (part 1 48 m)) (omega arith))
 
+not-wrong : (L T : ℕ) → Sized L T → wrongSize L T ≡ false
+unfolding wrongSize
+not-wrong L T z = rw (z .allowed, ne-eqb T 0 (λ e. omega (arith, z .some)), le-ltb maxBlocks (blockCount L T) (z .count))
+
 module _ (H : List ℕ → List ℕ) (valid : (key message signature : List ℕ) → Bool) (key : List ℕ) where
   -- the last accepted message that carries a manifest has this one, and it was signed
   pub record Carried (taken : Messages) (s : Manifest) : Type 0 where
@@ -68,6 +72,7 @@ module _ (H : List ℕ → List ℕ) (valid : (key message signature : List ℕ)
   -- loading, k blocks accepted
   pub record InLoading (k : ℕ) (s : Manifest) (array flash : List ℕ) (taken : Messages) : Type 0 where
     pub below : k < countOf s
+    pub version : wrongVersion s ≡ false
     pub size : Sized (s .block) (s .image)
     pub array-size : length array ≡ heldBytes
     pub room : countOf s * s .block ≤ length flash
@@ -78,6 +83,7 @@ module _ (H : List ℕ → List ℕ) (valid : (key message signature : List ℕ)
 
   -- complete; first is the manifest of the last program message, before any update
   pub record InComplete (s : Manifest) (flash : List ℕ) (taken : Messages) : Type 0 where
+    pub version : wrongVersion s ≡ false
     pub size : Sized (s .block) (s .image)
     pub room : countOf s * s .block ≤ length flash
     pub carries : Carried taken s
@@ -113,6 +119,7 @@ module _ (H : List ℕ → List ℕ) (valid : (key message signature : List ℕ)
           long = v .long;
           holds = record {
             below = p .size .first;
+            version = p .version;
             size = p .size;
             array-size = length-begun (s .root) lr;
             room = p .room;
@@ -194,6 +201,7 @@ module _ (H : List ℕ → List ℕ) (valid : (key message signature : List ℕ)
               rw (lt-ltb (suc k) n g)
               (record {
                 below = g;
+                version = w .version;
                 size = w .size;
                 array-size = array-long;
                 room = rw flash-long (w .room);
@@ -206,6 +214,7 @@ module _ (H : List ℕ → List ℕ) (valid : (key message signature : List ℕ)
               let q : suc k ≡ n = let b = w .below in omega arith in
               rw (le-ltb (suc k) n g)
               (record {
+                version = w .version;
                 size = w .size;
                 room = rw flash-long (w .room);
                 carries = carried-on;
@@ -251,6 +260,7 @@ module _ (H : List ℕ → List ℕ) (valid : (key message signature : List ℕ)
               long = length-updated p ∙ v .long;
               holds = rw q
                   (record {
+                    version = p .version;
                     size = p .size;
                     room = rw (length-updated p) (p .room);
                     carries = record { carrier = m; last = a .2; manifest = refl; signed = rw (a .3) (rw (v .same) at (p .signed)) };
@@ -261,12 +271,22 @@ module _ (H : List ℕ → List ℕ) (valid : (key message signature : List ℕ)
                   });
             }
 
-    pub kept : refusalOf H valid d flash m ≡ none → Kept (accept (kind m) d flash m) (taken ▷ m)
+    pub kept : Passed H valid d flash m → Kept (accept (kind m) d flash m) (taken ▷ m)
     unfolding accept
-    kept e = go (kind m) refl
-      where
-        go : (k : Kind) → kind m ≡ k → Kept (accept k d flash m) (taken ▷ m)
-        go Program q = kept-program q (program-passed H valid d flash m q e)
-        go Block q = kept-block q (block-passed H valid d flash m q e)
-        go Update q = kept-update q (update-passed H valid d flash m q e)
-        go Unknown q = absurd (unknown-refused H valid d flash m q e)
+    kept (took-program q p) = rw q (kept-program q p)
+    kept (took-block q p) = rw q (kept-block q p)
+    kept (took-update q p) = rw q (kept-update q p)
+
+  -- A device that has the invariant makes sense: refusal 1 never applies.
+  pub makes-sense : (total : ℕ) (d : Device) (flash : List ℕ) (taken : Messages) → Invariant total d flash taken → senseless d ≡ false
+  unfolding senseless badSize
+  makes-sense total d flash taken v = go (d .stage) refl (v .holds)
+    where
+      whole : wrongVersion (d .manifest) ≡ false → Sized (d .manifest .block) (d .manifest .image) → wrongVersion (d .manifest) || badSize (d .manifest) ≡ false
+      whole e z = rw (e, not-wrong (d .manifest .block) (d .manifest .image) z)
+
+      go : (t : Stage) → d .stage ≡ t → Holds t (d .manifest) (d .hashes) flash taken → senseless d ≡ false
+      go Idle q w = rw (q, senseless)
+      go (Loading zero) q w = absurd w
+      go (Loading (suc k)) q w = rw (q, senseless, whole (w .version) (w .size), outside-not (countOf (d .manifest)) (suc k) (λ e. omega arith) (w .below))
+      go Complete q w = rw (q, senseless, whole (w .version) (w .size))

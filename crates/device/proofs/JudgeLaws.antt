@@ -22,8 +22,8 @@ use Rattle.device.specs.declared.state.Device.{Device}
 use Rattle.device.specs.declared.state.Answer.{Answer}
 use Rattle.device.specs.declared.state.Answer.the-variants.{Accepted, Refused}
 use Rattle.device.specs.Device.{countOf}
-use Rattle.device.specs.Refusals.{wrongVersion, badSize, senseless, short, noKind, leastLength, notLoading, notComplete, nextOf, tooSmall, notNext, wrongLength, unlike, withBlock, updated, mismatch, lacksRoot, unsigned, always, ofProgram, ofBlock, ofUpdate, ofKind, refusals}
-use Rattle.device.specs.Answers.{answerOf, ofManifest}
+use Rattle.device.specs.Refusals.{ofManifest, wrongVersion, badSize, senseless, short, noKind, leastLength, notLoading, notComplete, nextOf, tooSmall, notNext, wrongLength, unlike, withBlock, updated, mismatch, lacksRoot, unsigned, always, ofProgram, ofBlock, ofUpdate, ofKind, refusals}
+use Rattle.device.specs.Answers.{answerOf}
 use Rattle.device.proofs.RefusalLaws.{NoneApplies}
 
 -- One test after the other: the answer is the first refusal whose test is true.

@@ -7,7 +7,7 @@ use Rattle.wire.specs.declared.kind.Kind.the-variants.{Program, Block, Update}
 use Rattle.wire.specs.declared.refusal.Refusal.{Refusal}
 use Rattle.wire.specs.Refusal.{number}
 use Rattle.device.specs.declared.state.Device.{Device}
-use Rattle.device.specs.Refusals.{always, ofProgram, ofBlock, ofUpdate, ofKind, refusals}
+use Rattle.device.specs.Refusals.{ofManifest, always, ofProgram, ofBlock, ofUpdate, ofKind, refusals}
 
 pub numbers : List (Refusal × Bool) → List ℕ
 numbers [] = []
@@ -18,5 +18,5 @@ pub orders : (H : List ℕ → List ℕ) (valid : (key message signature : List 
     → (numbers (refusals H valid Program d flash m) ≡ 1 ∷ 2 ∷ 3 ∷ 4 ∷ 5 ∷ 6 ∷ 7 ∷ 8 ∷ 9 ∷ [])
     × (numbers (refusals H valid Block d flash m) ≡ 1 ∷ 2 ∷ 3 ∷ 10 ∷ 8 ∷ 11 ∷ 12 ∷ 14 ∷ [])
     × (numbers (refusals H valid Update d flash m) ≡ 1 ∷ 2 ∷ 3 ∷ 10 ∷ 4 ∷ 5 ∷ 6 ∷ 7 ∷ 13 ∷ 8 ∷ 11 ∷ 12 ∷ 9 ∷ 14 ∷ [])
-unfolding numbers always ofProgram ofBlock ofUpdate ofKind refusals
+unfolding numbers always ofManifest ofProgram ofBlock ofUpdate ofKind refusals
 orders H valid d flash m = (refl, refl, refl)

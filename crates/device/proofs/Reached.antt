@@ -16,7 +16,7 @@ use Rattle.wire.proofs.MessageLaws.{OfProgram, of-program}
 use Rattle.sender.specs.Job.{Job, count, manifestFor, programFor}
 use Rattle.device.specs.declared.state.Device.{Device}
 use Rattle.device.specs.Device.{countOf, Fresh, serialOf}
-use Rattle.device.specs.Refusals.{wrongVersion, badSize, senseless, noKind, short, leastLength, otherModel, notNewer, tooSmall, unsigned, always, ofProgram, ofKind, refusals}
+use Rattle.device.specs.Refusals.{ofManifest, wrongVersion, badSize, senseless, noKind, short, leastLength, otherModel, notNewer, tooSmall, unsigned, always, ofProgram, ofKind, refusals}
 use Rattle.device.specs.Step.{refusalOf, step}
 use Rattle.device.specs.Run.{Messages, empty, _▷_, after, accepted, Completed}
 use Rattle.device.specs.Answers.{answerOf}
@@ -37,7 +37,7 @@ module _ (H : List ℕ → List ℕ) (hash-long : (x : List ℕ) → length (H x
   is-program = of-program (manifestFor H job) (root-long H hash-long job ok) signature
 
   pub program-accepted : refusalOf H valid d flash m ≡ none
-  unfolding refusalOf refusals always ofKind ofProgram senseless noKind short leastLength wrongVersion badSize otherModel notNewer serialOf tooSmall unsigned countOf count manifestFor NoneApplies
+  unfolding refusalOf refusals always ofKind ofManifest ofProgram senseless noKind short leastLength wrongVersion badSize otherModel notNewer serialOf tooSmall unsigned countOf count manifestFor NoneApplies
   program-accepted =
       let p = is-program in
       let e : manifestIn m ≡ manifestFor H job = manifest-is H hash-long job ok m (p .manifest) in

@@ -10,7 +10,7 @@ use lib.ListN.{length, take, drop, replicate, length-append, length-replicate}
 use lib.Seq.{length-take-le}
 use Rattle.octets.specs.Octets.{bytes, number, equal}
 use Rattle.octets.proofs.EqualLaws.{equal-self}
-use Rattle.merkle.specs.Limits.{hashLength}
+use Rattle.merkle.specs.Limits.{hashLength, heldBytes}
 use Rattle.merkle.specs.Blocks.{blockCount, cut}
 use Rattle.merkle.specs.Shape.{size, leastFrom, depth, split, build, shape}
 use Rattle.merkle.specs.Hash.{hash, hashes, climbFrom, climb}
@@ -29,7 +29,7 @@ use Rattle.device.specs.declared.state.Stage.the-variants.{Idle, Loading
 use Rattle.device.specs.declared.state.Device.{Device}
 use Rattle.device.specs.declared.state.Answer.the-variants.{Accepted, Refused}
 use Rattle.device.specs.Device.{countOf, Fresh, serialOf, heldBy, Situation, Outcome}
-use Rattle.device.specs.Refusals.{wrongVersion, badSize, senseless, noKind, leastLength, short, otherModel, notNewer, tooSmall, notLoading, notComplete, nextOf, notNext, wrongLength, unlike, withBlock, updated, treeOver, mismatch, lacksRoot, unsigned, always, ofProgram, ofBlock, ofUpdate, ofKind, refusals}
+use Rattle.device.specs.Refusals.{ofManifest, wrongVersion, badSize, senseless, noKind, leastLength, short, otherModel, notNewer, tooSmall, notLoading, notComplete, nextOf, notNext, wrongLength, unlike, withBlock, updated, treeOver, mismatch, lacksRoot, unsigned, always, ofProgram, ofBlock, ofUpdate, ofKind, refusals}
 use Rattle.device.specs.Step.{acceptProgram, stageAfter, acceptBlock, acceptUpdate, accept, outcome, refusalOf, step}
 use Rattle.device.specs.Run.{Messages, empty, _▷_, after, answerTo, accepted, lastProgram, blocksSince, lastCarrier, signatureIn, Completed}
 use Rattle.device.specs.Answers.{answerOf}
@@ -57,7 +57,7 @@ newer : Job
 newer = record { image = replicate 64 3 ++ replicate 64 4; block = 64; model = 7; serial = 2 }
 
 fresh : Device
-fresh = record { model = 7; key = []; stage = Idle; manifest = record { version = 0; block = 0; model = 0; serial = 0; image = 0; root = [] }; hashes = replicate 384 0 }
+fresh = record { model = 7; key = []; stage = Idle; manifest = record { version = 0; block = 0; model = 0; serial = 0; image = 0; root = [] }; hashes = replicate heldBytes 0 }
 
 flash : List ℕ
 flash = replicate 130 5
@@ -96,7 +96,7 @@ unfolding count blocks rootOf manifestFor programFor blockFor updateFor
 sender-computes = 0
 
 refusals-compute : ℕ
-unfolding countOf serialOf wrongVersion badSize senseless noKind leastLength short otherModel notNewer tooSmall notLoading notComplete nextOf notNext wrongLength unlike treeOver mismatch lacksRoot unsigned always ofProgram ofBlock ofUpdate ofKind refusals refusalOf
+unfolding countOf serialOf wrongVersion badSize senseless noKind leastLength short otherModel notNewer tooSmall notLoading notComplete nextOf notNext wrongLength unlike treeOver mismatch lacksRoot unsigned always ofManifest ofProgram ofBlock ofUpdate ofKind refusals refusalOf
 refusals-compute = 0
 
 run-computes : ℕ

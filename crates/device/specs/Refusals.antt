@@ -88,6 +88,15 @@ withBlock L flash i block = paste flash (pred i * L) block (length block)
 unfoldable pub updated : List ℕ → List ℕ → List ℕ
 updated flash m = let s = manifestIn m in withBlock (s .block) flash (updateNumber m) (updateBlock (s .block) m)
 
+-- 4, 5, 6, 7: what a new manifest meets, in every message that carries one
+unfoldable pub ofManifest : Device → Manifest → List (Refusal × Bool)
+ofManifest d s =
+    (refusal.Version, wrongVersion s)
+    ∷ (refusal.Size, badSize s)
+    ∷ (refusal.Model, otherModel d s)
+    ∷ (refusal.Serial, notNewer d s)
+    ∷ []
+
 -- "always 1, 2, 3"
 unfoldable pub always : Kind → Device → List ℕ → List (Refusal × Bool)
 always k d m = (refusal.State, senseless d) ∷ (refusal.Kind, noKind k) ∷ (refusal.Short, short k m) ∷ []
@@ -101,12 +110,10 @@ module _ (valid : (key message signature : List ℕ) → Bool) where
   unfoldable pub ofProgram : Device → List ℕ → List ℕ → List (Refusal × Bool)
   ofProgram d flash m =
       let s = manifestIn m in
-      (refusal.Version, wrongVersion s)
-      ∷ (refusal.Size, badSize s)
-      ∷ (refusal.Model, otherModel d s)
-      ∷ (refusal.Serial, notNewer d s) ∷ (refusal.Area, tooSmall s flash)
+      ofManifest d s
+      ++ ((refusal.Area, tooSmall s flash)
       ∷ (refusal.Unsigned, unsigned d (manifestBytes m) (programSignature m))
-      ∷ []
+      ∷ [])
 
 module _ (H : List ℕ → List ℕ) where
   -- 14 for kind 2: the hash worked out from block and message differs from the held one
@@ -141,17 +148,14 @@ module _ (H : List ℕ → List ℕ) (valid : (key message signature : List ℕ)
   ofUpdate d flash m =
       let s = manifestIn m in
       (refusal.Stage, notComplete (d .stage))
-      ∷ (refusal.Version, wrongVersion s)
-      ∷ (refusal.Size, badSize s)
-      ∷ (refusal.Model, otherModel d s)
-      ∷ (refusal.Serial, notNewer d s)
-      ∷ (refusal.Unlike, unlike s (d .manifest))
+      ∷ ofManifest d s
+      ++ ((refusal.Unlike, unlike s (d .manifest))
       ∷ (refusal.Area, tooSmall s flash)
       ∷ (refusal.Turn, outside (countOf s) (updateNumber m))
       ∷ (refusal.Length, ltb (length m) (51 + s .block))
       ∷ (refusal.Unsigned, unsigned valid d (manifestBytes m) (updateSignature (s .block) m))
       ∷ (refusal.Mismatch, lacksRoot H s (updated flash m))
-      ∷ []
+      ∷ [])
 
   unfoldable pub ofKind : Kind → Device → List ℕ → List ℕ → List (Refusal × Bool)
   ofKind k d flash m =

@@ -28,9 +28,9 @@ ghost use lib.ListN.{length};
 ghost use Rattle.sha256.specs.Sha256.{digest};
 ghost use Rattle.lms.specs.Lms.{valid};
 ghost use Rattle.wire.specs.Refusal.{firstThatApplies};
-ghost use Rattle.device.specs.Refusals.{ofProgram, ofBlock, ofUpdate, refusals};
+ghost use Rattle.device.specs.Refusals.{ofManifest, ofProgram, ofBlock, ofUpdate, refusals};
 ghost use Rattle.device.specs.Refusals as spec;
-ghost use Rattle.device.specs.Answers.{answerOf, ofManifest};
+ghost use Rattle.device.specs.Answers.{answerOf};
 
 // Always 1, 2, 3; then those of the kind.
 pub fn judge(device: Device, kind: Kind, flash: &[u8], message: &[u8]) -> Answer

@@ -3,7 +3,7 @@ use Rattle.sha256.specs.Sha256.{digest}
 use Rattle.lms.specs.Lms.{valid}
 use Rattle.wire.specs.Message.{manifestBytes, manifestIn, programSignature}
 use Rattle.device.specs.declared.state.Answer.the-variants.{Accepted}
-use Rattle.device.specs.Answers.{ofManifest}
+use Rattle.device.specs.Refusals.{ofManifest}
 use Rattle.device.proofs.JudgeLaws.{Cascade, passed, here, later, cascade, within, behind, program-found, size-passed}
 use borrow.Author.Needs.{needs}
 use Rattle.device.proofs.judge.judge_program.Statement.{statement}

@@ -10,7 +10,7 @@ use Rattle.wire.specs.Refusal.{firstThatApplies}
 use Rattle.wire.specs.Size.{outside}
 use Rattle.wire.specs.Message.{manifestBytes, manifestIn, updateNumber, updateSignature}
 use Rattle.device.specs.declared.state.Answer.{Answer}
-use Rattle.device.specs.Refusals.{ofUpdate}
+use Rattle.device.specs.Refusals.{ofManifest, ofUpdate}
 use Rattle.device.specs.Answers.{answerOf}
 use Rattle.device.proofs.JudgeLaws.{Cascade, passed, here, later, found, cascade, within, behind, updateEnd, updateRest, update-found, lacks-found, size-passed}
 use borrow.Author.Needs.{needs}
@@ -46,7 +46,7 @@ not-complete-requires : tie.Need-not-complete-requires
 not-complete-requires c κs = search needs
 
 returns : tie.Need-returns
-unfolding ofUpdate
+unfolding ofManifest ofUpdate
 returns c = found (here (sym (c .before .not-complete .ensures) ∙ c .if1 .taken))
 
 read-requires : tie.Need-read-requires
