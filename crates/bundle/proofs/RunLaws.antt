@@ -154,16 +154,16 @@ module _ (L n : ℕ) where
         omega (arith, both-short, both .end),
       )
 
-pub all-blocks : (start : Device) (flash bytes : List ℕ) {n : ℕ} → n ≡ blockCount (start .manifest .block) (start .manifest .image)
-    → blocksFrom (start .manifest .block) n n 1 start flash bytes ≡ blocks start flash bytes
+pub all-blocks : (start : Device) (flash bytes : List ℕ) {n : ℕ} → n ≡ blockCount (start .manifest .«block_len») (start .manifest .«image_len»)
+    → blocksFrom (start .manifest .«block_len») n n 1 start flash bytes ≡ blocks start flash bytes
 unfolding blocks countOf
-all-blocks start flash bytes e = ap (λ (k : ℕ). blocksFrom (start .manifest .block) k k 1 start flash bytes) e
+all-blocks start flash bytes e = ap (λ (k : ℕ). blocksFrom (start .manifest .«block_len») k k 1 start flash bytes) e
 
 -- the same run, told in another way
 pub rerun : {p q : Printed} {out out' f : List ℕ} {at next : ℕ} {d : Device} → p ≡ q → Ran p out at out' next d f → Ran q out at out' next d f
 rerun e r = rw e at r
 
 -- refusal 5 does not apply to the manifest
-pub few-blocks : (s : Manifest) {n : ℕ} → badSize s ≡ false → n ≡ blockCount (s .block) (s .image) → n ≤ maxBlocks
+pub few-blocks : (s : Manifest) {n : ℕ} → badSize s ≡ false → n ≡ blockCount (s .«block_len») (s .«image_len») → n ≤ maxBlocks
 unfolding badSize
-few-blocks s e f = rw f (sized (s .block) (s .image) e .count)
+few-blocks s e f = rw f (sized (s .«block_len») (s .«image_len») e .count)

@@ -170,7 +170,7 @@ module _ (key flash : List ℕ) (job : Job) (ok : Sendable job) (filler signatur
       from L n b = blocksFrom L n n 1 (begun .device) (begun .flash) (b ++ filler)
 
       of-manifest : blocks (begun .device) (begun .flash) front ≡ from (job .block) (count job) (blockMessages digest job (count job))
-      of-manifest = unfold countOf manifestFor count in ap (λ (s : Manifest). from (s .block) (countOf s) (blockMessages digest job (count job))) (here .manifest)
+      of-manifest = unfold countOf manifestFor count in ap (λ (s : Manifest). from (s .«block_len») (countOf s) (blockMessages digest job (count job))) (here .manifest)
 
       of-messages : from (job .block) (count job) (blockMessages digest job (count job)) ≡ from (job .block) (count job) (messagesAfter job 0 (count job))
       of-messages = unfold blockMessages in

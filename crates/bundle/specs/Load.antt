@@ -47,7 +47,7 @@ blocksFrom L n (suc left) i d flash bytes =
 
 -- all blocks of the device's manifest
 unfoldable pub blocks : Device → (flash bytes : List ℕ) → Printed
-blocks d flash bytes = let s = d .manifest in blocksFrom (s .block) (countOf s) (countOf s) 1 d flash bytes
+blocks d flash bytes = let s = d .manifest in blocksFrom (s .«block_len») (countOf s) (countOf s) 1 d flash bytes
 
 -- "hands over the slip, and if that is accepted the blocks"; where there is no slip, "the line `slip 0 3`"
 unfoldable pub messages : Device → (flash bundle : List ℕ) → Printed

@@ -29,8 +29,8 @@ fn blocks(start: Device, flash: &mut [u8], bytes: &[u8], out: &mut [u8], from: u
         × (r .at ≤ from + 15 * maxBlocks) ⌝ }
 {
     let manifest = start.manifest;
-    let block = manifest.block as usize;
-    let n = wire::block_count(block, manifest.image as usize);
+    let block = manifest.block_len as usize;
+    let n = wire::block_count(block, manifest.image_len as usize);
     let mut device = start;
     let mut at = from;
     let mut read: usize = 0;

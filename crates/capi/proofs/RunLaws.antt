@@ -62,7 +62,7 @@ module _ (d : Device) (flash m : List ℕ) (bytes : Bytes m) (f : Fits d) where
       go (Loading i) l s =
           let o = or-false (wrongVersion (d .manifest) || badSize (d .manifest)) (outside (countOf (d .manifest)) i) s in
           let b = inside (countOf (d .manifest)) i (o .1) in
-          (b .0, b .1, sized (d .manifest .block) (d .manifest .image) (or-false (wrongVersion (d .manifest)) _ (o .0) .1) .count)
+          (b .0, b .1, sized (d .manifest .«block_len») (d .manifest .«image_len») (or-false (wrongVersion (d .manifest)) _ (o .0) .1) .count)
 
   fits-block : BlockPassed digest valid d flash m → Fits (acceptBlock d flash m .device)
   unfolding acceptBlock hashesAfter messageLength
@@ -71,13 +71,13 @@ module _ (d : Device) (flash m : List ℕ) (bytes : Bytes m) (f : Fits d) where
       let n = countOf (d .manifest) in
       let w = awaited p in
       let z : suc (pred i) ≡ i = omega arith in
-      let l : length (drop (3 + d .manifest .block) m) ≡ 32 * carried n (suc (pred i)) = rw z (length-drop (3 + d .manifest .block) m ∙ omega (arith, p .long)) in
+      let l : length (drop (3 + d .manifest .«block_len») m) ≡ 32 * carried n (suc (pred i)) = rw z (length-drop (3 + d .manifest .«block_len») m ∙ omega (arith, p .long)) in
       record {
         model = f .model;
         key = f .key;
         next = omega (arith, next-after n i);
         manifest = f .manifest;
-        hashes = advance n (pred i) (d .hashes) (drop (3 + d .manifest .block) m) (omega arith) (w .2) (f .hashes) l .size;
+        hashes = advance n (pred i) (d .hashes) (drop (3 + d .manifest .«block_len») m) (omega arith) (w .2) (f .hashes) l .size;
       }
 
   fits-kept : (k : Kind) → kind m ≡ k → refusalOf digest valid d flash m ≡ none → Fits (accept k d flash m .device)
@@ -108,7 +108,7 @@ fresh-fits model key h l =
       model = h;
       key = l;
       next = omega arith;
-      manifest = record { version = omega arith; block = omega arith; model = omega arith; serial = omega arith; image = omega arith; root = length-replicate {A = ℕ} 32 0 };
+      manifest = record { version = omega arith; «block_len» = omega arith; model = omega arith; serial = omega arith; «image_len» = omega arith; root = length-replicate {A = ℕ} 32 0 };
       hashes = length-replicate {A = ℕ} heldBytes 0;
     }
 

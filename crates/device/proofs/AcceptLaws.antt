@@ -40,8 +40,8 @@ module _ (d : Device) (flash m : List ℕ) where
   -- where block i of an update with the manifest s is accepted
   pub record UpdateDue (s : Manifest) (i : ℕ) : Type 0 where
     pub low : 0 < i
-    pub place : (i - 1) * s .block + s .block ≤ length flash
-    pub long : 51 + s .block ≤ length m
+    pub place : (i - 1) * s .«block_len» + s .«block_len» ≤ length flash
+    pub long : 51 + s .«block_len» ≤ length m
 
   module _ (H : List ℕ → List ℕ) (valid : (key message signature : List ℕ) → Bool) where
     abbrev pub NoneOf : Kind → Type 0
@@ -75,17 +75,17 @@ module _ (d : Device) (flash m : List ℕ) where
   program-is e = rw e
 
   pub block-is : {i n : ℕ} {t : Stage} {hashes f : List ℕ} → i ≡ nextOf (d .stage) → n ≡ countOf (d .manifest) → t ≡ stageAfter n i
-      → hashes ≡ advanced n (i - 1) (d .hashes) (take (length m - (3 + d .manifest .block)) (drop (3 + d .manifest .block) m))
-      → f ≡ withBlock (d .manifest .block) flash i (take (3 + d .manifest .block - 3) (drop 3 m))
+      → hashes ≡ advanced n (i - 1) (d .hashes) (take (length m - (3 + d .manifest .«block_len»)) (drop (3 + d .manifest .«block_len») m))
+      → f ≡ withBlock (d .manifest .«block_len») flash i (take (3 + d .manifest .«block_len» - 3) (drop 3 m))
       → acceptBlock d flash m ≡ record { device = record { model = d .model; key = d .key; stage = t; manifest = d .manifest; hashes = hashes }; flash = f }
   unfolding acceptBlock
-  block-is {i} ei en et eh ef = rw (et, eh, ef, slice-rest (d .manifest .block) m, slice-block (d .manifest .block) m, before-is i, en, ei)
+  block-is {i} ei en et eh ef = rw (et, eh, ef, slice-rest (d .manifest .«block_len») m, slice-block (d .manifest .«block_len») m, before-is i, en, ei)
 
   pub update-is : {s : Manifest} {i : ℕ} {f : List ℕ} → s ≡ manifestIn m → i ≡ updateNumber m
-      → f ≡ withBlock (s .block) flash i (take (51 + s .block - 51) (drop 51 m))
+      → f ≡ withBlock (s .«block_len») flash i (take (51 + s .«block_len» - 51) (drop 51 m))
       → acceptUpdate d flash m ≡ record { device = record { model = d .model; key = d .key; stage = d .stage; manifest = s; hashes = d .hashes }; flash = f }
   unfolding acceptUpdate updated updateBlock
-  update-is {s} es ei ef = rw (ef, part-between m 51 (s .block), es, ei)
+  update-is {s} es ei ef = rw (ef, part-between m 51 (s .«block_len»), es, ei)
 
 -- The stage after block i of n.
 pub goes-on : (n i : ℕ) → i < n → Loading (i + 1) ≡ stageAfter n i

@@ -29,17 +29,17 @@ use Rattle.device.specs.Refusals.{badSize, tooSmall, wrongLength, withBl
 
 -- all that refusal 5 leaves of a manifest
 pub record Sound (s : Manifest) : Type 0 where
-  pub least : 64 ≤ s .block
-  pub most : s .block ≤ 1024
-  pub some : 0 < s .image
+  pub least : 64 ≤ s .«block_len»
+  pub most : s .«block_len» ≤ 1024
+  pub some : 0 < s .«image_len»
   pub first : 0 < countOf s
   pub count : countOf s ≤ maxBlocks
-  pub whole : countOf s * s .block ≤ maxBlocks * 1024
+  pub whole : countOf s * s .«block_len» ≤ maxBlocks * 1024
 
 pub sound : (s : Manifest) → badSize s ≡ false → Sound s
 unfolding badSize countOf
 sound s e =
-    let z = sized (s .block) (s .image) e in
+    let z = sized (s .«block_len») (s .«image_len») e in
     record { least = z .least; most = z .most; some = z .some; first = z .first; count = z .count; whole = mul-le-mul (z .count) (z .most) }
 
 -- the array of the held hashes has its length by its type
@@ -47,12 +47,12 @@ pub held-array : (d : Device) → length (map (λ (v : ℕ). v) (d .hashes)) ≡
 held-array d e = sym (length-map (d .hashes) (λ (v : ℕ). v)) ∙ e
 
 -- so many blocks but one fit into the flash
-pub rest-fits : (s : Manifest) (a : List ℕ) (n : ℕ) → badSize s ≡ false → tooSmall s a ≡ false → n ≡ countOf s → (0 < n) × ((n - 1) * s .block ≤ length a)
+pub rest-fits : (s : Manifest) (a : List ℕ) (n : ℕ) → badSize s ≡ false → tooSmall s a ≡ false → n ≡ countOf s → (0 < n) × ((n - 1) * s .«block_len» ≤ length a)
 unfolding tooSmall
 rest-fits s a n e t en =
     let z = sound s e in
-    let m : (n - 1) * s .block ≤ countOf s * s .block = mul-le-mul-right (s .block) (omega arith) in
-    (omega arith, omega (arith, m, ltb-false (length a) (countOf s * s .block) t))
+    let m : (n - 1) * s .«block_len» ≤ countOf s * s .«block_len» = mul-le-mul-right (s .«block_len») (omega arith) in
+    (omega arith, omega (arith, m, ltb-false (length a) (countOf s * s .«block_len») t))
 
 -- the number of blocks before block i
 pub before-is : (i : ℕ) → i - 1 ≡ pred i
@@ -60,12 +60,12 @@ before-is zero = refl
 before-is (suc i) = omega arith
 
 -- block i has room in the flash
-pub room : (s : Manifest) (a : List ℕ) (i : ℕ) → tooSmall s a ≡ false → 0 < i → i ≤ countOf s → (i - 1) * s .block + s .block ≤ length a
+pub room : (s : Manifest) (a : List ℕ) (i : ℕ) → tooSmall s a ≡ false → 0 < i → i ≤ countOf s → (i - 1) * s .«block_len» + s .«block_len» ≤ length a
 unfolding tooSmall
 room s a i e low high =
     let z : i - 1 + 1 ≡ i = omega arith in
-    let m : (i - 1 + 1) * s .block ≤ countOf s * s .block = rw z (mul-le-mul-right (s .block) high) in
-    omega (arith, ltb-false (length a) (countOf s * s .block) e, m)
+    let m : (i - 1 + 1) * s .«block_len» ≤ countOf s * s .«block_len» = rw z (mul-le-mul-right (s .«block_len») high) in
+    omega (arith, ltb-false (length a) (countOf s * s .«block_len») e, m)
 
 length-cut : (L : ℕ) (a : List ℕ) (i : ℕ) → i * L + L ≤ length a → length (cut L a i) ≡ L
 unfolding cut
@@ -84,11 +84,11 @@ pub record Due (L n i : ℕ) (m : List ℕ) : Type 0 where
   pub long : 3 + L ≤ length m
   pub rest : length (hashesAfter L m) ≡ hashLength * carried n i
 
-pub due : (s : Manifest) (i : ℕ) (m : List ℕ) → wrongLength s i m ≡ false → Due (s .block) (countOf s) i m
+pub due : (s : Manifest) (i : ℕ) (m : List ℕ) → wrongLength s i m ≡ false → Due (s .«block_len») (countOf s) i m
 unfolding wrongLength messageLength hashesAfter
 due s i m e =
-    let z : length m ≡ 3 + s .block + hashLength * carried (countOf s) i = eqb-true _ _ (not-false _ e) in
-    record { long = omega arith; rest = length-drop (3 + s .block) m ∙ omega arith }
+    let z : length m ≡ 3 + s .«block_len» + hashLength * carried (countOf s) i = eqb-true _ _ (not-false _ e) in
+    record { long = omega arith; rest = length-drop (3 + s .«block_len») m ∙ omega arith }
 
 -- the slices that the code takes of a block message
 pub slice-rest : (L : ℕ) (m : List ℕ) → take (length m - (3 + L)) (drop (3 + L) m) ≡ hashesAfter L m
@@ -99,24 +99,24 @@ pub slice-block : (L : ℕ) (m : List ℕ) → take (3 + L - 3) (drop 3 m) ≡ b
 unfolding blockIn
 slice-block L m = part-between m 3 L
 
-pub rest-long : (s : Manifest) (i n : ℕ) (m : List ℕ) → 0 < i → n ≡ countOf s → wrongLength s i m ≡ false → length (take (length m - (3 + s .block)) (drop (3 + s .block) m)) ≡ hashLength * carried n (i - 1 + 1)
+pub rest-long : (s : Manifest) (i n : ℕ) (m : List ℕ) → 0 < i → n ≡ countOf s → wrongLength s i m ≡ false → length (take (length m - (3 + s .«block_len»)) (drop (3 + s .«block_len») m)) ≡ hashLength * carried n (i - 1 + 1)
 rest-long s i n m pos en e =
     let z : i - 1 + 1 ≡ i = omega arith in
-    ap length (slice-rest (s .block) m) ∙ due s i m e .rest ∙ rw (z, en)
+    ap length (slice-rest (s .«block_len») m) ∙ due s i m e .rest ∙ rw (z, en)
 
 module _ (H : List ℕ → List ℕ) where
   -- 14 while loading, as the code tests it
-  pub mismatch-is : (d : Device) (i n : ℕ) (m b r : List ℕ) (t : Bool) → n ≡ countOf (d .manifest) → b ≡ blockIn (d .manifest .block) m → r ≡ hashesAfter (d .manifest .block) m
+  pub mismatch-is : (d : Device) (i n : ℕ) (m b r : List ℕ) (t : Bool) → n ≡ countOf (d .manifest) → b ≡ blockIn (d .manifest .«block_len») m → r ≡ hashesAfter (d .manifest .«block_len») m
       → t ≡ fits H [] [] n (i - 1) (d .hashes) b r → not t ≡ mismatch H d i m
   unfolding mismatch
   mismatch-is d i n m b r t en eb er e = rw (e, en, before-is i, eb, er)
 
   -- 14 of an update: the tree over flash and block together is the tree over the flash with the block written
-  pub lacks-is : (s : Manifest) (a x : List ℕ) (i n : ℕ) (root : List ℕ) (t : Bool) → tooSmall s a ≡ false → 0 < i → i ≤ countOf s → n ≡ countOf s → length x ≡ s .block
-      → root ≡ hash H [] [] (overlay (cut (s .block) a) (i - 1) x) 0 (shape n) → t ≡ equal root (s .root) → not t ≡ lacksRoot H s (withBlock (s .block) a i x)
+  pub lacks-is : (s : Manifest) (a x : List ℕ) (i n : ℕ) (root : List ℕ) (t : Bool) → tooSmall s a ≡ false → 0 < i → i ≤ countOf s → n ≡ countOf s → length x ≡ s .«block_len»
+      → root ≡ hash H [] [] (overlay (cut (s .«block_len») a) (i - 1) x) 0 (shape n) → t ≡ equal root (s .root) → not t ≡ lacksRoot H s (withBlock (s .«block_len») a i x)
   unfolding lacksRoot treeOver withBlock
   lacks-is s a x i n root t small low high en long e et =
       let fit = room s a i small low high in
-      ap not (et ∙ ap (λ y. equal y (s .root)) (e ∙ ap (λ k. hash H [] [] (overlay (cut (s .block) a) (i - 1) x) 0 (shape k)) en
-      ∙ sym (hash-written H [] [] (s .block) a x (i - 1) (omega arith) (long ∙ sym (length-cut (s .block) a (i - 1) fit)) 0 (shape (countOf s)))
-      ∙ ap (λ k. hash H [] [] (cut (s .block) (paste a (k * s .block) x (length x))) 0 (shape (countOf s))) (before-is i)))
+      ap not (et ∙ ap (λ y. equal y (s .root)) (e ∙ ap (λ k. hash H [] [] (overlay (cut (s .«block_len») a) (i - 1) x) 0 (shape k)) en
+      ∙ sym (hash-written H [] [] (s .«block_len») a x (i - 1) (omega arith) (long ∙ sym (length-cut (s .«block_len») a (i - 1) fit)) 0 (shape (countOf s)))
+      ∙ ap (λ k. hash H [] [] (cut (s .«block_len») (paste a (k * s .«block_len») x (length x))) 0 (shape (countOf s))) (before-is i)))

@@ -36,19 +36,19 @@ use Rattle.device.proofs.RunLaws.{now, taken, every-list}
 
 module _ (H : List ℕ → List ℕ) (hash-long : (x : List ℕ) → length (H x) ≡ hashLength) where
   -- an image of the flash's length with its root is the start of the flash, or there is a collision
-  bound-image : (s : Manifest) (f x : List ℕ) → Sized (s .block) (s .image) → treeOver H s f ≡ s .root → length x ≡ s .image → treeOver H s (filled (s .block) x) ≡ s .root
-      → (filled (s .block) x ≡ take (length (filled (s .block) x)) f) ⊎ Collision H [] [] (imageBlocks (s .block) x) (cut (s .block) f) 0 (shape (countOf s))
+  bound-image : (s : Manifest) (f x : List ℕ) → Sized (s .«block_len») (s .«image_len») → treeOver H s f ≡ s .root → length x ≡ s .«image_len» → treeOver H s (filled (s .«block_len») x) ≡ s .root
+      → (filled (s .«block_len») x ≡ take (length (filled (s .«block_len») x)) f) ⊎ Collision H [] [] (imageBlocks (s .«block_len») x) (cut (s .«block_len») f) 0 (shape (countOf s))
   unfolding treeOver imageBlocks
   bound-image s f x z rooted lx e = go (binding H [] [] hash-long (cut L (filled L x)) (cut L f) 0 (shape n) (e ∙ sym rooted))
     where
       L : ℕ
-      L = s .block
+      L = s .«block_len»
 
       n : ℕ
       n = countOf s
 
-      long : length (filled (s .block) x) ≡ countOf s * s .block
-      long = unfold countOf in (length-filled (s .block) x (rw lx z) ∙ ap (λ t. blockCount (s .block) t * s .block) lx)
+      long : length (filled (s .«block_len») x) ≡ countOf s * s .«block_len»
+      long = unfold countOf in (length-filled (s .«block_len») x (rw lx z) ∙ ap (λ t. blockCount (s .«block_len») t * s .«block_len») lx)
 
       pos : 0 < countOf s
       pos = unfold countOf in z .first

@@ -47,7 +47,7 @@ module _ (ms : Messages) (m : List ℕ) where
   with-block e = (rw (e, lastProgram), rw (e, blocksSince), rw (e, lastCarrier))
 
   with-update : kind m ≡ Update
-      → (lastProgram (ms ▷ m) ≡ lastProgram ms) × (blocksSince (ms ▷ m) ≡ blocksSince ms) × (lastCarrier (ms ▷ m) ≡ some m) × (signatureIn m ≡ updateSignature (manifestIn m .block) m)
+      → (lastProgram (ms ▷ m) ≡ lastProgram ms) × (blocksSince (ms ▷ m) ≡ blocksSince ms) × (lastCarrier (ms ▷ m) ≡ some m) × (signatureIn m ≡ updateSignature (manifestIn m .«block_len») m)
   unfolding lastProgram blocksSince lastCarrier signatureIn
   with-update e = (rw (e, lastProgram), rw (e, blocksSince), rw (e, lastCarrier), rw (e, signatureIn))
 
@@ -73,19 +73,19 @@ module _ (H : List ℕ → List ℕ) (valid : (key message signature : List ℕ)
   pub record InLoading (k : ℕ) (s : Manifest) (array flash : List ℕ) (taken : Messages) : Type 0 where
     pub below : k < countOf s
     pub version : wrongVersion s ≡ false
-    pub size : Sized (s .block) (s .image)
+    pub size : Sized (s .«block_len») (s .«image_len»)
     pub array-size : length array ≡ heldBytes
-    pub room : countOf s * s .block ≤ length flash
+    pub room : countOf s * s .«block_len» ≤ length flash
     pub carries : Carried taken s
     pub last : lastProgram taken ≡ some s
     pub since : blocksSince taken ≡ k
-    pub loaded : Loaded H [] [] (shape (countOf s)) (s .root) k (cut (s .block) flash) (heldIn (countOf s) k array)
+    pub loaded : Loaded H [] [] (shape (countOf s)) (s .root) k (cut (s .«block_len») flash) (heldIn (countOf s) k array)
 
   -- complete; first is the manifest of the last program message, before any update
   pub record InComplete (s : Manifest) (flash : List ℕ) (taken : Messages) : Type 0 where
     pub version : wrongVersion s ≡ false
-    pub size : Sized (s .block) (s .image)
-    pub room : countOf s * s .block ≤ length flash
+    pub size : Sized (s .«block_len») (s .«image_len»)
+    pub room : countOf s * s .«block_len» ≤ length flash
     pub carries : Carried taken s
     pub first : Manifest
     pub last : lastProgram taken ≡ some first
@@ -126,13 +126,13 @@ module _ (H : List ℕ → List ℕ) (valid : (key message signature : List ℕ)
             carries = record { carrier = m; last = w .2; manifest = refl; signed = rw (w .3) (rw (v .same) at (p .signed)) };
             last = w .0;
             since = w .1;
-            loaded = rw (begun-held (countOf s) (s .root) lr) (loaded-start H [] [] (shape (countOf s)) (s .root) (cut (s .block) flash));
+            loaded = rw (begun-held (countOf s) (s .root) lr) (loaded-start H [] [] (shape (countOf s)) (s .root) (cut (s .«block_len») flash));
           };
         }
 
     -- block k + 1
-    module _ (k : ℕ) (e : kind m ≡ Block) (long : length m ≡ messageLength (d .manifest .block) (countOf (d .manifest)) (suc k))
-        (same : fits H [] [] (countOf (d .manifest)) k (d .hashes) (blockIn (d .manifest .block) m) (hashesAfter (d .manifest .block) m) ≡ true)
+    module _ (k : ℕ) (e : kind m ≡ Block) (long : length m ≡ messageLength (d .manifest .«block_len») (countOf (d .manifest)) (suc k))
+        (same : fits H [] [] (countOf (d .manifest)) k (d .hashes) (blockIn (d .manifest .«block_len») m) (hashesAfter (d .manifest .«block_len») m) ≡ true)
         (w : InLoading k (d .manifest) (d .hashes) flash taken) where
       abbrev s : Manifest
       s = d .manifest
@@ -141,13 +141,13 @@ module _ (H : List ℕ → List ℕ) (valid : (key message signature : List ℕ)
       n = countOf (d .manifest)
 
       abbrev block : List ℕ
-      block = blockIn (d .manifest .block) m
+      block = blockIn (d .manifest .«block_len») m
 
       abbrev message : List ℕ
-      message = hashesAfter (d .manifest .block) m
+      message = hashesAfter (d .manifest .«block_len») m
 
       abbrev flash' : List ℕ
-      flash' = withBlock (d .manifest .block) flash (suc k) block
+      flash' = withBlock (d .manifest .«block_len») flash (suc k) block
 
       abbrev array' : List ℕ
       array' = advanced n k (d .hashes) message
@@ -156,32 +156,32 @@ module _ (H : List ℕ → List ℕ) (valid : (key message signature : List ℕ)
       unfolding countOf
       few = w .size .count
 
-      block-long : length block ≡ s .block
+      block-long : length block ≡ s .«block_len»
       unfolding blockIn messageLength
-      block-long = length-take-le (s .block) (drop 3 m) (rw (length-drop 3 m) (omega arith))
+      block-long = length-take-le (s .«block_len») (drop 3 m) (rw (length-drop 3 m) (omega arith))
 
       message-long : length message ≡ hashLength * carried n (suc k)
       unfolding hashesAfter messageLength
-      message-long = length-drop (3 + s .block) m ∙ omega arith
+      message-long = length-drop (3 + s .«block_len») m ∙ omega arith
 
       array-long : length array' ≡ heldBytes
       array-long = advance n k (d .hashes) message (w .below) few (w .array-size) message-long .size
 
       flash-long : length flash' ≡ length flash
-      flash-long = length-with (s .block) n k flash (w .below) (w .room) block block-long
+      flash-long = length-with (s .«block_len») n k flash (w .below) (w .room) block block-long
 
-      still-loaded : Loaded H [] [] (shape n) (s .root) (suc k) (cut (s .block) flash') (heldIn n (suc k) array')
+      still-loaded : Loaded H [] [] (shape n) (s .root) (suc k) (cut (s .«block_len») flash') (heldIn n (suc k) array')
       still-loaded =
-          let here = with-here (s .block) n k flash (w .below) (w .room) block block-long in
-          loaded-fits H [] [] n k (s .root) (d .hashes) message (cut (s .block) flash) (cut (s .block) flash') (w .below) few (w .array-size) message-long
-          (with-before (s .block) n k flash (w .below) (w .room) block block-long) (rw here same) (w .loaded)
+          let here = with-here (s .«block_len») n k flash (w .below) (w .room) block block-long in
+          loaded-fits H [] [] n k (s .root) (d .hashes) message (cut (s .«block_len») flash) (cut (s .«block_len») flash') (w .below) few (w .array-size) message-long
+          (with-before (s .«block_len») n k flash (w .below) (w .room) block block-long) (rw here same) (w .loaded)
 
       last-loaded : suc k ≡ n → treeOver H s flash' ≡ s .root
       unfolding treeOver
       last-loaded q =
           let pos : 0 < n = omega arith in
-          let whole = subst (λ x. Loaded H [] [] (shape n) (s .root) x (cut (s .block) flash') (heldIn n x array')) q still-loaded in
-          loaded-end H [] [] (shape n) (s .root) (cut (s .block) flash') (rw (size-shape n pos) (rw (all-held n array' pos) at whole))
+          let whole = subst (λ x. Loaded H [] [] (shape n) (s .root) x (cut (s .«block_len») flash') (heldIn n x array')) q still-loaded in
+          loaded-end H [] [] (shape n) (s .root) (cut (s .«block_len») flash') (rw (size-shape n pos) (rw (all-held n array' pos) at whole))
 
       carried-on : Carried (taken ▷ m) s
       carried-on = let c = w .carries in record { carrier = c .carrier; last = with-block taken m e .2 ∙ c .last; manifest = c .manifest; signed = c .signed }
@@ -239,12 +239,12 @@ module _ (H : List ℕ → List ℕ) (valid : (key message signature : List ℕ)
     unfolding updated
     length-updated p = go (updateNumber m) (p .turn)
       where
-        long : length (updateBlock (manifestIn m .block) m) ≡ manifestIn m .block
-        long = unfold updateBlock in length-take-le (manifestIn m .block) (drop 51 m) (rw (length-drop 51 m) (omega (arith, p .long)))
+        long : length (updateBlock (manifestIn m .«block_len») m) ≡ manifestIn m .«block_len»
+        long = unfold updateBlock in length-take-le (manifestIn m .«block_len») (drop 51 m) (rw (length-drop 51 m) (omega (arith, p .long)))
 
-        go : (i : ℕ) → (0 < i) × (i ≤ countOf (manifestIn m)) → length (withBlock (manifestIn m .block) flash i (updateBlock (manifestIn m .block) m)) ≡ length flash
+        go : (i : ℕ) → (0 < i) × (i ≤ countOf (manifestIn m)) → length (withBlock (manifestIn m .«block_len») flash i (updateBlock (manifestIn m .«block_len») m)) ≡ length flash
         go zero t = absurd (omega arith)
-        go (suc i) t = length-with (manifestIn m .block) (countOf (manifestIn m)) i flash (t .1) (p .room) (updateBlock (manifestIn m .block) m) long
+        go (suc i) t = length-with (manifestIn m .«block_len») (countOf (manifestIn m)) i flash (t .1) (p .room) (updateBlock (manifestIn m .«block_len») m) long
 
     kept-update : kind m ≡ Update → UpdatePassed H valid d flash m → Kept (acceptUpdate d flash m) (taken ▷ m)
     unfolding acceptUpdate notComplete
@@ -282,8 +282,8 @@ module _ (H : List ℕ → List ℕ) (valid : (key message signature : List ℕ)
   unfolding senseless badSize
   makes-sense total d flash taken v = go (d .stage) refl (v .holds)
     where
-      whole : wrongVersion (d .manifest) ≡ false → Sized (d .manifest .block) (d .manifest .image) → wrongVersion (d .manifest) || badSize (d .manifest) ≡ false
-      whole e z = rw (e, not-wrong (d .manifest .block) (d .manifest .image) z)
+      whole : wrongVersion (d .manifest) ≡ false → Sized (d .manifest .«block_len») (d .manifest .«image_len») → wrongVersion (d .manifest) || badSize (d .manifest) ≡ false
+      whole e z = rw (e, not-wrong (d .manifest .«block_len») (d .manifest .«image_len») z)
 
       go : (t : Stage) → d .stage ≡ t → Holds t (d .manifest) (d .hashes) flash taken → senseless d ≡ false
       go Idle q w = rw (q, senseless)

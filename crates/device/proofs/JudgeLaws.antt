@@ -69,9 +69,9 @@ module _ (H : List ℕ → List ℕ) (valid : (key message signature : List ℕ)
 
   abbrev pub updateEnd : Manifest → List (Refusal × Bool)
   updateEnd s =
-      (refusal.Length, ltb (length m) (51 + s .block))
-      ∷ (refusal.Unsigned, unsigned valid d (manifestBytes m) (updateSignature (s .block) m))
-      ∷ (refusal.Mismatch, lacksRoot H s (withBlock (s .block) flash (updateNumber m) (updateBlock (s .block) m)))
+      (refusal.Length, ltb (length m) (51 + s .«block_len»))
+      ∷ (refusal.Unsigned, unsigned valid d (manifestBytes m) (updateSignature (s .«block_len») m))
+      ∷ (refusal.Mismatch, lacksRoot H s (withBlock (s .«block_len») flash (updateNumber m) (updateBlock (s .«block_len») m)))
       ∷ []
 
   abbrev pub updateRest : Manifest → List (Refusal × Bool)
@@ -129,10 +129,10 @@ awaits d {i} e q is = go (d .stage) refl
 
 -- The test of an update's block, as the code makes it.
 pub lacks-found : (H : List ℕ → List ℕ) (s : Manifest) (flash m : List ℕ) {i : ℕ} {t : Bool} → i ≡ updateNumber m
-    → t ≡ lacksRoot H s (withBlock (s .block) flash i (take (51 + s .block - 51) (drop 51 m)))
-    → t ≡ lacksRoot H s (withBlock (s .block) flash (updateNumber m) (updateBlock (s .block) m))
+    → t ≡ lacksRoot H s (withBlock (s .«block_len») flash i (take (51 + s .«block_len» - 51) (drop 51 m)))
+    → t ≡ lacksRoot H s (withBlock (s .«block_len») flash (updateNumber m) (updateBlock (s .«block_len») m))
 unfolding updateBlock
-lacks-found H s flash m ei e = e ∙ ap₂ (λ j b. lacksRoot H s (withBlock (s .block) flash j b)) ei (part-between m 51 (s .block))
+lacks-found H s flash m ei e = e ∙ ap₂ (λ j b. lacksRoot H s (withBlock (s .«block_len») flash j b)) ei (part-between m 51 (s .«block_len»))
 
 -- Always 1, 2, 3; then those of the kind.
 module _ (H : List ℕ → List ℕ) (valid : (key message signature : List ℕ) → Bool) (d : Device) (flash m : List ℕ) (k : Kind) where

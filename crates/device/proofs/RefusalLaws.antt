@@ -68,26 +68,26 @@ module _ (H : List ℕ → List ℕ) (valid : (key message signature : List ℕ)
   pub record ProgramPassed : Type 0 where
     pub long : 49 ≤ length m
     pub version : wrongVersion (manifestIn m) ≡ false
-    pub size : Sized (manifestIn m .block) (manifestIn m .image)
+    pub size : Sized (manifestIn m .«block_len») (manifestIn m .«image_len»)
     pub newer : notNewer d (manifestIn m) ≡ false
-    pub room : countOf (manifestIn m) * manifestIn m .block ≤ length flash
+    pub room : countOf (manifestIn m) * manifestIn m .«block_len» ≤ length flash
     pub signed : valid (d .key) (manifestBytes m) (programSignature m) ≡ true
 
   pub record BlockPassed : Type 0 where
     pub sense : senseless d ≡ false
     pub loading : notLoading (d .stage) ≡ false
-    pub long : length m ≡ messageLength (d .manifest .block) (countOf (d .manifest)) (nextOf (d .stage))
-    pub same : fits H [] [] (countOf (d .manifest)) (pred (nextOf (d .stage))) (d .hashes) (blockIn (d .manifest .block) m) (hashesAfter (d .manifest .block) m) ≡ true
+    pub long : length m ≡ messageLength (d .manifest .«block_len») (countOf (d .manifest)) (nextOf (d .stage))
+    pub same : fits H [] [] (countOf (d .manifest)) (pred (nextOf (d .stage))) (d .hashes) (blockIn (d .manifest .«block_len») m) (hashesAfter (d .manifest .«block_len») m) ≡ true
 
   pub record UpdatePassed : Type 0 where
     pub complete : notComplete (d .stage) ≡ false
     pub version : wrongVersion (manifestIn m) ≡ false
-    pub size : Sized (manifestIn m .block) (manifestIn m .image)
+    pub size : Sized (manifestIn m .«block_len») (manifestIn m .«image_len»)
     pub newer : notNewer d (manifestIn m) ≡ false
-    pub room : countOf (manifestIn m) * manifestIn m .block ≤ length flash
+    pub room : countOf (manifestIn m) * manifestIn m .«block_len» ≤ length flash
     pub turn : (0 < updateNumber m) × (updateNumber m ≤ countOf (manifestIn m))
-    pub long : 51 + manifestIn m .block ≤ length m
-    pub signed : valid (d .key) (manifestBytes m) (updateSignature (manifestIn m .block) m) ≡ true
+    pub long : 51 + manifestIn m .«block_len» ≤ length m
+    pub signed : valid (d .key) (manifestBytes m) (updateSignature (manifestIn m .«block_len») m) ≡ true
     pub rooted : treeOver H (manifestIn m) (updated flash m) ≡ manifestIn m .root
 
   -- what is known of an accepted message, by its kind

@@ -52,7 +52,7 @@ module _ (H : List ℕ → List ℕ) (hash-long : (x : List ℕ) → length (H x
   manifest-fits =
       let z = job-sized in
       let m : blockCount (job .block) (length (job .image)) * job .block ≤ maxBlocks * job .block = mul-le-mul-right (job .block) (z .count) in
-      record { version = omega arith; block = omega arith; model = ok .model; serial = ok .serial; image = omega arith; root = root-long }
+      record { version = omega arith; «block_len» = omega arith; model = ok .model; serial = ok .serial; «image_len» = omega arith; root = root-long }
 
   -- a message with exactly the job's manifest
   pub manifest-is : (m : List ℕ) → manifestBytes m ≡ written (manifestFor H job) → manifestIn m ≡ manifestFor H job

@@ -57,7 +57,7 @@ newer : Job
 newer = record { image = replicate 64 3 ++ replicate 64 4; block = 64; model = 7; serial = 2 }
 
 fresh : Device
-fresh = record { model = 7; key = []; stage = Idle; manifest = record { version = 0; block = 0; model = 0; serial = 0; image = 0; root = [] }; hashes = replicate heldBytes 0 }
+fresh = record { model = 7; key = []; stage = Idle; manifest = record { version = 0; «block_len» = 0; model = 0; serial = 0; «image_len» = 0; root = [] }; hashes = replicate heldBytes 0 }
 
 flash : List ℕ
 flash = replicate 130 5
@@ -160,7 +160,7 @@ keeping-caught = other-serial keeping (loaded ▷ updateFor toy newer 2 []) (upd
 
 -- It forgets the serial while it loads, so that older programs are taken again.
 without-serial : Manifest → Manifest
-without-serial s = record { version = s .version; block = s .block; model = s .model; serial = 0; image = s .image; root = s .root }
+without-serial s = record { version = s .version; «block_len» = s .«block_len»; model = s .model; serial = 0; «image_len» = s .«image_len»; root = s .root }
 
 forgetting : Step
 forgetting = byKind (λ d f m. but (right d f m) (record { model = d .model; key = d .key; stage = Loading 1; manifest = without-serial (manifestIn m); hashes = begun (manifestIn m .root) })) right right

@@ -70,12 +70,12 @@ module _ (H : List ℕ → List ℕ) (valid : (key message signature : List ℕ)
     -- "signed means that this message's signature over it is valid under the drive's key"
     pub signed : valid (d .key) (manifestBytes carrier) (signatureIn carrier) ≡ true
     -- "the tree over its area has the slip's root", and the area has all of that tree's blocks
-    pub room : countOf s * s .block ≤ length f
+    pub room : countOf s * s .«block_len» ≤ length f
     pub rooted : treeOver H s f ≡ s .root
     -- "every image of the same length .. with that root": "filled, it equals the start of the area, or at one place its tree's hash input and the area's differ
     -- and have the same SHA-256"
-    pub image : (x : List ℕ) → length x ≡ s .image → treeOver H s (filled (s .block) x) ≡ s .root
-        → (filled (s .block) x ≡ take (length (filled (s .block) x)) f) ⊎ Collision H [] [] (imageBlocks (s .block) x) (cut (s .block) f) 0 (shape (countOf s))
+    pub image : (x : List ℕ) → length x ≡ s .«image_len» → treeOver H s (filled (s .«block_len») x) ≡ s .root
+        → (filled (s .«block_len») x ≡ take (length (filled (s .«block_len») x)) f) ⊎ Collision H [] [] (imageBlocks (s .«block_len») x) (cut (s .«block_len») f) 0 (shape (countOf s))
 
   -- The first half.
   pub record FirstHalf (ms : Messages) : Type 0 where

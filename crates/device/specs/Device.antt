@@ -13,7 +13,7 @@ use Rattle.device.specs.declared.state.Answer.{Answer}
 
 -- n, from the manifest alone
 unfoldable pub countOf : Manifest → ℕ
-countOf s = blockCount (s .block) (s .image)
+countOf s = blockCount (s .«block_len») (s .«image_len»)
 
 -- "A fresh drive is idle."
 pub record Fresh (d : Device) : Type 0 where
@@ -27,7 +27,7 @@ freshWith model key =
       model = model;
       key = key;
       stage = Idle;
-      manifest = record { version = 0; block = 0; model = 0; serial = 0; image = 0; root = replicate hashLength 0 };
+      manifest = record { version = 0; «block_len» = 0; model = 0; serial = 0; «image_len» = 0; root = replicate hashLength 0 };
       hashes = replicate heldBytes 0;
     }
 

@@ -28,7 +28,7 @@ unfoldable pub wrongVersion : Manifest → Bool
 wrongVersion s = not (eqb (s .version) 1)
 
 unfoldable pub badSize : Manifest → Bool
-badSize s = wrongSize (s .block) (s .image)
+badSize s = wrongSize (s .«block_len») (s .«image_len»)
 
 -- 1: stage not idle and its manifest breaks 4 or 5, or next number outside 1..n
 unfoldable pub senseless : Device → Bool
@@ -56,7 +56,7 @@ notNewer d s = not (ltb (serialOf d) (s .serial))
 
 -- 8: the flash must have n × L bytes
 unfoldable pub tooSmall : Manifest → List ℕ → Bool
-tooSmall s flash = ltb (length flash) (countOf s * s .block)
+tooSmall s flash = ltb (length flash) (countOf s * s .«block_len»)
 
 -- 10: kind 2 and not loading; kind 3 and not complete
 unfoldable pub notLoading : Stage → Bool
@@ -74,11 +74,11 @@ unfoldable pub notNext : ℕ → List ℕ → Bool
 notNext i m = not (eqb (numberIn m) i)
 
 unfoldable pub wrongLength : Manifest → ℕ → List ℕ → Bool
-wrongLength s i m = not (eqb (length m) (messageLength (s .block) (countOf s) i))
+wrongLength s i m = not (eqb (length m) (messageLength (s .«block_len») (countOf s) i))
 
 -- 13: L or T differs from the complete manifest's
 unfoldable pub unlike : Manifest → Manifest → Bool
-unlike s old = not (eqb (s .block) (old .block) && eqb (s .image) (old .image))
+unlike s old = not (eqb (s .«block_len») (old .«block_len») && eqb (s .«image_len») (old .«image_len»))
 
 -- the flash with block i, from 1, written
 unfoldable pub withBlock : ℕ → List ℕ → ℕ → List ℕ → List ℕ
@@ -86,7 +86,7 @@ withBlock L flash i block = paste flash (pred i * L) block (length block)
 
 -- the flash with the new block of an update
 unfoldable pub updated : List ℕ → List ℕ → List ℕ
-updated flash m = let s = manifestIn m in withBlock (s .block) flash (updateNumber m) (updateBlock (s .block) m)
+updated flash m = let s = manifestIn m in withBlock (s .«block_len») flash (updateNumber m) (updateBlock (s .«block_len») m)
 
 -- 4, 5, 6, 7: what a new manifest meets, in every message that carries one
 unfoldable pub ofManifest : Device → Manifest → List (Refusal × Bool)
@@ -120,7 +120,7 @@ module _ (H : List ℕ → List ℕ) where
   unfoldable pub mismatch : Device → ℕ → List ℕ → Bool
   mismatch d i m =
       let s = d .manifest in
-      not (fits H [] [] (countOf s) (pred i) (d .hashes) (blockIn (s .block) m) (hashesAfter (s .block) m))
+      not (fits H [] [] (countOf s) (pred i) (d .hashes) (blockIn (s .«block_len») m) (hashesAfter (s .«block_len») m))
 
   -- "Kind 2: 10, 8, 11, 12, 14"
   unfoldable pub ofBlock : Device → List ℕ → List ℕ → List (Refusal × Bool)
@@ -136,7 +136,7 @@ module _ (H : List ℕ → List ℕ) where
 
   -- the root of the tree over the first n blocks of the flash
   unfoldable pub treeOver : Manifest → List ℕ → List ℕ
-  treeOver s flash = hash H [] [] (cut (s .block) flash) 0 (shape (countOf s))
+  treeOver s flash = hash H [] [] (cut (s .«block_len») flash) 0 (shape (countOf s))
 
   -- 14 for kind 3: the tree over the flash with the new block lacks the new root
   unfoldable pub lacksRoot : Manifest → List ℕ → Bool
@@ -152,8 +152,8 @@ module _ (H : List ℕ → List ℕ) (valid : (key message signature : List ℕ)
       ++ ((refusal.Unlike, unlike s (d .manifest))
       ∷ (refusal.Area, tooSmall s flash)
       ∷ (refusal.Turn, outside (countOf s) (updateNumber m))
-      ∷ (refusal.Length, ltb (length m) (51 + s .block))
-      ∷ (refusal.Unsigned, unsigned valid d (manifestBytes m) (updateSignature (s .block) m))
+      ∷ (refusal.Length, ltb (length m) (51 + s .«block_len»))
+      ∷ (refusal.Unsigned, unsigned valid d (manifestBytes m) (updateSignature (s .«block_len») m))
       ∷ (refusal.Mismatch, lacksRoot H s (updated flash m))
       ∷ [])
 

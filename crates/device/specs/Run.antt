@@ -49,7 +49,7 @@ lastCarrier (ms ▷ m) = elim (kind m) [ Program ↦ some m | Block ↦ lastCarr
 
 -- the signature of a message that carries a manifest
 unfoldable pub signatureIn : List ℕ → List ℕ
-signatureIn m = elim (kind m) [ Program ↦ programSignature m | Block ↦ [] | Update ↦ updateSignature (manifestIn m .block) m | Unknown ↦ [] ]
+signatureIn m = elim (kind m) [ Program ↦ programSignature m | Block ↦ [] | Update ↦ updateSignature (manifestIn m .«block_len») m | Unknown ↦ [] ]
 
 -- "Complete: the list has an accepted kind 1, and since the last of these as many kind 2 messages were accepted as its slip has blocks."
 pub record Completed (taken : Messages) : Type 0 where

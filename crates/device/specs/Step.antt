@@ -39,9 +39,9 @@ acceptBlock d flash m =
             key = d .key;
             stage = stageAfter (countOf s) i;
             manifest = s;
-            hashes = advanced (countOf s) (pred i) (d .hashes) (hashesAfter (s .block) m);
+            hashes = advanced (countOf s) (pred i) (d .hashes) (hashesAfter (s .«block_len») m);
           };
-      flash = withBlock (s .block) flash i (blockIn (s .block) m);
+      flash = withBlock (s .«block_len») flash i (blockIn (s .«block_len») m);
     }
 
 -- "Accepting kind 3 writes that one block and replaces the slip."

@@ -78,7 +78,7 @@ fn accept_block(device: Device, flash: &mut [u8], message: &[u8]) -> Device
     let next = next_of(stage);
     let manifest = device.manifest;
     let n = count(manifest);
-    let len = manifest.block as usize;
+    let len = manifest.block_len as usize;
     let end = 3 + len;
     write_block(flash, len, next, &message[3..end]);
     let old = device.hashes;
@@ -99,7 +99,7 @@ fn accept_update(device: Device, flash: &mut [u8], message: &[u8]) -> Device
     ensures { λ r. ⌜ acceptUpdate device (now (flash .entry)) (now (message .entry)) ≡ record { device = r; flash = now (flash .exit) } ⌝ }
 {
     let manifest = wire::read(message, 1);
-    let len = manifest.block as usize;
+    let len = manifest.block_len as usize;
     let end = 51 + len;
     write_block(flash, len, octets::u16_at(message, 49), &message[51..end]);
     let mut next = device;

@@ -19,7 +19,7 @@ pub fn count(manifest: Manifest) -> usize
     requires { ⌜ badSize manifest ≡ false ⌝ }
     ensures { λ r. ⌜ r ≡ countOf manifest ⌝ }
 {
-    wire::block_count(manifest.block as usize, manifest.image as usize)
+    wire::block_count(manifest.block_len as usize, manifest.image_len as usize)
 }
 
 // 1.
@@ -61,7 +61,7 @@ pub fn wrong_version(manifest: Manifest) -> bool
 pub fn wrong_size(manifest: Manifest) -> bool
     ensures { λ r. ⌜ r ≡ badSize manifest ⌝ }
 {
-    wire::wrong_size(manifest.block as usize, manifest.image as usize)
+    wire::wrong_size(manifest.block_len as usize, manifest.image_len as usize)
 }
 
 // 6.
@@ -94,7 +94,7 @@ pub fn too_small(manifest: Manifest, flash: &[u8]) -> bool
     requires { ⌜ badSize manifest ≡ false ⌝ }
     ensures { λ r. ⌜ r ≡ tooSmall manifest (now (flash .entry)) ⌝ }
 {
-    flash.len() < count(manifest) * (manifest.block as usize)
+    flash.len() < count(manifest) * (manifest.block_len as usize)
 }
 
 // 9, for a signature that starts at index `at`.
@@ -152,17 +152,18 @@ pub fn wrong_length(manifest: Manifest, next: u16, message: &[u8]) -> bool
     requires { ⌜ (badSize manifest ≡ false) × (0 < next) × (next ≤ countOf manifest) ⌝ }
     ensures { λ r. ⌜ r ≡ wrongLength manifest next (now (message .entry)) ⌝ }
 {
-    message.len() != merkle::message_len(manifest.block as usize, count(manifest), next as usize)
+    message.len()
+        != merkle::message_len(manifest.block_len as usize, count(manifest), next as usize)
 }
 
 // 13.
 pub fn unlike(manifest: Manifest, old: Manifest) -> bool
     ensures { λ r. ⌜ r ≡ spec.unlike manifest old ⌝ }
 {
-    if manifest.block != old.block {
+    if manifest.block_len != old.block_len {
         return true;
     }
-    manifest.image != old.image
+    manifest.image_len != old.image_len
 }
 
 // 14, kind 2: the hash worked out from block and message is not the held one.
@@ -172,7 +173,7 @@ pub fn mismatch(device: Device, next: u16, message: &[u8]) -> bool
 {
     let manifest = device.manifest;
     let hashes = device.hashes;
-    let end = 3 + manifest.block as usize;
+    let end = 3 + manifest.block_len as usize;
     !merkle::fits(
         &hashes,
         count(manifest),
@@ -184,13 +185,13 @@ pub fn mismatch(device: Device, next: u16, message: &[u8]) -> bool
 
 // 14, kind 3: the tree over the flash with the new block lacks the new root. The flash is only read.
 pub fn lacks_root(manifest: Manifest, flash: &[u8], number: u16, block: &[u8]) -> bool
-    requires { ⌜ (badSize manifest ≡ false) × (tooSmall manifest (now flash) ≡ false) × (size.outside (countOf manifest) number ≡ false) × (length (now block) ≡ manifest .block) ⌝ }
-    ensures { λ r. ⌜ r ≡ spec.lacksRoot digest manifest (withBlock (manifest .block) (now (flash .entry)) number (now (block .entry))) ⌝ }
+    requires { ⌜ (badSize manifest ≡ false) × (tooSmall manifest (now flash) ≡ false) × (size.outside (countOf manifest) number ≡ false) × (length (now block) ≡ manifest .«block_len») ⌝ }
+    ensures { λ r. ⌜ r ≡ spec.lacksRoot digest manifest (withBlock (manifest .«block_len») (now (flash .entry)) number (now (block .entry))) ⌝ }
 {
     let root = manifest.root;
     let found = merkle::root_with(
         flash,
-        manifest.block as usize,
+        manifest.block_len as usize,
         count(manifest),
         number as usize - 1,
         block,

@@ -151,7 +151,7 @@ fn judge_update(device: Device, flash: &[u8], message: &[u8]) -> Answer
     if wire::outside(count(manifest), number as usize) {
         return Answer::Refused(Refusal::Turn);
     }
-    let end = 51 + manifest.block as usize;
+    let end = 51 + manifest.block_len as usize;
     if message.len() < end {
         return Answer::Refused(Refusal::Length);
     }

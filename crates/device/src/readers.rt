@@ -30,13 +30,13 @@ pub fn accepted_blocks(device: Device) -> usize
             next as usize - 1
         }
         Stage::Complete => {
-            if manifest.block == 0 {
+            if manifest.block_len == 0 {
                 return 0;
             }
-            if manifest.image == 0 {
+            if manifest.image_len == 0 {
                 return 0;
             }
-            wire::block_count(manifest.block as usize, manifest.image as usize)
+            wire::block_count(manifest.block_len as usize, manifest.image_len as usize)
         }
     }
 }

@@ -32,10 +32,10 @@ pub fn fresh(model: u32, key: [u8; 56]) -> Device
 {
     let manifest = Manifest {
         version: 0,
-        block: 0,
+        block_len: 0,
         model: 0,
         serial: 0,
-        image: 0,
+        image_len: 0,
         root: [0u8; merkle::HASH_LEN],
     };
     Device {

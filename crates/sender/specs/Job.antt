@@ -35,7 +35,7 @@ module _ (H : List ℕ → List ℕ) where
   rootOf j = hash H [] [] (blocks j) 0 (shape (count j))
 
   unfoldable pub manifestFor : Job → Manifest
-  manifestFor j = record { version = 1; block = j .block; model = j .model; serial = j .serial; image = length (j .image); root = rootOf j }
+  manifestFor j = record { version = 1; «block_len» = j .block; model = j .model; serial = j .serial; «image_len» = length (j .image); root = rootOf j }
 
   unfoldable pub programFor : Job → List ℕ → List ℕ
   programFor j signature = programMessage (manifestFor j) signature

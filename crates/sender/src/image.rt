@@ -51,10 +51,10 @@ pub fn manifest_for(image: &[u8], len: u32, model: u32, serial: u32) -> Manifest
     let root = merkle::root_with(image, block, n, n - 1, &last[..block]);
     Manifest {
         version: 1,
-        block: len as u16,
+        block_len: len as u16,
         model,
         serial,
-        image: image.len() as u32,
+        image_len: image.len() as u32,
         root,
     }
 }

@@ -8,15 +8,15 @@ abbrev pub manifestLength : ℕ
 manifestLength = 48
 
 unfoldable pub written : Manifest → List ℕ
-written s = bytes 2 (s .version) ++ bytes 2 (s .block) ++ bytes 4 (s .model) ++ bytes 4 (s .serial) ++ bytes 4 (s .image) ++ s .root
+written s = bytes 2 (s .version) ++ bytes 2 (s .«block_len») ++ bytes 4 (s .model) ++ bytes 4 (s .serial) ++ bytes 4 (s .«image_len») ++ s .root
 
 unfoldable pub read : List ℕ → Manifest
 read b =
     record {
       version = number (part 0 2 b);
-      block = number (part 2 2 b);
+      «block_len» = number (part 2 2 b);
       model = number (part 4 4 b);
       serial = number (part 8 4 b);
-      image = number (part 12 4 b);
+      «image_len» = number (part 12 4 b);
       root = part 16 32 b;
     }

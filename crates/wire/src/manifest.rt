@@ -10,11 +10,11 @@ ghost use Rattle.wire.specs.Manifest.{written};
 pub struct Manifest {
     pub version: u16,
     // 01: L, the bytes of a block.
-    pub block: u16,
+    pub block_len: u16,
     pub model: u32,
     pub serial: u32,
     // 01: T, the bytes of the image.
-    pub image: u32,
+    pub image_len: u32,
     pub root: [u8; 32],
 }
 
@@ -25,10 +25,10 @@ pub fn read(s: &[u8], at: usize) -> Manifest
 {
     Manifest {
         version: octets::u16_at(s, at),
-        block: octets::u16_at(s, at + 2),
+        block_len: octets::u16_at(s, at + 2),
         model: octets::u32_at(s, at + 4),
         serial: octets::u32_at(s, at + 8),
-        image: octets::u32_at(s, at + 12),
+        image_len: octets::u32_at(s, at + 12),
         root: octets::bytes32_at(s, at + 16),
     }
 }
@@ -37,17 +37,17 @@ pub fn to_bytes(manifest: Manifest) -> [u8; 48]
     ensures { λ r. ⌜ r ≡ written manifest ⌝ }
 {
     let version = octets::be16(manifest.version);
-    let block = octets::be16(manifest.block);
+    let block_len = octets::be16(manifest.block_len);
     let model = octets::be32(manifest.model);
     let serial = octets::be32(manifest.serial);
-    let image = octets::be32(manifest.image);
+    let image_len = octets::be32(manifest.image_len);
     let root = manifest.root;
     let mut s = [0u8; 48];
     octets::copy(&mut s, 0, &version);
-    octets::copy(&mut s, 2, &block);
+    octets::copy(&mut s, 2, &block_len);
     octets::copy(&mut s, 4, &model);
     octets::copy(&mut s, 8, &serial);
-    octets::copy(&mut s, 12, &image);
+    octets::copy(&mut s, 12, &image_len);
     octets::copy(&mut s, 16, &root);
     s
 }

@@ -39,7 +39,7 @@ write-block-requires c κs =
     let a = accepted (c .before .before .before .before .before) in
     let s = c .before .before .before .before .before .before .before .before .args in
     let d = due _ _ _ (a .long) in
-    let l = ap length (part-between (s .message .now) 3 (s .device .manifest .block)) ∙ length-part (s .message .now) 3 (s .device .manifest .block) (d .long) in
+    let l = ap length (part-between (s .message .now) 3 (s .device .manifest .«block_len»)) ∙ length-part (s .message .now) 3 (s .device .manifest .«block_len») (d .long) in
     (a .awaited .low, omega (arith, l, room _ _ _ (a .area) (a .awaited .low) (a .awaited .high)))
 
 cast-advance : tie.Need-cast-advance

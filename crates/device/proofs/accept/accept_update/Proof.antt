@@ -39,7 +39,7 @@ write-block-requires : tie.Need-write-block-requires
 write-block-requires c κs =
     let a = accepted (c .before) in
     let m = c .before .before .before .before .before .before .before .args .message .now in
-    let n = c .before .before .before .before .read .result .block in
+    let n = c .before .before .before .before .read .result .«block_len» in
     let l = ap length (part-between m 51 n) ∙ length-part m 51 n (a .long) in
     (a .low, omega (arith, l, a .place))
 

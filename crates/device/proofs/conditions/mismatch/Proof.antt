@@ -50,7 +50,7 @@ returns : tie.Need-returns
 returns c =
     let n = c .before .before .before in
     let s = n .before .before .before .before .before .before in
-    let L = s .args .device .manifest .block in
+    let L = s .args .device .manifest .«block_len» in
     mismatch-is digest (s .args .device) (s .args .next) (n .count .result) (s .args .message .now) _ _ _ (n .count .ensures)
     (slice-block L (s .args .message .now)) (slice-rest L (s .args .message .now)) (c .fits2 .ensures)
 

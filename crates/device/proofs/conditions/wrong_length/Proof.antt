@@ -26,7 +26,7 @@ returns : tie.Need-returns
 unfolding wrongLength
 returns c =
     let a = c .before .before .before .before .args in
-    ap (λ x. not (eqb (length (a .message .now)) x)) (c .message-len .ensures ∙ ap (λ n. messageLength (a .manifest .block) n (a .next)) (c .before .count .ensures))
+    ap (λ x. not (eqb (length (a .message .now)) x)) (c .message-len .ensures ∙ ap (λ n. messageLength (a .manifest .«block_len») n (a .next)) (c .before .count .ensures))
 
 pub wrong-length-spec : {M : Type 1} → statement M
 wrong-length-spec = tie.close (tie.spec cast-message-len count-requires message-len-requires returns)

@@ -150,7 +150,7 @@ lacks-root-requires c κs =
       size-passed _ _ (t .before .before .judge-manifest .ensures) (t .enum-told .given .1),
       sym (e3 .before .too-small .ensures) ∙ e3 .if3 .left,
       rw (← o .before .count .ensures) (sym (o .outside .ensures) ∙ e4 .if4 .left),
-      ap length (part-between m 51 (s .read .result .block)) ∙ length-part m 51 (s .read .result .block) (e5 .if5 .left),
+      ap length (part-between m 51 (s .read .result .«block_len»)) ∙ length-part m 51 (s .read .result .«block_len») (e5 .if5 .left),
     )
 
 -- Signed: the tree's comparison decides.
