@@ -105,11 +105,11 @@ int main(int count, char **words) {
         both(&proved, &proved, c, best);
         printf("%12.2f", best[0] * 1e6);
     }
-    printf("\n");
+    printf("\nhow many times as fast as\n");
     fflush(stdout);
-    compare("as fast as plain C, gcc -O3", &plain);
-    other(words[0], "as fast as libcrypto, scalar code", "OPENSSL_ia32cap='~0x1000020000000000:~0x20000128'");
-    other(words[0], "as fast as libcrypto, no SHA", "OPENSSL_ia32cap=':~0x20000000'");
-    other(words[0], "as fast as libcrypto, SHA", "env");
+    compare("  plain C, gcc -O3", &plain);
+    other(words[0], "  libcrypto, scalar code", "OPENSSL_ia32cap='~0x1000020000000000:~0x20000128'");
+    other(words[0], "  libcrypto, no SHA instructions", "OPENSSL_ia32cap=':~0x20000000'");
+    other(words[0], "  libcrypto", "env");
     return 0;
 }

@@ -39,6 +39,9 @@ use signer::Signer;
 /// One list in so many has a large image.
 const LARGE: u64 = 300;
 
+/// With so many calls every answer is sure to occur; with fewer a rare one may not.
+const ENOUGH: u64 = 100_000;
+
 struct Test<'a> {
     seed: u64,
     signers: &'a [[Signer; 2]],
@@ -104,12 +107,15 @@ impl Test<'_> {
 
     fn lists(&mut self, calls: u64) {
         let mut number = 0;
-        let end = self.passed + calls;
-        while self.passed < end && self.failed < 100 {
-            number += 1;
-            self.list(number, end - self.passed);
+        let begin = self.passed;
+        let end = begin + calls;
+        for quarter in 1..=4 {
+            while self.passed < begin + calls * quarter / 4 && self.failed < 100 {
+                number += 1;
+                self.list(number, end - self.passed);
+            }
+            println!("{number} lists, {} messages to devices", self.passed - begin);
         }
-        println!("{number} lists of messages to devices");
     }
 
     fn functions(&mut self, calls: u64) {
@@ -144,11 +150,14 @@ impl Test<'_> {
         }
     }
 
-    /// Prints what occurred; each answer that never did counts as failed.
-    fn report(&mut self) {
+    /// Prints what occurred; each answer that never did counts as failed, where it had to.
+    fn report(&mut self, calls: u64) {
         let missing = self.coverage.report();
         if missing > 0 {
             println!("{missing} answers of the rules never occurred");
+        }
+        if calls >= ENOUGH {
+            self.failed += missing;
         }
         let ends: Vec<String> = self
             .bundle_ends
@@ -156,7 +165,6 @@ impl Test<'_> {
             .map(|(end, count)| format!("{end}: {count}"))
             .collect();
         println!("loader runs that ended in {}", ends.join(", "));
-        self.failed += missing;
     }
 }
 
@@ -181,9 +189,11 @@ fn main() {
     };
     test.self_test();
     test.lists(calls);
+    println!("sender, digest, verdict");
     test.functions(calls);
+    println!("loader");
     test.bundles((calls / 400).clamp(1, 2000));
-    test.report();
+    test.report(calls);
     println!("{} passed, {} failed", test.passed, test.failed);
     std::process::exit((test.failed > 0) as i32);
 }
