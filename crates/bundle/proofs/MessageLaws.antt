@@ -25,7 +25,7 @@ use Rattle.device.specs.Refusals.{badSize, notLoading, notComplete}
 use Rattle.device.specs.Step.{acceptProgram, accept, outcome, refusalOf, step}
 use Rattle.device.specs.Readers.{numberOf}
 use Rattle.device.proofs.RefusalLaws.{program-passed, block-passed, update-passed, unknown-refused}
-use Rattle.bundle.specs.Text.{slip‿, messageLine}
+use Rattle.bundle.specs.Text.{slipLine}
 use Rattle.bundle.specs.Parts.{nowhere, programIn, beforeProgram}
 use Rattle.bundle.specs.Load.{Printed, _before_, stop, ifAccepted, blocks, messages}
 use Rattle.bundle.specs.Steps.{Written, Ran}
@@ -59,42 +59,42 @@ module _ (d : Device) (flash m : List ℕ) (idle : d .stage ≡ Idle) where
           absurd (let z : _≡_ {A = ℕ} 0 1 = cc in omega arith)
 
 module _ (d : Device) (flash b : List ℕ) where
-  no-program : nowhere b ≡ true → messages d flash b ≡ messageLine slip‿ 0 3 before stop d flash
+  no-program : nowhere b ≡ true → messages d flash b ≡ slipLine 3 before stop d flash
   unfolding messages
   no-program e = rw (e, messages)
 
   with-program : nowhere b ≡ false
       → messages d flash b
-      ≡ (let o = step digest valid d flash (programIn b) in messageLine slip‿ 0 (numberOf (o .answer)) before ifAccepted o (blocks (o .device) (o .flash) (beforeProgram b)))
+      ≡ (let o = step digest valid d flash (programIn b) in slipLine (numberOf (o .answer)) before ifAccepted o (blocks (o .device) (o .flash) (beforeProgram b)))
   unfolding messages
   with-program e = rw (e, messages)
 
-  pub ran-nowhere : {out out' : List ℕ} {at next : ℕ} → nowhere b ≡ true → Written out at out' next (messageLine slip‿ 0 3) → Ran (messages d flash b) out at out' next d flash
+  pub ran-nowhere : {out out' : List ℕ} {at next : ℕ} → nowhere b ≡ true → Written out at out' next (slipLine 3) → Ran (messages d flash b) out at out' next d flash
   ran-nowhere e w = ran (sym (before-stop _ d flash) ∙ sym (no-program e)) w
 
   module _ (start : ℕ) (z : Somewhere b start) (o : Outcome) (done : step digest valid d flash (take (length b - 4 - start) (drop start b)) ≡ o) (answer : ℕ)
       (answer-is : answer ≡ numberOf (o .answer)) where
-    follows : messageLine slip‿ 0 answer before ifAccepted o (blocks (o .device) (o .flash) (take start b)) ≡ messages d flash b
+    follows : slipLine answer before ifAccepted o (blocks (o .device) (o .flash) (take start b)) ≡ messages d flash b
     follows =
         let q : step digest valid d flash (programIn b) ≡ o = ap (step digest valid d flash) (sym (z .program)) ∙ done in
-        let after : Outcome → ℕ → List ℕ → Printed = λ x y f. messageLine slip‿ 0 y before ifAccepted x (blocks (x .device) (x .flash) f) in
+        let after : Outcome → ℕ → List ℕ → Printed = λ x y f. slipLine y before ifAccepted x (blocks (x .device) (x .flash) f) in
         ap (λ (y : ℕ). after o y (take start b)) answer-is
         ∙ ap₂ {C = Printed} (λ (x : Outcome) (f : List ℕ). after x (numberOf (x .answer)) f) (sym q) (z .front)
         ∙ sym (with-program (z .there))
 
-    pub ran-refused : {out out' : List ℕ} {at next : ℕ} → Written out at out' next (messageLine slip‿ 0 answer) → (r : Refusal) → o .answer ≡ Refused r
+    pub ran-refused : {out out' : List ℕ} {at next : ℕ} → Written out at out' next (slipLine answer) → (r : Refusal) → o .answer ≡ Refused r
         → Ran (messages d flash b) out at out' next (o .device) (o .flash)
     ran-refused w r e =
-        ran (sym (before-stop _ (o .device) (o .flash)) ∙ ap (λ (p : Printed). messageLine slip‿ 0 answer before p) (sym (if-refused o _ r e)) ∙ follows) w
+        ran (sym (before-stop _ (o .device) (o .flash)) ∙ ap (λ (p : Printed). slipLine answer before p) (sym (if-refused o _ r e)) ∙ follows) w
 
-    pub ran-on : {out out' out'' f : List ℕ} {at next last : ℕ} {d' : Device} → Written out at out' next (messageLine slip‿ 0 answer) → o .answer ≡ Accepted
+    pub ran-on : {out out' out'' f : List ℕ} {at next last : ℕ} {d' : Device} → Written out at out' next (slipLine answer) → o .answer ≡ Accepted
         → Ran (blocks (o .device) (o .flash) (take start b)) out' next out'' last d' f
-        → at + length (messageLine slip‿ 0 answer) + length (blocks (o .device) (o .flash) (take start b) .text) ≤ length out
+        → at + length (slipLine answer) + length (blocks (o .device) (o .flash) (take start b) .text) ≤ length out
         → Ran (messages d flash b) out at out'' last d' f
     unfolding _before_
     ran-on {f = f} {d' = d'} w e r room =
         let p : Printed = blocks (o .device) (o .flash) (take start b) in
-        let all : messageLine slip‿ 0 answer before p ≡ messages d flash b = ap (λ (p : Printed). messageLine slip‿ 0 answer before p) (sym (if-accepted o _ e)) ∙ follows in
-        let same : record { text = messageLine slip‿ 0 answer ++ p .text; device = d'; flash = f } ≡ messageLine slip‿ 0 answer before p =
-        ap₂ {C = Printed} (λ (x : Device) (y : List ℕ). record { text = messageLine slip‿ 0 answer ++ p .text; device = x; flash = y }) (r .device) (r .flash) in
+        let all : slipLine answer before p ≡ messages d flash b = ap (λ (p : Printed). slipLine answer before p) (sym (if-accepted o _ e)) ∙ follows in
+        let same : record { text = slipLine answer ++ p .text; device = d'; flash = f } ≡ slipLine answer before p =
+        ap₂ {C = Printed} (λ (x : Device) (y : List ℕ). record { text = slipLine answer ++ p .text; device = x; flash = y }) (r .device) (r .flash) in
         ran (same ∙ all) (joined w (r .written) room)

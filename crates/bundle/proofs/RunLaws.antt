@@ -19,7 +19,7 @@ use Rattle.device.specs.Device.{countOf, Outcome}
 use Rattle.device.specs.Refusals.{badSize}
 use Rattle.device.specs.Step.{step}
 use Rattle.device.specs.Readers.{numberOf}
-use Rattle.bundle.specs.Text.{block‿, messageLine}
+use Rattle.bundle.specs.Text.{ascii, blockLine}
 use Rattle.bundle.specs.Load.{Printed, _before_, stop, ifAccepted, blocksFrom, blocks}
 use Rattle.bundle.specs.Steps.{Cut, Written, Ran}
 use Rattle.bundle.proofs.TextLaws.{message-short}
@@ -54,7 +54,7 @@ module _ (L n : ℕ) where
   one-block : (i : ℕ) (d : Device) (f b : List ℕ) → i ≤ n
       → blocksFrom L n (n + 1 - i) i d f b
       ≡ (let o = step digest valid d f (take (messageLength L n i) b) in
-      messageLine block‿ i (numberOf (o .answer)) before ifAccepted o (blocksFrom L n (n + 1 - (i + 1)) (i + 1) (o .device) (o .flash) (drop (messageLength L n i) b)))
+      blockLine i (numberOf (o .answer)) before ifAccepted o (blocksFrom L n (n + 1 - (i + 1)) (i + 1) (o .device) (o .flash) (drop (messageLength L n i) b)))
   unfolding blocksFrom
   one-block i d f b h =
       let e : n + 1 - i ≡ suc (n - i) = omega arith in
@@ -101,18 +101,18 @@ module _ (L n : ℕ) where
       pub out-kept : length out ≡ length out₀
       out-kept = length-kept (w .written) (omega (arith, w .short))
 
-      pub line-fits : (answer : ℕ) → i ≤ n → answer < 256 → at + length (messageLine block‿ i answer) ≤ length out
-      line-fits answer g small = omega (arith, out-kept, w .short, w .first, w .written .end, message-short block‿ i answer (omega arith) (omega arith))
+      pub line-fits : (answer : ℕ) → i ≤ n → answer < 256 → at + length (blockLine i answer) ≤ length out
+      line-fits answer g small = omega (arith, out-kept, w .short, w .first, w .written .end, message-short (ascii "block ") i answer (omega arith) (omega arith))
 
     module _ {flash out out' : List ℕ} {d : Device} {at at' read i : ℕ} (w : Looping flash out d at read i) (h : i ≤ n) (few : n ≤ maxBlocks)
         (room : from + 15 * maxBlocks ≤ length out₀) (o : Outcome) (len end : ℕ) (due : len ≡ messageLength L n i) (cut : Cut bytes read len end)
         (done : step digest valid d flash (take (end - read) (drop read bytes)) ≡ o) (answer : ℕ) (answer-is : answer ≡ numberOf (o .answer)) (small : answer < 256)
-        (v : Written out at out' at' (messageLine block‿ i answer)) where
+        (v : Written out at out' at' (blockLine i answer)) where
       abbrev line : List ℕ
-      line = messageLine block‿ i answer
+      line = blockLine i answer
 
       line-short : length line ≤ 15
-      line-short = message-short block‿ i answer (omega arith) (omega arith)
+      line-short = message-short (ascii "block ") i answer (omega arith) (omega arith)
 
       both : Written out₀ from out' at' (w .text ++ line)
       both = joined (w .written) v (omega (arith, w .short, line-short))
@@ -126,7 +126,7 @@ module _ (L n : ℕ) where
           let m : take (messageLength L n i) b ≡ take (end - read) b = ap (λ (k : ℕ). take k b) (sym due) ∙ sym (cut .message) in
           let r : drop (messageLength L n i) b ≡ drop end bytes = ap (λ (k : ℕ). drop k b) (sym due) ∙ sym (cut .rest) in
           let q : step digest valid d flash (take (messageLength L n i) b) ≡ o = ap (step digest valid d flash) m ∙ done in
-          let after : Outcome → ℕ → List ℕ → Printed = λ x y z. messageLine block‿ i y before ifAccepted x (blocksFrom L n (n + 1 - (i + 1)) (i + 1) (x .device) (x .flash) z) in
+          let after : Outcome → ℕ → List ℕ → Printed = λ x y z. blockLine i y before ifAccepted x (blocksFrom L n (n + 1 - (i + 1)) (i + 1) (x .device) (x .flash) z) in
           sym (before-both (w .text) line _)
           ∙ ap (λ (p : Printed). w .text before p)
           (ap (λ (y : ℕ). after o y (drop end bytes)) answer-is

@@ -11,12 +11,12 @@ use Rattle.device.specs.Device.{freshWith}
 use Rattle.device.specs.Refusals.{senseless, noKind, always, refusals}
 use Rattle.device.specs.Step.{outcome, refusalOf, step}
 use Rattle.device.specs.Readers.{acceptedBlocks}
-use Rattle.bundle.specs.Text.{bundle‿, slip‿, stateIdle‿, decimalWithin, decimal, line, messageLine, stateWords, stateLine}
+use Rattle.bundle.specs.Text.{ascii, decimalWithin, decimal, line, messageLine, stateWords, stateLine}
 use Rattle.bundle.specs.Parts.{trailerAt, distance, nowhere, programAt, programIn, beforeProgram}
-use Rattle.bundle.specs.Load.{Printed, _before_, ifAccepted, messages, withState, deviceFor, loaded}
+use Rattle.bundle.specs.Load.{keyFileLength, Printed, _before_, ifAccepted, messages, withState, deviceFor, loaded}
 use Rattle.bundle.proofs.LoadLaws.{all-printed}
 
-pub sample : (key flash : List ℕ) → length key ≡ 60
-    → loaded key (0 ∷ 0 ∷ 0 ∷ 0 ∷ []) flash .text ≡ line bundle‿ 4 ++ messageLine slip‿ 0 2 ++ line stateIdle‿ 0
+pub sample : (key flash : List ℕ) → length key ≡ keyFileLength
+    → loaded key (0 ∷ 0 ∷ 0 ∷ 0 ∷ []) flash .text ≡ ascii "bundle 4\nslip 0 2\nstate idle 0\n"
 unfolding number firstThatApplies kind freshWith senseless noKind always refusals outcome refusalOf step acceptedBlocks decimalWithin decimal line messageLine stateWords stateLine trailerAt distance nowhere programAt programIn beforeProgram _before_ ifAccepted messages withState deviceFor
 sample key flash e = ap (λ (p : Printed). p .text) (all-printed key (0 ∷ 0 ∷ 0 ∷ 0 ∷ []) flash e (omega arith))

@@ -16,7 +16,7 @@ use Rattle.sha256.specs.Sha256.{digest}
 use Rattle.sha256.proofs.DigestLaws.{length-digest}
 use Rattle.merkle.specs.Limits.{heldBytes}
 use Rattle.merkle.specs.Frontier.{messageLength}
-use Rattle.lms.specs.Lms.{valid}
+use Rattle.lms.specs.Lms.{keyLength, valid}
 use Rattle.wire.specs.declared.manifest.Manifest.{Manifest}
 use Rattle.wire.specs.declared.kind.Kind.the-variants.{Program, Block}
 use Rattle.wire.specs.Manifest.{written}
@@ -33,9 +33,9 @@ use Rattle.device.proofs.RefusalLaws.{program-passed}
 use Rattle.device.proofs.SentLaws.{root-long, block-sent}
 use Rattle.device.proofs.HonestLaws.{Here, next-accepted, next-here, first-here, is-complete, flash-is}
 use Rattle.device.proofs.Reached.{is-program, program-accepted}
-use Rattle.bundle.specs.Text.{bundle‿, slip‿, block‿, stateComplete‿, line, messageLine, stateWords, stateLine}
+use Rattle.bundle.specs.Text.{ascii, bundleLine, slipLine, blockLine, line, stateWords, stateLine}
 use Rattle.bundle.specs.Parts.{trailerAt, distance, nowhere, programAt, programIn, beforeProgram}
-use Rattle.bundle.specs.Load.{Printed, _before_, ifAccepted, blocksFrom, blocks, messages, withState, deviceFor, loaded}
+use Rattle.bundle.specs.Load.{keyFileLength, maxBundle, Printed, _before_, ifAccepted, blocksFrom, blocks, messages, withState, deviceFor, loaded}
 use Rattle.bundle.specs.Bundle.{blockMessages, bundleFor, acceptedFrom, Whole}
 use Rattle.bundle.proofs.LoadLaws.{all-printed}
 
@@ -70,7 +70,7 @@ module _ (job : Job) (ok : Sendable job) (old : List ℕ) where
   one : (left j : ℕ) (s : Situation) (rest : List ℕ) → j < count job → Loading j s
       → (let t = accept Block (s .device) (s .flash) (blockFor digest job (suc j)) in
       blocksFrom (job .block) (count job) (suc left) (suc j) (s .device) (s .flash) (blockFor digest job (suc j) ++ rest)
-      ≡ messageLine block‿ (suc j) 0 before blocksFrom (job .block) (count job) left (suc (suc j)) (t .device) (t .flash) rest)
+      ≡ blockLine (suc j) 0 before blocksFrom (job .block) (count job) left (suc (suc j)) (t .device) (t .flash) rest)
   unfolding blocksFrom ifAccepted
   one left j s rest h w =
       let m : List ℕ = blockFor digest job (suc j) in
@@ -94,7 +94,7 @@ module _ (job : Job) (ok : Sendable job) (old : List ℕ) where
       let r = runs left (suc j) t filler (omega arith) (next-here digest length-digest valid job ok old j s w h) in
       let same = ap (blocksFrom (job .block) (count job) (suc left) (suc j) (s .device) (s .flash)) (append-assoc m (messagesAfter job (suc j) left) filler)
       ∙ one left j s (messagesAfter job (suc j) left ++ filler) h w in
-      subst (Runs (suc left) j) (sym same) (record { text = ap (λ x. messageLine block‿ (suc j) 0 ++ x) (r .text); here = r .here })
+      subst (Runs (suc left) j) (sym same) (record { text = ap (λ x. blockLine (suc j) 0 ++ x) (r .text); here = r .here })
 
 -- where the loader finds the kind 1 message, and what stands before it
 module _ (front program : List ℕ) where
@@ -106,7 +106,7 @@ module _ (front program : List ℕ) where
     program-is : programIn bundle ≡ program
     front-is : beforeProgram bundle ≡ front
 
-  found : length bundle ≤ 65536 → Found
+  found : length bundle ≤ maxBundle → Found
   unfolding nowhere trailerAt distance programAt programIn beforeProgram
   found h =
       let t : List ℕ = bytes 4 (length program) in
@@ -125,9 +125,9 @@ module _ (front program : List ℕ) where
         front-is = ap (λ i. take i bundle) start ∙ ap (take (length front)) split ∙ take-at front (program ++ t) (length front) refl;
       }
 
-module _ (key flash : List ℕ) (job : Job) (ok : Sendable job) (filler signature : List ℕ) (key-long : length key ≡ 60) (model : job .model ≡ number (part 56 4 key)) (serial : 0 < job .serial)
-    (room : count job * job .block ≤ length flash) (signed : valid (take 56 key) (written (manifestFor digest job)) signature ≡ true)
-    (fits : length (bundleFor digest job filler signature) ≤ 65536) where
+module _ (key flash : List ℕ) (job : Job) (ok : Sendable job) (filler signature : List ℕ) (key-long : length key ≡ keyFileLength) (model : job .model ≡ number (part keyLength 4 key)) (serial : 0 < job .serial)
+    (room : count job * job .block ≤ length flash) (signed : valid (take keyLength key) (written (manifestFor digest job)) signature ≡ true)
+    (fits : length (bundleFor digest job filler signature) ≤ maxBundle) where
   abbrev d : Device
   d = deviceFor key
 
@@ -176,7 +176,7 @@ module _ (key flash : List ℕ) (job : Job) (ok : Sendable job) (filler signatur
       of-messages = unfold blockMessages in
           ap (from (job .block) (count job)) (ap (blockMessages digest job) (sym (zero-add (count job))) ∙ messages-after job (count job) 0)
 
-  taken : messages d flash (bundle front program) ≡ messageLine slip‿ 0 0 before blocks (begun .device) (begun .flash) front
+  taken : messages d flash (bundle front program) ≡ slipLine 0 before blocks (begun .device) (begun .flash) front
   unfolding messages ifAccepted
   taken =
       let f = found front program (unfold bundleFor in fits) in
@@ -184,7 +184,7 @@ module _ (key flash : List ℕ) (job : Job) (ok : Sendable job) (filler signatur
       accepted-step d flash program none-applies ∙ ap (λ k. let t = accept k d flash program in record { answer = Accepted; device = t .device; flash = t .flash }) (is-sent .is) in
       rw (f .somewhere, f .program-is, f .front-is, o, messages) refl
 
-  state-is : (p : Printed) → Runs job ok flash (count job) 0 p → stateLine (p .device) ≡ line stateComplete‿ (count job)
+  state-is : (p : Printed) → Runs job ok flash (count job) 0 p → stateLine (p .device) ≡ line (ascii "state complete ") (count job)
   unfolding stateLine stateWords acceptedBlocks
   state-is p r =
       let s : Situation = record { device = p .device; flash = p .flash } in
@@ -198,13 +198,13 @@ module _ (key flash : List ℕ) (job : Job) (ok : Sendable job) (filler signatur
       let b : List ℕ = bundle front program in
       let p : Printed = blocks (begun .device) (begun .flash) front in
       let s : Situation = record { device = p .device; flash = p .flash } in
-      let first : List ℕ = line bundle‿ (length b) in
-      let second : List ℕ = messageLine slip‿ 0 0 in
+      let first : List ℕ = bundleLine (length b) in
+      let second : List ℕ = slipLine 0 in
       let is : loaded key b flash ≡ first before withState (second before p) = all-printed key b flash key-long fits ∙ ap (λ (q : Printed). first before withState q) taken in
-      let text : first ++ (second ++ p .text ++ stateLine (p .device)) ≡ first ++ second ++ acceptedFrom (count job) 1 ++ line stateComplete‿ (count job) =
+      let text : first ++ (second ++ p .text ++ stateLine (p .device)) ≡ first ++ second ++ acceptedFrom (count job) 1 ++ line (ascii "state complete ") (count job) =
       ap₂ (λ x y. first ++ (second ++ x ++ y)) (ran .text) (state-is p ran)
-      ∙ sym (append-assoc first (second ++ acceptedFrom (count job) 1) (line stateComplete‿ (count job)))
-      ∙ ap (λ x. x ++ line stateComplete‿ (count job)) (sym (append-assoc first second (acceptedFrom (count job) 1))) in
+      ∙ sym (append-assoc first (second ++ acceptedFrom (count job) 1) (line (ascii "state complete ") (count job)))
+      ∙ ap (λ x. x ++ line (ascii "state complete ") (count job)) (sym (append-assoc first second (acceptedFrom (count job) 1))) in
       subst (Whole job b flash) (sym is)
       (record {
         text = text;

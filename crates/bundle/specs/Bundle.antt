@@ -9,7 +9,7 @@ use Rattle.wire.specs.Image.{filled}
 use Rattle.sender.specs.Job.{Job, count, manifestFor, programFor, blockFor}
 use Rattle.sender.specs.Send.{Result, unnumbered}
 use Rattle.device.specs.declared.state.Stage.the-variants.{Complete}
-use Rattle.bundle.specs.Text.{bundle‿, slip‿, block‿, stateComplete‿, line, messageLine}
+use Rattle.bundle.specs.Text.{ascii, line, bundleLine, slipLine, blockLine}
 use Rattle.bundle.specs.Load.{Printed}
 
 module _ (H : List ℕ → List ℕ) where
@@ -32,12 +32,12 @@ sendBundle job signature buffer = unnumbered job (bundleFor digest job [] signat
 -- lines of `left` accepted block messages, from number i on
 unfoldable pub acceptedFrom : (left i : ℕ) → List ℕ
 acceptedFrom zero i = []
-acceptedFrom (suc left) i = messageLine block‿ i 0 ++ acceptedFrom left (suc i)
+acceptedFrom (suc left) i = blockLine i 0 ++ acceptedFrom left (suc i)
 
 -- The loader took the job's bundle whole: it printed that each message was accepted and that the device is complete, with the job's manifest and image, and the
 -- flash beyond is as before.
 pub record Whole (job : Job) (bundle flash : List ℕ) (p : Printed) : Type 0 where
-  pub text : p .text ≡ line bundle‿ (length bundle) ++ messageLine slip‿ 0 0 ++ acceptedFrom (count job) 1 ++ line stateComplete‿ (count job)
+  pub text : p .text ≡ bundleLine (length bundle) ++ slipLine 0 ++ acceptedFrom (count job) 1 ++ line (ascii "state complete ") (count job)
   pub stage : p .device .stage ≡ Complete
   pub manifest : p .device .manifest ≡ manifestFor digest job
   pub image : p .flash ≡ filled (job .block) (job .image) ++ drop (count job * job .block) flash

@@ -1,21 +1,32 @@
 -- What the loader does with key.bin and bundle.bin (01, 'Bundle and loader'): the text that it prints, and the flash that it leaves.
-use mathlib.Core.Bool.{true, false}
+use mathlib.Core.Bool.{cond, not}
 use mathlib.Core.List.{List, [], _++_}
-use Prim.Native.Nat.{ℕ, zero, suc}
+use Prim.Native.Nat.{ℕ, zero, suc, _+_}
 use lib.Dec.{eqb, ltb}
 use lib.ListN.{length, take, drop}
-use lib.Seq.{paste}
 use Rattle.octets.specs.Octets.{number, part}
 use Rattle.sha256.specs.Sha256.{digest}
 use Rattle.merkle.specs.Frontier.{messageLength}
-use Rattle.lms.specs.Lms.{valid}
+use Rattle.lms.specs.Lms.{keyLength, valid}
 use Rattle.device.specs.declared.state.Device.{Device}
 use Rattle.device.specs.declared.state.Answer.the-variants.{Accepted, Refused}
 use Rattle.device.specs.Device.{countOf, freshWith, Outcome}
 use Rattle.device.specs.Step.{step}
 use Rattle.device.specs.Readers.{numberOf}
-use Rattle.bundle.specs.Text.{bundle‿, slip‿, block‿, keyAlone, bundleOver, line, messageLine, stateLine}
+use Rattle.bundle.specs.Text.{ascii, bundleLine, slipLine, blockLine, stateLine}
 use Rattle.bundle.specs.Parts.{nowhere, programIn, beforeProgram}
+
+-- "key.bin (56 key bytes, 4 model bytes)"
+abbrev pub keyFileLength : ℕ
+keyFileLength = keyLength + 4
+
+-- "bundle.bin (at most 65,536 bytes)"
+abbrev pub maxBundle : ℕ
+maxBundle = 65536
+
+-- room for the longest output
+abbrev pub outputRoom : ℕ
+outputRoom = 65536
 
 -- Text printed so far or from here on, with device and flash at its end.
 pub record Printed : Type 0 where
@@ -43,7 +54,7 @@ blocksFrom L n zero i d flash bytes = stop d flash
 blocksFrom L n (suc left) i d flash bytes =
     let due = messageLength L n i in
     let o = step digest valid d flash (take due bytes) in
-    messageLine block‿ i (numberOf (o .answer)) before ifAccepted o (blocksFrom L n left (suc i) (o .device) (o .flash) (drop due bytes))
+    blockLine i (numberOf (o .answer)) before ifAccepted o (blocksFrom L n left (suc i) (o .device) (o .flash) (drop due bytes))
 
 -- all blocks of the device's manifest
 unfoldable pub blocks : Device → (flash bytes : List ℕ) → Printed
@@ -52,29 +63,27 @@ blocks d flash bytes = let s = d .manifest in blocksFrom (s .«block_len») (cou
 -- "hands over the slip, and if that is accepted the blocks"; where there is no slip, "the line `slip 0 3`"
 unfoldable pub messages : Device → (flash bundle : List ℕ) → Printed
 messages d flash bundle =
-    elim (nowhere bundle) [
-      | true ↦ messageLine slip‿ 0 3 before stop d flash
-      | false ↦
-          let o = step digest valid d flash (programIn bundle) in
-          messageLine slip‿ 0 (numberOf (o .answer)) before ifAccepted o (blocks (o .device) (o .flash) (beforeProgram bundle))
-    ]
+    cond (nowhere bundle)
+    (slipLine 3 before stop d flash)
+    (let o = step digest valid d flash (programIn bundle) in slipLine (numberOf (o .answer)) before ifAccepted o (blocks (o .device) (o .flash) (beforeProgram bundle)))
 
 -- "last `state`, the stage's name, the accepted blocks"
 unfoldable pub withState : Printed → Printed
 withState p = record { text = p .text ++ stateLine (p .device); device = p .device; flash = p .flash }
 
--- "key.bin (56 key bytes, 4 model bytes)", and "a fresh drive"
+-- the "fresh drive" with the key and the model of key.bin
 unfoldable pub deviceFor : List ℕ → Device
-deviceFor key = freshWith (number (part 56 4 key)) (take 56 key)
+deviceFor key = freshWith (number (part keyLength 4 key)) (take keyLength key)
 
--- the whole output, and the flash then
+-- "A key.bin that has not 60 bytes is noticed first, and `key` is printed alone." "For a file over 65,536 bytes it prints `bundle over` alone."
 unfoldable pub loaded : (key bundle flash : List ℕ) → Printed
 loaded key bundle flash =
     let d = deviceFor key in
-    elim (eqb (length key) 60) [
-      | false ↦ keyAlone before stop d flash
-      | true ↦ elim (ltb 65536 (length bundle)) [ true ↦ bundleOver before stop d flash | false ↦ line bundle‿ (length bundle) before withState (messages d flash bundle) ]
-    ]
+    cond (not (eqb (length key) keyFileLength))
+    (ascii "key\n" before stop d flash)
+    (cond (ltb maxBundle (length bundle))
+    (ascii "bundle over\n" before stop d flash)
+    (bundleLine (length bundle) before withState (messages d flash bundle)))
 
 -- The text goes to the start of a buffer, which must have room for the longest; else nothing is done. `written` is the text's length.
 pub record Loading : Type 0 where
@@ -84,7 +93,6 @@ pub record Loading : Type 0 where
 
 unfoldable pub load : (key bundle flash out : List ℕ) → Loading
 load key bundle flash out =
-    elim (ltb (length out) 65536) [
-      | true ↦ record { written = 0; flash = flash; out = out }
-      | false ↦ let p = loaded key bundle flash in record { written = length (p .text); flash = p .flash; out = paste out 0 (p .text) (length (p .text)) }
-    ]
+    let p = loaded key bundle flash in
+    let n = length (p .text) in
+    cond (ltb (length out) outputRoom) (record { written = 0; flash = flash; out = out }) (record { written = n; flash = p .flash; out = p .text ++ drop n out })

@@ -2,11 +2,18 @@
 use mathlib.Core.Bool.{true, false}
 use mathlib.Core.List.{List, [], _∷_, _++_}
 use Prim.Native.Nat.{ℕ, zero, suc, _+_, _/_, _%_}
+use Prim.Native.Char.{code}
+use Prim.Native.String.{String}
 use lib.Dec.{ltb}
 use Rattle.device.specs.declared.state.Stage.{Stage}
 use Rattle.device.specs.declared.state.Stage.the-variants.{Idle, Loading, Complete}
 use Rattle.device.specs.declared.state.Device.{Device}
 use Rattle.device.specs.Readers.{acceptedBlocks}
+
+-- a text's bytes
+abbrev pub ascii : String → List ℕ
+ascii String.[] = []
+ascii (String._∷_ c s) = code c ∷ ascii s
 
 -- n in base ten, without leading zeros; k, above n, only bounds the recursion
 unfoldable pub decimalWithin : ℕ → ℕ → List ℕ
@@ -16,42 +23,27 @@ decimalWithin (suc k) n = elim (ltb n 10) [ true ↦ (48 + n) ∷ [] | false ↦
 unfoldable pub decimal : ℕ → List ℕ
 decimal n = decimalWithin (suc n) n
 
--- words with the blank that follows them
-abbrev pub bundle‿ : List ℕ
-bundle‿ = 98 ∷ 117 ∷ 110 ∷ 100 ∷ 108 ∷ 101 ∷ 32 ∷ []
-
-abbrev pub slip‿ : List ℕ
-slip‿ = 115 ∷ 108 ∷ 105 ∷ 112 ∷ 32 ∷ []
-
-abbrev pub block‿ : List ℕ
-block‿ = 98 ∷ 108 ∷ 111 ∷ 99 ∷ 107 ∷ 32 ∷ []
-
-abbrev pub stateIdle‿ : List ℕ
-stateIdle‿ = 115 ∷ 116 ∷ 97 ∷ 116 ∷ 101 ∷ 32 ∷ 105 ∷ 100 ∷ 108 ∷ 101 ∷ 32 ∷ []
-
-abbrev pub stateLoading‿ : List ℕ
-stateLoading‿ = 115 ∷ 116 ∷ 97 ∷ 116 ∷ 101 ∷ 32 ∷ 108 ∷ 111 ∷ 97 ∷ 100 ∷ 105 ∷ 110 ∷ 103 ∷ 32 ∷ []
-
-abbrev pub stateComplete‿ : List ℕ
-stateComplete‿ = 115 ∷ 116 ∷ 97 ∷ 116 ∷ 101 ∷ 32 ∷ 99 ∷ 111 ∷ 109 ∷ 112 ∷ 108 ∷ 101 ∷ 116 ∷ 101 ∷ 32 ∷ []
-
--- "`key` is printed alone"; "it prints `bundle over` alone"
-abbrev pub keyAlone : List ℕ
-keyAlone = 107 ∷ 101 ∷ 121 ∷ 10 ∷ []
-
-abbrev pub bundleOver : List ℕ
-bundleOver = 98 ∷ 117 ∷ 110 ∷ 100 ∷ 108 ∷ 101 ∷ 32 ∷ 111 ∷ 118 ∷ 101 ∷ 114 ∷ 10 ∷ []
-
 -- words and a number; words and two numbers
 unfoldable pub line : List ℕ → ℕ → List ℕ
-line words n = words ++ decimal n ++ (10 ∷ [])
+line words n = words ++ decimal n ++ ascii "\n"
 
 unfoldable pub messageLine : List ℕ → ℕ → ℕ → List ℕ
-messageLine words i answer = words ++ decimal i ++ line (32 ∷ []) answer
+messageLine words i answer = words ++ decimal i ++ line (ascii " ") answer
+
+-- "`bundle` and the file's length"
+abbrev pub bundleLine : ℕ → List ℕ
+bundleLine n = line (ascii "bundle ") n
+
+-- "`slip 0` or `block` and the number due, then 0 if accepted or the refusal number"
+abbrev pub slipLine : ℕ → List ℕ
+slipLine answer = messageLine (ascii "slip ") 0 answer
+
+abbrev pub blockLine : (i answer : ℕ) → List ℕ
+blockLine i answer = messageLine (ascii "block ") i answer
 
 -- "last `state`, the stage's name, the accepted blocks"
 unfoldable pub stateWords : Stage → List ℕ
-stateWords t = elim t [ Idle ↦ stateIdle‿ | Loading i ↦ stateLoading‿ | Complete ↦ stateComplete‿ ]
+stateWords t = elim t [ Idle ↦ ascii "state idle " | Loading i ↦ ascii "state loading " | Complete ↦ ascii "state complete " ]
 
 unfoldable pub stateLine : Device → List ℕ
 stateLine d = line (stateWords (d .stage)) (acceptedBlocks d)

@@ -10,12 +10,15 @@ use Rattle.lms.specs.Notation.{strTou32}
 use Rattle.lms.specs.Ots.{Row, table1, Kc}
 use Rattle.lms.specs.Tree.{table2, Tc}
 
+-- the bytes of a public key: tree type (4), one-time signature type (4), I (16), T[1] (32)
+abbrev pub keyLength : ℕ
+keyLength = 56
+
 -- the bytes of a one-time signature: type (4), C (32), y[0] to y[p-1]
 abbrev pub otsBytes : Row → ℕ
 otsBytes t = 4 + 32 * (t .p + 1)
 
--- Algorithms 6 and 6a, for types that the tables have. The key is 56 bytes: tree type (4), one-time signature type (4), I (16), T[1] (32).
--- The signature: q (4), one-time signature, tree type (4), path[0] to path[h-1].
+-- Algorithms 6 and 6a, for types that the tables have. The signature: q (4), one-time signature, tree type (4), path[0] to path[h-1].
 unfoldable pub validAt : (t : Row) (h : ℕ) (key message signature : List ℕ) → Bool
 validAt t h key message signature =
     let I = part 8 16 key in
@@ -30,7 +33,7 @@ validAt t h key message signature =
 -- whether it is valid; not for a key of another length or of types that the tables do not have
 unfoldable pub valid : (key message signature : List ℕ) → Bool
 valid key message signature =
-    eqb (length key) 56
+    eqb (length key) keyLength
     && elim (table1 (strTou32 (part 4 4 key))) [
       | none ↦ false
       | some t ↦ elim (table2 (strTou32 (part 0 4 key))) [ none ↦ false | some h ↦ validAt t h key message signature ]

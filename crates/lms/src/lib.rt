@@ -5,4 +5,5 @@ mod parameters;
 mod tree;
 mod verdict;
 
+pub use verdict::KEY_LEN;
 pub use verdict::verify;

@@ -10,12 +10,15 @@ use octets::u32_at;
 ghost use mathlib.Core.Path.{_≡_};
 ghost use Prim.Native.Nat.{_≤_};
 ghost use lib.ListN.{length};
-ghost use Rattle.lms.specs.Lms.{valid, validAt};
+ghost use Rattle.lms.specs.Lms.{keyLength, valid, validAt};
 ghost use Rattle.lms.specs.Types.{Sound, row};
+
+// The bytes of a public key.
+pub const KEY_LEN: usize = 56;
 
 // The verdict for a key of the types that t and height stand for. A signature is q (4 bytes), a one-time signature, the tree type (4), the path.
 fn verify_at(t: Chains, height: usize, key: &[u8], message: &[u8], signature: &[u8]) -> bool
-    requires { ⌜ Sound (row t) × (height ≤ 25) × (length (now key) ≡ 56) ⌝ }
+    requires { ⌜ Sound (row t) × (height ≤ 25) × (length (now key) ≡ keyLength) ⌝ }
     ensures { λ r. ⌜ r ≡ validAt (row t) height (now (key .entry)) (now (message .entry)) (now (signature .entry)) ⌝ }
 {
     let tree_at = 4 + (4 + 32 * (t.p + 1));
@@ -36,14 +39,14 @@ fn verify_at(t: Chains, height: usize, key: &[u8], message: &[u8], signature: &[
     let id = &key[8..24];
     let one_time_key = ots::candidate(id, q, t, message, &signature[4..tree_at]);
     let top = tree::candidate(id, q, height, &one_time_key, &signature[path_at..]);
-    octets::equal(&top, &key[24..56])
+    octets::equal(&top, &key[24..KEY_LEN])
 }
 
 // Whether the signature over the message is valid under the key. Everything else is unsigned: other lengths and types, a leaf number beyond the tree.
 pub fn verify(key: &[u8], message: &[u8], signature: &[u8]) -> bool
     ensures { λ r. ⌜ r ≡ valid (now (key .entry)) (now (message .entry)) (now (signature .entry)) ⌝ }
 {
-    if key.len() != 56 {
+    if key.len() != KEY_LEN {
         return false;
     }
     let OtsType::Known(t) = ots_type(u32_at(key, 4)) else {

@@ -2,6 +2,9 @@
 use libc::STDOUT_FILENO;
 ghost use Rattle.io.specs.Counts.{Counts};
 
+// The flash that the loader lends to a fresh device.
+const FLASH_LEN: usize = 65536;
+
 // Puts the file at the start of `buffer`, and answers how many bytes: of a longer file, as many as fit.
 fn read_file(path: &[u8], buffer: &mut [u8]) -> usize
     ensures { λ r. ⌜ Counts r (now (buffer .exit)) ⌝ }
@@ -17,9 +20,9 @@ fn read_file(path: &[u8], buffer: &mut [u8]) -> usize
 
 fn main() {
     // One byte more than a file may have shows that it is too long.
-    let mut key = [0u8; 61];
+    let mut key = [0u8; bundle::KEY_FILE_LEN + 1];
     let mut bundle = [0u8; bundle::BUNDLE_LEN + 1];
-    let mut flash = [0u8; bundle::BUNDLE_LEN];
+    let mut flash = [0u8; FLASH_LEN];
     let mut out = [0u8; bundle::OUT_LEN];
     let key_len = read_file(b"key.bin", &mut key);
     let bundle_len = read_file(b"bundle.bin", &mut bundle);

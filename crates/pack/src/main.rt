@@ -9,14 +9,16 @@ use files::Found;
 use libc::STDERR_FILENO;
 use libc::STDOUT_FILENO;
 ghost use mathlib.Core.Path.{_≡_};
+ghost use Prim.Native.Nat.{_*_};
 ghost use lib.ListN.{length};
+ghost use Rattle.merkle.specs.Limits.{maxBlocks};
 
-// The longest image: 4,096 blocks of 1,024 bytes.
-const IMAGE_LEN: usize = 4194304;
+// The longest image: the most blocks, each of 1,024 bytes.
+const IMAGE_LEN: usize = merkle::MAX_BLOCKS * 1024;
 
 // Zeros. The contract says all that a caller needs, so that no proof counts them one by one.
 fn image_buffer() -> [u8; IMAGE_LEN]
-    ensures { λ r. ⌜ 4194304 ≡ length r ⌝ }
+    ensures { λ r. ⌜ maxBlocks * 1024 ≡ length r ⌝ }
 {
     [0u8; IMAGE_LEN]
 }

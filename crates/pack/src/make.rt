@@ -15,16 +15,25 @@ pub struct Made {
     pub done: bool,
 }
 
+// Tells that something passes a limit.
+fn tell(before: &[u8], limit: usize, after: &[u8]) {
+    io::write_all(STDERR_FILENO, before);
+    io::print_decimal(STDERR_FILENO, limit as u64);
+    io::write_all(STDERR_FILENO, after);
+}
+
 fn refuse(refusal: Refusal) {
     if let Refusal::Size = refusal {
-        io::write_all(
-            STDERR_FILENO,
-            b"size: BLOCK must be 64, 128, 256, 512 or 1024, and image.bin 1 to 4096 blocks long\n",
+        tell(
+            b"size: BLOCK must be 64, 128, 256, 512 or 1024, and image.bin 1 to ",
+            merkle::MAX_BLOCKS,
+            b" blocks long\n",
         );
     } else {
-        io::write_all(
-            STDERR_FILENO,
-            b"area: the bundle would have over 65536 bytes\n",
+        tell(
+            b"area: the bundle would have over ",
+            bundle::BUNDLE_LEN,
+            b" bytes\n",
         );
     }
 }

@@ -3,7 +3,7 @@ use native.Mathlib.Omega.{arith}
 use lib.ListN.{length}
 use Rattle.device.specs.declared.state.Device.{Device}
 use Rattle.device.specs.Device.{freshWith}
-use Rattle.bundle.specs.Text.{bundle‿}
+use Rattle.bundle.specs.Text.{ascii}
 use Rattle.bundle.proofs.TextLaws.{line-short}
 use Rattle.bundle.proofs.WrittenLaws.{length-kept}
 use Rattle.bundle.proofs.LoadLaws.{device-is, first-line, load-short, load-key, load-over, load-all}
@@ -51,7 +51,7 @@ slice-aggregate-put-line : tie.Need-slice-aggregate-put-line
 slice-aggregate-put-line c = search needs
 
 put-line-requires : tie.Need-put-line-requires
-put-line-requires c κs = let s = c .before .before .before .before .before .before .before .before .before .before .before .before in omega (arith, line-short bundle‿ (length (s .args .bundle .now)) (omega arith))
+put-line-requires c κs = let s = c .before .before .before .before .before .before .before .before .before .before .before .before in omega (arith, line-short (ascii "bundle ") (length (s .args .bundle .now)) (omega arith))
 
 messages-requires : tie.Need-messages-requires
 unfolding freshWith

@@ -1,7 +1,7 @@
 use mathlib.Core.Path.{sym, _∙_}
 use native.Mathlib.Omega.{arith}
 use lib.Seq.{length-take-le}
-use Rattle.bundle.specs.Text.{slip‿}
+use Rattle.bundle.specs.Text.{ascii}
 use Rattle.bundle.proofs.TextLaws.{message-short}
 use Rattle.bundle.proofs.WrittenLaws.{room}
 use Rattle.bundle.proofs.PartLaws.{Somewhere, nothing, found}
@@ -27,7 +27,7 @@ slice-aggregate-put-message : tie.Need-slice-aggregate-put-message
 slice-aggregate-put-message c = search needs
 
 put-message-requires : tie.Need-put-message-requires
-put-message-requires c κs = omega (arith, c .before .before .before .before .before .before .before .before .pre .1, message-short slip‿ 0 3 (omega arith) (omega arith))
+put-message-requires c κs = omega (arith, c .before .before .before .before .before .before .before .before .pre .1, message-short (ascii "slip ") 0 3 (omega arith) (omega arith))
 
 same-length : tie.Need-same-length
 same-length c = search needs
@@ -36,7 +36,7 @@ returns : tie.Need-returns
 returns c =
     let s = c .before .before .before .before .before .before .before .before .before .before .before in
     let w = c .before .before .put-message .ensures in
-    (ran-nowhere _ _ _ (nothing _ (sym (c .before .before .before .before .before .before .before .start-of .ensures) ∙ c .before .before .before .before .before .enum-told .given .1)) w, omega (arith, w .end, message-short slip‿ 0 3 (omega arith) (omega arith)))
+    (ran-nowhere _ _ _ (nothing _ (sym (c .before .before .before .before .before .before .before .start-of .ensures) ∙ c .before .before .before .before .before .enum-told .given .1)) w, omega (arith, w .end, message-short (ascii "slip ") 0 3 (omega arith) (omega arith)))
 
 sub-end : tie.Need-sub-end
 sub-end c = there (c .before) .long
@@ -60,7 +60,7 @@ answer-number-requires : tie.Need-answer-number-requires
 answer-number-requires c κs = search needs
 
 put-message-requires-2 : tie.Need-put-message-requires-2
-put-message-requires-2 c κs = omega (arith, c .before .before .before .before .before .before .before .before .before .before .before .before .before .before .before .before .pre .1, message-short slip‿ 0 (c .answer-number .result) (omega arith) (omega arith))
+put-message-requires-2 c κs = omega (arith, c .before .before .before .before .before .before .before .before .before .before .before .before .before .before .before .before .pre .1, message-short (ascii "slip ") 0 (c .answer-number .result) (omega arith) (omega arith))
 
 enum-told-2 : tie.Need-enum-told-2
 enum-told-2 c = search needs
@@ -79,7 +79,7 @@ returns-2 c =
     let n = c .before .before .before .before .before .answer-number in
     let w = c .before .before .before .before .put-message2 .ensures in (
       ran-refused _ _ _ _ (there (c .before .before .before .before .before .before .before .before .before .before .before .before .before .before .before)) _ (c .before .before .before .before .before .before .before .before .before .before .before .receive .ensures) _ (n .ensures) w _ (c .enum-told3 .given .1),
-      omega (arith, w .end, message-short slip‿ 0 (n .result) (omega arith) (omega arith)),
+      omega (arith, w .end, message-short (ascii "slip ") 0 (n .result) (omega arith) (omega arith)),
     )
 
 slice-aggregate-blocks : tie.Need-slice-aggregate-blocks
@@ -90,7 +90,7 @@ blocks-requires c κs =
     let s = c .before .before .before .before .before .before .before .before .before .before .before .before .before .before .before .before .before .before .before .before .before .before .before .before in
     let n = c .before .before .before .before .before .before .before .before .answer-number in
     let w = c .before .before .before .before .before .before .before .put-message2 .ensures in
-    let m = message-short slip‿ 0 (n .result) (omega arith) (omega arith) in
+    let m = message-short (ascii "slip ") 0 (n .result) (omega arith) (omega arith) in
     (accepted-size _ _ _ (s .pre .0) _ (c .before .before .before .before .before .before .before .before .before .before .before .before .before .before .receive .ensures) (c .before .before .before .enum-told2 .given .1), room w _ (omega (arith, s .pre .1)))
 
 same-length-4 : tie.Need-same-length-4
@@ -105,7 +105,7 @@ returns-3 c =
     let n = c .before .before .before .before .before .before .before .before .before .before .before .before .before .answer-number in
     let w = c .before .before .before .before .before .before .before .before .before .before .before .before .put-message2 .ensures in
     let r = c .before .before .before .before .blocks2 .ensures in
-    let m = message-short slip‿ 0 (n .result) (omega arith) (omega arith) in (
+    let m = message-short (ascii "slip ") 0 (n .result) (omega arith) (omega arith) in (
       ran-on _ _ _ _ (there (c .before .before .before .before .before .before .before .before .before .before .before .before .before .before .before .before .before .before .before .before .before .before .before)) _ (c .before .before .before .before .before .before .before .before .before .before .before .before .before .before .before .before .before .before .before .receive .ensures) _ (n .ensures) w (c .before .before .before .before .before .before .before .before .enum-told2 .given .1) (r .0) (omega (arith, s .pre .1, r .0 .written .end, r .1, w .end)),
       omega (arith, r .1, w .end),
     )

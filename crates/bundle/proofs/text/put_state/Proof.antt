@@ -1,5 +1,5 @@
 use native.Mathlib.Omega.{arith}
-use Rattle.bundle.specs.Text.{stateIdle‿, stateLoading‿, stateComplete‿, stateWords}
+use Rattle.bundle.specs.Text.{ascii, stateWords}
 use Rattle.bundle.proofs.TextLaws.{line-short, state-is}
 use Rattle.bundle.proofs.WrittenLaws.{retold}
 use borrow.Author.Needs.{needs}
@@ -19,7 +19,7 @@ put-line-requires : tie.Need-put-line-requires
 put-line-requires c κs =
     let a = c .before .before .before .before in
     let s = a .before .before in
-    omega (arith, s .pre, line-short stateIdle‿ (a .accepted-blocks .result) (omega arith))
+    omega (arith, s .pre, line-short (ascii "state idle ") (a .accepted-blocks .result) (omega arith))
 
 enum-told-2 : tie.Need-enum-told-2
 enum-told-2 c = search needs
@@ -31,7 +31,7 @@ put-line-requires-2 : tie.Need-put-line-requires-2
 put-line-requires-2 c κs =
     let a = c .before .before .before .before in
     let s = a .before .before in
-    omega (arith, s .pre, line-short stateLoading‿ (a .accepted-blocks .result) (omega arith))
+    omega (arith, s .pre, line-short (ascii "state loading ") (a .accepted-blocks .result) (omega arith))
 
 enum-told-3 : tie.Need-enum-told-3
 enum-told-3 c = search needs
@@ -43,7 +43,7 @@ put-line-requires-3 : tie.Need-put-line-requires-3
 put-line-requires-3 c κs =
     let a = c .before .before .before .before in
     let s = a .before .before in
-    omega (arith, s .pre, line-short stateComplete‿ (a .accepted-blocks .result) (omega arith))
+    omega (arith, s .pre, line-short (ascii "state complete ") (a .accepted-blocks .result) (omega arith))
 
 same-length : tie.Need-same-length
 same-length c = search needs
@@ -53,7 +53,7 @@ unfolding stateWords
 returns c =
     let a = c .before .before .before .before .before .before .before in
     let w = c .before .before .put-line .ensures in
-    (retold w (state-is (a .before .before .args .device) (c .before .before .before .before .before .enum-told .given .1) (a .accepted-blocks .ensures)), omega (arith, w .end, line-short stateIdle‿ (a .accepted-blocks .result) (omega arith)))
+    (retold w (state-is (a .before .before .args .device) (c .before .before .before .before .before .enum-told .given .1) (a .accepted-blocks .ensures)), omega (arith, w .end, line-short (ascii "state idle ") (a .accepted-blocks .result) (omega arith)))
 
 same-length-2 : tie.Need-same-length-2
 same-length-2 c = search needs
@@ -63,7 +63,7 @@ unfolding stateWords
 returns-2 c =
     let a = c .before .before .before .before .before .before .before in
     let w = c .before .before .put-line2 .ensures in
-    (retold w (state-is (a .before .before .args .device) (c .before .before .before .before .before .enum-told2 .given .1) (a .accepted-blocks .ensures)), omega (arith, w .end, line-short stateLoading‿ (a .accepted-blocks .result) (omega arith)))
+    (retold w (state-is (a .before .before .args .device) (c .before .before .before .before .before .enum-told2 .given .1) (a .accepted-blocks .ensures)), omega (arith, w .end, line-short (ascii "state loading ") (a .accepted-blocks .result) (omega arith)))
 
 same-length-3 : tie.Need-same-length-3
 same-length-3 c = search needs
@@ -73,7 +73,7 @@ unfolding stateWords
 returns-3 c =
     let a = c .before .before .before .before .before .before .before in
     let w = c .before .before .put-line3 .ensures in
-    (retold w (state-is (a .before .before .args .device) (c .before .before .before .before .before .enum-told3 .given .1) (a .accepted-blocks .ensures)), omega (arith, w .end, line-short stateComplete‿ (a .accepted-blocks .result) (omega arith)))
+    (retold w (state-is (a .before .before .args .device) (c .before .before .before .before .before .enum-told3 .given .1) (a .accepted-blocks .ensures)), omega (arith, w .end, line-short (ascii "state complete ") (a .accepted-blocks .result) (omega arith)))
 
 pub put-state-spec : {M : Type 1} → statement M
 put-state-spec =
