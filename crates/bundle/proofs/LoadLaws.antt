@@ -9,8 +9,8 @@ use borrow.Author.Tests.{lt-ltb, le-ltb, eq-eqb, ne-eqb}
 use Rattle.octets.specs.Octets.{number, part}
 use Rattle.octets.proofs.CopyLaws.{paste-front}
 use Rattle.lms.specs.Lms.{keyLength}
-use Rattle.device.specs.declared.state.Device.{Device}
-use Rattle.device.specs.Device.{freshWith}
+use Rattle.machine.specs.declared.state.Device.{Device}
+use Rattle.machine.specs.Device.{freshWith}
 use Rattle.bundle.specs.Text.{ascii, bundleLine, stateLine}
 use Rattle.bundle.specs.Load.{keyFileLength, maxBundle, outputRoom, Printed, _before_, stop, messages, withState, deviceFor, loaded, Loading, load}
 use Rattle.bundle.specs.Steps.{Written, Ran, Counts}

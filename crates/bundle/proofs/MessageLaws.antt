@@ -17,14 +17,14 @@ use Rattle.wire.specs.declared.refusal.Refusal.{Refusal}
 use Rattle.wire.specs.Message.{kind}
 use Rattle.wire.specs.Size.{wrongSize}
 use Rattle.wire.proofs.SizeLaws.{Sized, wrong-count}
-use Rattle.device.specs.declared.state.Stage.the-variants.{Idle}
-use Rattle.device.specs.declared.state.Device.{Device}
-use Rattle.device.specs.declared.state.Answer.the-variants.{Accepted, Refused}
-use Rattle.device.specs.Device.{Outcome}
-use Rattle.device.specs.Refusals.{badSize, notLoading, notComplete}
-use Rattle.device.specs.Step.{acceptProgram, accept, outcome, refusalOf, step}
-use Rattle.device.specs.Readers.{numberOf}
-use Rattle.device.proofs.RefusalLaws.{program-passed, block-passed, update-passed, unknown-refused}
+use Rattle.machine.specs.declared.state.Stage.the-variants.{Idle}
+use Rattle.machine.specs.declared.state.Device.{Device}
+use Rattle.machine.specs.declared.state.Answer.the-variants.{Accepted, Refused}
+use Rattle.machine.specs.Device.{Outcome}
+use Rattle.machine.specs.Refusals.{badSize, notLoading, notComplete}
+use Rattle.machine.specs.Step.{acceptProgram, accept, outcome, refusalOf, step}
+use Rattle.machine.specs.Readers.{numberOf}
+use Rattle.machine.proofs.RefusalLaws.{program-passed, block-passed, update-passed, unknown-refused}
 use Rattle.bundle.specs.Text.{slipLine}
 use Rattle.bundle.specs.Parts.{nowhere, programIn, beforeProgram}
 use Rattle.bundle.specs.Load.{Printed, _before_, stop, ifAccepted, blocks, messages}

@@ -13,12 +13,12 @@ use Rattle.lms.specs.Lms.{valid}
 use Rattle.wire.specs.declared.manifest.Manifest.{Manifest}
 use Rattle.wire.proofs.SizeLaws.{sized}
 use Rattle.wire.specs.declared.refusal.Refusal.{Refusal}
-use Rattle.device.specs.declared.state.Device.{Device}
-use Rattle.device.specs.declared.state.Answer.the-variants.{Accepted, Refused}
-use Rattle.device.specs.Device.{countOf, Outcome}
-use Rattle.device.specs.Refusals.{badSize}
-use Rattle.device.specs.Step.{step}
-use Rattle.device.specs.Readers.{numberOf}
+use Rattle.machine.specs.declared.state.Device.{Device}
+use Rattle.machine.specs.declared.state.Answer.the-variants.{Accepted, Refused}
+use Rattle.machine.specs.Device.{countOf, Outcome}
+use Rattle.machine.specs.Refusals.{badSize}
+use Rattle.machine.specs.Step.{step}
+use Rattle.machine.specs.Readers.{numberOf}
 use Rattle.bundle.specs.Text.{ascii, blockLine}
 use Rattle.bundle.specs.Load.{Printed, _before_, stop, ifAccepted, blocksFrom, blocks}
 use Rattle.bundle.specs.Steps.{Cut, Written, Ran}

@@ -7,10 +7,10 @@ use lib.ListN.{length}
 use Rattle.octets.specs.Octets.{number}
 use Rattle.wire.specs.Refusal.{firstThatApplies}
 use Rattle.wire.specs.Message.{kind}
-use Rattle.device.specs.Device.{freshWith}
-use Rattle.device.specs.Refusals.{senseless, noKind, always, refusals}
-use Rattle.device.specs.Step.{outcome, refusalOf, step}
-use Rattle.device.specs.Readers.{acceptedBlocks}
+use Rattle.machine.specs.Device.{freshWith}
+use Rattle.machine.specs.Refusals.{senseless, noKind, always, refusals}
+use Rattle.machine.specs.Step.{outcome, refusalOf, step}
+use Rattle.machine.specs.Readers.{acceptedBlocks}
 use Rattle.bundle.specs.Text.{ascii, decimalWithin, decimal, line, messageLine, stateWords, stateLine}
 use Rattle.bundle.specs.Parts.{trailerAt, distance, nowhere, programAt, programIn, beforeProgram}
 use Rattle.bundle.specs.Load.{keyFileLength, Printed, _before_, ifAccepted, messages, withState, deviceFor, loaded}

@@ -8,9 +8,9 @@ use native.Mathlib.Omega.{arith}
 use lib.ListN.{length, length-append}
 use borrow.Author.Tests.{lt-ltb, le-ltb}
 use Rattle.merkle.proofs.ShapeLaws.{lt-or-le}
-use Rattle.device.specs.declared.state.Stage.{Stage}
-use Rattle.device.specs.declared.state.Device.{Device}
-use Rattle.device.specs.Readers.{acceptedBlocks}
+use Rattle.machine.specs.declared.state.Stage.{Stage}
+use Rattle.machine.specs.declared.state.Device.{Device}
+use Rattle.machine.specs.Readers.{acceptedBlocks}
 use Rattle.bundle.specs.Text.{decimalWithin, decimal, line, messageLine, stateWords, stateLine}
 
 within-small : (k n : ℕ) → n < 10 → decimalWithin (suc k) n ≡ (48 + n) ∷ []

@@ -23,16 +23,16 @@ use Rattle.wire.specs.Manifest.{written}
 use Rattle.wire.specs.Message.{kind}
 use Rattle.wire.proofs.MessageLaws.{OfProgram}
 use Rattle.sender.specs.Job.{Job, count, manifestFor, programFor, blockFor}
-use Rattle.device.specs.declared.state.Device.{Device}
-use Rattle.device.specs.declared.state.Answer.the-variants.{Accepted}
-use Rattle.device.specs.Device.{countOf, Fresh, freshWith, Situation}
-use Rattle.device.specs.Step.{accept, outcome, refusalOf, step}
-use Rattle.device.specs.Readers.{acceptedBlocks}
-use Rattle.device.specs.Demand3.{Sendable}
-use Rattle.device.proofs.RefusalLaws.{program-passed}
-use Rattle.device.proofs.SentLaws.{root-long, block-sent}
-use Rattle.device.proofs.HonestLaws.{Here, next-accepted, next-here, first-here, is-complete, flash-is}
-use Rattle.device.proofs.Reached.{is-program, program-accepted}
+use Rattle.machine.specs.declared.state.Device.{Device}
+use Rattle.machine.specs.declared.state.Answer.the-variants.{Accepted}
+use Rattle.machine.specs.Device.{countOf, Fresh, freshWith, Situation}
+use Rattle.machine.specs.Step.{accept, outcome, refusalOf, step}
+use Rattle.machine.specs.Readers.{acceptedBlocks}
+use Rattle.guarantee.specs.Demand3.{Sendable}
+use Rattle.machine.proofs.RefusalLaws.{program-passed}
+use Rattle.guarantee.proofs.SentLaws.{root-long, block-sent}
+use Rattle.guarantee.proofs.HonestLaws.{Here, next-accepted, next-here, first-here, is-complete, flash-is}
+use Rattle.guarantee.proofs.Reached.{is-program, program-accepted}
 use Rattle.bundle.specs.Text.{ascii, bundleLine, slipLine, blockLine, line, stateWords, stateLine}
 use Rattle.bundle.specs.Parts.{trailerAt, distance, nowhere, programAt, programIn, beforeProgram}
 use Rattle.bundle.specs.Load.{keyFileLength, maxBundle, Printed, _before_, ifAccepted, blocksFrom, blocks, messages, withState, deviceFor, loaded}

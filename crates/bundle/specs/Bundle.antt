@@ -8,7 +8,7 @@ use Rattle.sha256.specs.Sha256.{digest}
 use Rattle.wire.specs.Image.{filled}
 use Rattle.sender.specs.Job.{Job, count, manifestFor, programFor, blockFor}
 use Rattle.sender.specs.Send.{Result, unnumbered}
-use Rattle.device.specs.declared.state.Stage.the-variants.{Complete}
+use Rattle.machine.specs.declared.state.Stage.the-variants.{Complete}
 use Rattle.bundle.specs.Text.{ascii, line, bundleLine, slipLine, blockLine}
 use Rattle.bundle.specs.Load.{Printed}
 

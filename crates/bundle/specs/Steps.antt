@@ -5,7 +5,7 @@ use mathlib.Core.List.{List}
 use Prim.Native.Nat.{ℕ, _+_, _-_, _≤_}
 use lib.ListN.{length, take, drop}
 use lib.Seq.{paste}
-use Rattle.device.specs.declared.state.Device.{Device}
+use Rattle.machine.specs.declared.state.Device.{Device}
 use Rattle.bundle.specs.declared.parts.Start.{Start}
 use Rattle.bundle.specs.declared.parts.Start.the-variants.{At, Nowhere}
 use Rattle.bundle.specs.Parts.{nowhere, programAt}

@@ -5,10 +5,10 @@ use Prim.Native.Nat.{ℕ, zero, suc, _+_, _/_, _%_}
 use Prim.Native.Char.{code}
 use Prim.Native.String.{String}
 use lib.Dec.{ltb}
-use Rattle.device.specs.declared.state.Stage.{Stage}
-use Rattle.device.specs.declared.state.Stage.the-variants.{Idle, Loading, Complete}
-use Rattle.device.specs.declared.state.Device.{Device}
-use Rattle.device.specs.Readers.{acceptedBlocks}
+use Rattle.machine.specs.declared.state.Stage.{Stage}
+use Rattle.machine.specs.declared.state.Stage.the-variants.{Idle, Loading, Complete}
+use Rattle.machine.specs.declared.state.Device.{Device}
+use Rattle.machine.specs.Readers.{acceptedBlocks}
 
 -- a text's bytes
 abbrev pub ascii : String → List ℕ

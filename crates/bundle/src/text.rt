@@ -1,6 +1,6 @@
 // The lines of the output, written into a buffer one behind the other. Each function answers the index behind what it wrote.
-use device::Device;
-use device::Stage;
+use machine::Device;
+use machine::Stage;
 ghost use Prim.Native.Nat.{_+_, _≤_};
 ghost use lib.ListN.{length};
 ghost use Rattle.bundle.specs.Text.{decimal, line, messageLine, stateLine};

@@ -13,13 +13,13 @@ use Rattle.sha256.specs.Sha256.{digest}
 use Rattle.lms.specs.Lms.{valid}
 use Rattle.sender.specs.declared.send.Sent.{Sent}
 use Rattle.sender.specs.Send.{Result, Does}
-use Rattle.device.specs.declared.state.Stage.{Stage}
-use Rattle.device.specs.declared.state.Device.{Device}
-use Rattle.device.specs.declared.state.Answer.the-variants.{Accepted, Refused}
+use Rattle.machine.specs.declared.state.Stage.{Stage}
+use Rattle.machine.specs.declared.state.Device.{Device}
+use Rattle.machine.specs.declared.state.Answer.the-variants.{Accepted, Refused}
 use Rattle.wire.specs.declared.refusal.Refusal.{Refusal}
-use Rattle.device.specs.Device.{Outcome}
-use Rattle.device.specs.Readers.{numberOf}
-use Rattle.device.specs.Step.{step}
+use Rattle.machine.specs.Device.{Outcome}
+use Rattle.machine.specs.Readers.{numberOf}
+use Rattle.machine.specs.Step.{step}
 use Rattle.capi.specs.declared.state.Found.{Found}
 use Rattle.capi.specs.declared.state.Found.the-variants.{At, Nothing}
 use Rattle.capi.specs.Found.{found}

@@ -22,14 +22,14 @@ use Rattle.wire.specs.declared.refusal.Refusal.{Refusal}
 use Rattle.wire.specs.Message.{kind, manifestBytes, manifestIn, hashesAfter}
 use Rattle.wire.proofs.SizeLaws.{sized, inside, or-false}
 use Rattle.wire.proofs.ManifestLaws as manifest
-use Rattle.device.specs.declared.state.Stage.{Stage}
-use Rattle.device.specs.declared.state.Stage.the-variants.{Idle, Loading, Complete}
-use Rattle.device.specs.declared.state.Device.{Device}
-use Rattle.device.specs.Device.{countOf, freshWith, Situation}
-use Rattle.device.specs.Refusals.{wrongVersion, badSize, senseless, notLoading, nextOf}
-use Rattle.device.specs.Step.{acceptProgram, stageAfter, acceptBlock, acceptUpdate, accept, outcome, refusalOf, step}
-use Rattle.device.specs.Run.{Messages, empty, _▷_, after}
-use Rattle.device.proofs.RefusalLaws.{BlockPassed, program-passed, block-passed, update-passed}
+use Rattle.machine.specs.declared.state.Stage.{Stage}
+use Rattle.machine.specs.declared.state.Stage.the-variants.{Idle, Loading, Complete}
+use Rattle.machine.specs.declared.state.Device.{Device}
+use Rattle.machine.specs.Device.{countOf, freshWith, Situation}
+use Rattle.machine.specs.Refusals.{wrongVersion, badSize, senseless, notLoading, nextOf}
+use Rattle.machine.specs.Step.{acceptProgram, stageAfter, acceptBlock, acceptUpdate, accept, outcome, refusalOf, step}
+use Rattle.guarantee.specs.Run.{Messages, empty, _▷_, after}
+use Rattle.machine.proofs.RefusalLaws.{BlockPassed, program-passed, block-passed, update-passed}
 use Rattle.capi.specs.State.{encode}
 use Rattle.capi.specs.Call.{called, stateAfter, receive}
 use Rattle.capi.specs.Run.{Memory, left, callsAfter, AllBytes}

@@ -12,10 +12,10 @@ use Rattle.octets.proofs.SixLaws as six
 use Rattle.octets.proofs.NumberLaws.{length-bytes, number-back}
 use Rattle.wire.specs.Manifest.{written, read}
 use Rattle.wire.proofs.ManifestLaws as manifest
-use Rattle.device.specs.declared.state.Stage.{Stage}
-use Rattle.device.specs.declared.state.Stage.the-variants.{Idle, Loading, Complete}
-use Rattle.device.specs.declared.state.Device.{Device}
-use Rattle.device.specs.Refusals.{nextOf}
+use Rattle.machine.specs.declared.state.Stage.{Stage}
+use Rattle.machine.specs.declared.state.Stage.the-variants.{Idle, Loading, Complete}
+use Rattle.machine.specs.declared.state.Device.{Device}
+use Rattle.machine.specs.Refusals.{nextOf}
 use Rattle.capi.specs.State.{stateLength, stageNumber, encode, stageFrom, stageIn, deviceIn, decode}
 
 -- the fields fit their bytes

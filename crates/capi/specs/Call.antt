@@ -11,12 +11,12 @@ use Rattle.wire.specs.Refusal.{number}
 use Rattle.sender.specs.declared.send.Sent.{Sent}
 use Rattle.sender.specs.declared.send.Sent.the-variants as sent
 use Rattle.sender.specs.Send.{Result}
-use Rattle.device.specs.declared.state.Device.{Device}
-use Rattle.device.specs.declared.state.Answer.{Answer}
-use Rattle.device.specs.declared.state.Answer.the-variants.{Accepted, Refused}
-use Rattle.device.specs.Readers.{numberOf}
-use Rattle.device.specs.Device as device
-use Rattle.device.specs.Step.{step}
+use Rattle.machine.specs.declared.state.Device.{Device}
+use Rattle.machine.specs.declared.state.Answer.{Answer}
+use Rattle.machine.specs.declared.state.Answer.the-variants.{Accepted, Refused}
+use Rattle.machine.specs.Readers.{numberOf}
+use Rattle.machine.specs.Device as device
+use Rattle.machine.specs.Step.{step}
 use Rattle.capi.specs.State.{encode, decode}
 
 -- a verdict: 0 where the signature is valid, else 9

@@ -1,6 +1,6 @@
 -- What the code finds in bytes that may encode a state, as its own type says it.
 use mathlib.Core.Option.{Option, none, some}
-use Rattle.device.specs.declared.state.Stage.{Stage}
+use Rattle.machine.specs.declared.state.Stage.{Stage}
 use Rattle.capi.specs.declared.state.Found.{Found}
 use Rattle.capi.specs.declared.state.Found.the-variants.{At, Nothing}
 

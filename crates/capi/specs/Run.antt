@@ -2,7 +2,7 @@
 use mathlib.Core.List.{List}
 use Prim.Native.Nat.{ℕ}
 use Rattle.octets.specs.Octets.{Bytes}
-use Rattle.device.specs.Run.{Messages, empty, _▷_}
+use Rattle.guarantee.specs.Run.{Messages, empty, _▷_}
 use Rattle.capi.specs.Call.{Called, receive}
 
 -- what the caller's memory holds after a list of calls

@@ -8,10 +8,10 @@ use lib.ListN.{length}
 use Rattle.octets.specs.Octets.{bytes, number, part}
 use Rattle.merkle.specs.Limits.{heldBytes}
 use Rattle.wire.specs.Manifest.{written, read}
-use Rattle.device.specs.declared.state.Stage.{Stage}
-use Rattle.device.specs.declared.state.Stage.the-variants.{Idle, Loading, Complete}
-use Rattle.device.specs.declared.state.Device.{Device}
-use Rattle.device.specs.Refusals.{nextOf}
+use Rattle.machine.specs.declared.state.Stage.{Stage}
+use Rattle.machine.specs.declared.state.Stage.the-variants.{Idle, Loading, Complete}
+use Rattle.machine.specs.declared.state.Device.{Device}
+use Rattle.machine.specs.Refusals.{nextOf}
 
 abbrev pub stateLength : ℕ
 stateLength = 112 + heldBytes

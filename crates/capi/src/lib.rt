@@ -2,7 +2,7 @@
 // returns 0 or the number of a refusal; what it writes through a pointer is as before where it refuses.
 mod state;
 
-use device::Answer;
+use machine::Answer;
 use sender::Sent;
 use state::Found;
 use state::STATE_LEN;
@@ -11,7 +11,7 @@ ghost use Rattle.sha256.specs.Sha256.{digest};
 ghost use Rattle.lms.specs.Lms.{valid};
 ghost use Rattle.sender.specs.Job.{job};
 ghost use Rattle.sender.specs.Send.{sendManifest, sendProgram, sendBlock, sendUpdate};
-ghost use Rattle.device.specs.Device.{freshWith};
+ghost use Rattle.machine.specs.Device.{freshWith};
 ghost use Rattle.capi.specs.State.{encode};
 ghost use Rattle.capi.specs.Call.{verdict, sentNumber, sentLength, Sends, receive};
 

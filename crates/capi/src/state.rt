@@ -1,6 +1,6 @@
 // A device's state as bytes at fixed offsets.
-use device::Device;
-use device::Stage;
+use machine::Device;
+use machine::Stage;
 ghost use mathlib.Core.Path.{_≡_};
 ghost use lib.ListN.{length};
 ghost use Rattle.capi.specs.State.{encode, deviceIn, stageIn, stageNumber, stateLength};

@@ -17,17 +17,17 @@ use Rattle.wire.specs.declared.refusal.Refusal.{Refusal}
 use Rattle.wire.specs.Refusal.{firstThatApplies}
 use Rattle.wire.specs.Message.{kind, manifestIn, updateNumber, updateBlock}
 use Rattle.wire.proofs.SizeLaws.{inside}
-use Rattle.device.specs.declared.state.Stage.{Stage}
-use Rattle.device.specs.declared.state.Stage.the-variants.{Loading, Complete}
-use Rattle.device.specs.declared.state.Device.{Device}
-use Rattle.device.specs.declared.state.Answer.{Answer}
-use Rattle.device.specs.declared.state.Answer.the-variants.{Accepted, Refused}
-use Rattle.device.specs.Device.{countOf, Situation}
-use Rattle.device.specs.Refusals.{ofManifest, short, leastLength, nextOf, tooSmall, wrongLength, withBlock, updated, always, ofBlock, ofUpdate, ofKind, refusals}
-use Rattle.device.specs.Step.{acceptProgram, acceptBlock, acceptUpdate, stageAfter, accept, outcome, refusalOf, step}
-use Rattle.device.specs.Answers.{answerOf}
+use Rattle.machine.specs.declared.state.Stage.{Stage}
+use Rattle.machine.specs.declared.state.Stage.the-variants.{Loading, Complete}
+use Rattle.machine.specs.declared.state.Device.{Device}
+use Rattle.machine.specs.declared.state.Answer.{Answer}
+use Rattle.machine.specs.declared.state.Answer.the-variants.{Accepted, Refused}
+use Rattle.machine.specs.Device.{countOf, Situation}
+use Rattle.machine.specs.Refusals.{ofManifest, short, leastLength, nextOf, tooSmall, wrongLength, withBlock, updated, always, ofBlock, ofUpdate, ofKind, refusals}
+use Rattle.machine.specs.Step.{acceptProgram, acceptBlock, acceptUpdate, stageAfter, accept, outcome, refusalOf, step}
+use Rattle.machine.specs.Answers.{answerOf}
 use Rattle.device.proofs.ConditionLaws.{before-is, room, slice-rest, slice-block}
-use Rattle.device.proofs.RefusalLaws.{NoneApplies}
+use Rattle.machine.proofs.RefusalLaws.{NoneApplies}
 use Rattle.device.proofs.JudgeLaws.{pass, cascade, Awaits, awaits}
 
 module _ (d : Device) (flash m : List ℕ) where

@@ -23,9 +23,9 @@ use Rattle.merkle.proofs.TreeLaws.{hash-written}
 use Rattle.wire.specs.declared.manifest.Manifest.{Manifest}
 use Rattle.wire.specs.Message.{blockIn, hashesAfter}
 use Rattle.wire.proofs.SizeLaws.{sized}
-use Rattle.device.specs.declared.state.Device.{Device}
-use Rattle.device.specs.Device.{countOf}
-use Rattle.device.specs.Refusals.{badSize, tooSmall, wrongLength, withBlock, mismatch, treeOver, lacksRoot}
+use Rattle.machine.specs.declared.state.Device.{Device}
+use Rattle.machine.specs.Device.{countOf}
+use Rattle.machine.specs.Refusals.{badSize, tooSmall, wrongLength, withBlock, mismatch, treeOver, lacksRoot}
 
 -- all that refusal 5 leaves of a manifest
 pub record Sound (s : Manifest) : Type 0 where

@@ -16,15 +16,15 @@ use Rattle.wire.specs.Refusal.{firstThatApplies}
 use Rattle.wire.specs.Size.{outside}
 use Rattle.wire.specs.Message.{manifestBytes, manifestIn, programSignature, updateNumber, updateBlock, updateSignature}
 use Rattle.wire.proofs.SizeLaws.{or-false, inside}
-use Rattle.device.specs.declared.state.Stage.{Stage}
-use Rattle.device.specs.declared.state.Stage.the-variants.{Idle, Loading, Complete}
-use Rattle.device.specs.declared.state.Device.{Device}
-use Rattle.device.specs.declared.state.Answer.{Answer}
-use Rattle.device.specs.declared.state.Answer.the-variants.{Accepted, Refused}
-use Rattle.device.specs.Device.{countOf}
-use Rattle.device.specs.Refusals.{ofManifest, wrongVersion, badSize, senseless, short, noKind, leastLength, notLoading, notComplete, nextOf, tooSmall, notNext, wrongLength, unlike, withBlock, updated, mismatch, lacksRoot, unsigned, always, ofProgram, ofBlock, ofUpdate, ofKind, refusals}
-use Rattle.device.specs.Answers.{answerOf}
-use Rattle.device.proofs.RefusalLaws.{NoneApplies}
+use Rattle.machine.specs.declared.state.Stage.{Stage}
+use Rattle.machine.specs.declared.state.Stage.the-variants.{Idle, Loading, Complete}
+use Rattle.machine.specs.declared.state.Device.{Device}
+use Rattle.machine.specs.declared.state.Answer.{Answer}
+use Rattle.machine.specs.declared.state.Answer.the-variants.{Accepted, Refused}
+use Rattle.machine.specs.Device.{countOf}
+use Rattle.machine.specs.Refusals.{ofManifest, wrongVersion, badSize, senseless, short, noKind, leastLength, notLoading, notComplete, nextOf, tooSmall, notNext, wrongLength, unlike, withBlock, updated, mismatch, lacksRoot, unsigned, always, ofProgram, ofBlock, ofUpdate, ofKind, refusals}
+use Rattle.machine.specs.Answers.{answerOf}
+use Rattle.machine.proofs.RefusalLaws.{NoneApplies}
 
 -- One test after the other: the answer is the first refusal whose test is true.
 pub data Cascade : List (Refusal × Bool) → Answer → Type 0 where

@@ -1,17 +1,3 @@
-pub mod FreshLaws
-pub mod RefusalLaws
-pub mod SerialLaws
-pub mod OrderLaws
-pub mod FlashLaws
-pub mod InvariantLaws
-pub mod RunLaws
-pub mod FirstHalf
-pub mod SentLaws
-pub mod HonestLaws
-pub mod SecondHalf
-pub mod Demand3Holds
-pub mod Reached
-pub mod Wrong
 pub mod AcceptLaws
 pub mod JudgeLaws
 pub mod ConditionLaws

@@ -1,8 +1,8 @@
 // What an accepted message does. Only here is the flash written, and only `receive` calls this, where no refusal applies.
 use crate::conditions::count;
 use crate::conditions::next_of;
-use crate::state::Device;
-use crate::state::Stage;
+use machine::Device;
+use machine::Stage;
 use wire::Kind;
 ghost use mathlib.Core.Path.{_≡_};
 ghost use mathlib.Core.List.{[]};
@@ -13,11 +13,11 @@ ghost use Rattle.merkle.specs.Limits.{maxBlocks};
 ghost use Rattle.lms.specs.Lms.{valid};
 ghost use Rattle.wire.specs.declared.kind.Kind.the-variants as kinds;
 ghost use Rattle.wire.specs.Refusal.{firstThatApplies};
-ghost use Rattle.device.specs.declared.state.Answer.the-variants.{Accepted};
-ghost use Rattle.device.specs.Refusals.{withBlock, refusals};
-ghost use Rattle.device.specs.Step.{acceptProgram, acceptBlock, acceptUpdate, stageAfter};
-ghost use Rattle.device.specs.Step as spec;
-ghost use Rattle.device.specs.Answers.{answerOf};
+ghost use Rattle.machine.specs.declared.state.Answer.the-variants.{Accepted};
+ghost use Rattle.machine.specs.Refusals.{withBlock, refusals};
+ghost use Rattle.machine.specs.Step.{acceptProgram, acceptBlock, acceptUpdate, stageAfter};
+ghost use Rattle.machine.specs.Step as spec;
+ghost use Rattle.machine.specs.Answers.{answerOf};
 
 pub fn accept(device: Device, kind: Kind, flash: &mut [u8], message: &[u8]) -> Device
     requires { ⌜ Accepted ≡ answerOf (firstThatApplies (refusals digest valid kind device (now flash) (now message))) ⌝ }

@@ -1,6 +1,6 @@
 // When each refusal is given: a test for each, but for 2, 3 and the 12 of kind 3, which stand in `judge`.
-use crate::state::Device;
-use crate::state::Stage;
+use machine::Device;
+use machine::Stage;
 use wire::Manifest;
 ghost use mathlib.Core.Path.{_≡_};
 ghost use mathlib.Core.Bool.{false, _||_};
@@ -10,9 +10,9 @@ ghost use Rattle.sha256.specs.Sha256.{digest};
 ghost use Rattle.lms.specs.Lms.{valid};
 ghost use Rattle.wire.specs.Size as size;
 ghost use Rattle.wire.specs.Message.{manifestBytes};
-ghost use Rattle.device.specs.Device.{countOf, serialOf};
-ghost use Rattle.device.specs.Refusals.{wrongVersion, badSize, otherModel, notNewer, tooSmall, notLoading, notComplete, nextOf, notNext, wrongLength, withBlock};
-ghost use Rattle.device.specs.Refusals as spec;
+ghost use Rattle.machine.specs.Device.{countOf, serialOf};
+ghost use Rattle.machine.specs.Refusals.{wrongVersion, badSize, otherModel, notNewer, tooSmall, notLoading, notComplete, nextOf, notNext, wrongLength, withBlock};
+ghost use Rattle.machine.specs.Refusals as spec;
 
 // The block count (01: n) of a manifest that refusal 5 does not apply to.
 pub fn count(manifest: Manifest) -> usize

@@ -16,8 +16,8 @@ use crate::conditions::unsigned;
 use crate::conditions::wrong_length;
 use crate::conditions::wrong_size;
 use crate::conditions::wrong_version;
-use crate::state::Answer;
-use crate::state::Device;
+use machine::Answer;
+use machine::Device;
 use wire::Kind;
 use wire::Manifest;
 use wire::Refusal;
@@ -28,9 +28,9 @@ ghost use lib.ListN.{length};
 ghost use Rattle.sha256.specs.Sha256.{digest};
 ghost use Rattle.lms.specs.Lms.{valid};
 ghost use Rattle.wire.specs.Refusal.{firstThatApplies};
-ghost use Rattle.device.specs.Refusals.{ofManifest, ofProgram, ofBlock, ofUpdate, refusals};
-ghost use Rattle.device.specs.Refusals as spec;
-ghost use Rattle.device.specs.Answers.{answerOf};
+ghost use Rattle.machine.specs.Refusals.{ofManifest, ofProgram, ofBlock, ofUpdate, refusals};
+ghost use Rattle.machine.specs.Refusals as spec;
+ghost use Rattle.machine.specs.Answers.{answerOf};
 
 // Always 1, 2, 3; then those of the kind.
 pub fn judge(device: Device, kind: Kind, flash: &[u8], message: &[u8]) -> Answer

@@ -1,21 +1,42 @@
-// The device (01: drive): its state, and what it answers to a message.
+// The device (01: drive): a fresh one, and what it answers to a message.
 mod accept;
 mod conditions;
 mod judge;
 mod readers;
-mod state;
 
 pub use conditions::next_of;
+use machine::Answer;
+use machine::Device;
+use machine::Stage;
 pub use readers::accepted_blocks;
 pub use readers::answer_number;
-pub use state::Answer;
-pub use state::Device;
-pub use state::Stage;
-pub use state::fresh;
+use wire::Manifest;
 ghost use mathlib.Core.Path.{_≡_};
 ghost use Rattle.sha256.specs.Sha256.{digest};
 ghost use Rattle.lms.specs.Lms.{valid};
-ghost use Rattle.device.specs.Step.{step};
+ghost use Rattle.machine.specs.Device.{freshWith};
+ghost use Rattle.machine.specs.Step.{step};
+
+// Idle, with this model and key.
+pub fn fresh(model: u32, key: [u8; 56]) -> Device
+    ensures { λ r. ⌜ r ≡ freshWith model key ⌝ }
+{
+    let manifest = Manifest {
+        version: 0,
+        block_len: 0,
+        model: 0,
+        serial: 0,
+        image_len: 0,
+        root: [0u8; merkle::HASH_LEN],
+    };
+    Device {
+        model,
+        key,
+        stage: Stage::Idle,
+        manifest,
+        hashes: [0u8; merkle::HELD_LEN],
+    }
+}
 
 pub struct Reply {
     pub answer: Answer,

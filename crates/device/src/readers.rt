@@ -1,9 +1,9 @@
 // What a caller reads of an answer and of a device.
-use crate::state::Answer;
-use crate::state::Device;
-use crate::state::Stage;
+use machine::Answer;
+use machine::Device;
+use machine::Stage;
 ghost use mathlib.Core.Path.{_≡_};
-ghost use Rattle.device.specs.Readers.{numberOf, acceptedBlocks};
+ghost use Rattle.machine.specs.Readers.{numberOf, acceptedBlocks};
 
 // 0 if accepted, else the refusal's number.
 pub fn answer_number(answer: Answer) -> u8

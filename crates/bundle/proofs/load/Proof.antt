@@ -1,8 +1,8 @@
 use mathlib.Core.Path.{ap}
 use native.Mathlib.Omega.{arith}
 use lib.ListN.{length}
-use Rattle.device.specs.declared.state.Device.{Device}
-use Rattle.device.specs.Device.{freshWith}
+use Rattle.machine.specs.declared.state.Device.{Device}
+use Rattle.machine.specs.Device.{freshWith}
 use Rattle.bundle.specs.Text.{ascii}
 use Rattle.bundle.proofs.TextLaws.{line-short}
 use Rattle.bundle.proofs.WrittenLaws.{length-kept}

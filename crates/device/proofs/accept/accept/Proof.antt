@@ -1,7 +1,7 @@
 use mathlib.Core.Path.{refl}
 use Rattle.sha256.specs.Sha256.{digest}
 use Rattle.lms.specs.Lms.{valid}
-use Rattle.device.specs.Step.{accept}
+use Rattle.machine.specs.Step.{accept}
 use Rattle.device.proofs.AcceptLaws.{program-due, program-is}
 use borrow.Author.Needs.{needs}
 use Rattle.device.proofs.accept.accept.Statement.{statement}

@@ -1,5 +1,5 @@
 use Rattle.wire.specs.Message.{manifestBytes, manifestIn}
-use Rattle.device.specs.Step.{acceptProgram}
+use Rattle.machine.specs.Step.{acceptProgram}
 use borrow.Author.Needs.{needs}
 use Rattle.device.proofs.accept.accept_program.Statement.{statement}
 use Rattle.device.proofs.accept.accept_program.Tie as tie

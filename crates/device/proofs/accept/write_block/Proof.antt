@@ -1,4 +1,4 @@
-use Rattle.device.specs.Refusals.{withBlock}
+use Rattle.machine.specs.Refusals.{withBlock}
 use Rattle.device.proofs.ConditionLaws.{before-is}
 use borrow.Author.Needs.{needs}
 use Rattle.device.proofs.accept.write_block.Statement.{statement}

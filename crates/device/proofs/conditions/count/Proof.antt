@@ -1,5 +1,5 @@
 use native.Mathlib.Omega.{arith}
-use Rattle.device.specs.Device.{countOf}
+use Rattle.machine.specs.Device.{countOf}
 use Rattle.device.proofs.ConditionLaws.{sound}
 use borrow.Author.Needs.{needs}
 use Rattle.device.proofs.conditions.count.Statement.{statement}

@@ -1,4 +1,4 @@
-use Rattle.device.specs.Refusals.{notComplete}
+use Rattle.machine.specs.Refusals.{notComplete}
 use borrow.Author.Needs.{needs}
 use Rattle.device.proofs.conditions.not_complete.Statement.{statement}
 use Rattle.device.proofs.conditions.not_complete.Tie as tie

@@ -1,4 +1,4 @@
-use Rattle.device.specs.Refusals.{notLoading}
+use Rattle.machine.specs.Refusals.{notLoading}
 use borrow.Author.Needs.{needs}
 use Rattle.device.proofs.conditions.not_loading.Statement.{statement}
 use Rattle.device.proofs.conditions.not_loading.Tie as tie

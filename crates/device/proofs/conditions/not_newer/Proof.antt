@@ -1,4 +1,4 @@
-use Rattle.device.specs.Refusals.{notNewer}
+use Rattle.machine.specs.Refusals.{notNewer}
 use Rattle.device.proofs.ConditionLaws.{not-above}
 use borrow.Author.Needs.{needs}
 use Rattle.device.proofs.conditions.not_newer.Statement.{statement}

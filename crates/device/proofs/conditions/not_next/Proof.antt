@@ -1,5 +1,5 @@
 use Rattle.wire.specs.Message.{numberIn}
-use Rattle.device.specs.Refusals.{notNext}
+use Rattle.machine.specs.Refusals.{notNext}
 use borrow.Author.Needs.{needs}
 use Rattle.device.proofs.conditions.not_next.Statement.{statement}
 use Rattle.device.proofs.conditions.not_next.Tie as tie

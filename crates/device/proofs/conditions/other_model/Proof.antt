@@ -1,5 +1,5 @@
 use mathlib.Core.Path.{refl}
-use Rattle.device.specs.Refusals.{otherModel}
+use Rattle.machine.specs.Refusals.{otherModel}
 use Rattle.device.proofs.conditions.other_model.Statement.{statement}
 use Rattle.device.proofs.conditions.other_model.Tie as tie
 

@@ -1,6 +1,6 @@
 use mathlib.Core.Path.{sym, _∙_}
 use Rattle.wire.proofs.SizeLaws.{or-false}
-use Rattle.device.specs.Refusals.{wrongVersion, senseless}
+use Rattle.machine.specs.Refusals.{wrongVersion, senseless}
 use borrow.Author.Needs.{needs}
 use Rattle.device.proofs.conditions.senseless.Statement.{statement}
 use Rattle.device.proofs.conditions.senseless.Tie as tie

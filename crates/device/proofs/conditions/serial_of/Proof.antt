@@ -1,4 +1,4 @@
-use Rattle.device.specs.Device.{serialOf}
+use Rattle.machine.specs.Device.{serialOf}
 use borrow.Author.Needs.{needs}
 use Rattle.device.proofs.conditions.serial_of.Statement.{statement}
 use Rattle.device.proofs.conditions.serial_of.Tie as tie

@@ -1,5 +1,5 @@
 use native.Mathlib.Omega.{arith}
-use Rattle.device.specs.Refusals.{tooSmall}
+use Rattle.machine.specs.Refusals.{tooSmall}
 use Rattle.device.proofs.ConditionLaws.{sound}
 use borrow.Author.Needs.{needs}
 use Rattle.device.proofs.conditions.too_small.Statement.{statement}

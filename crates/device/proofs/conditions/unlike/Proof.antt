@@ -1,5 +1,5 @@
 use borrow.Author.Tests.{eq-eqb, ne-eqb}
-use Rattle.device.specs.Refusals.{unlike}
+use Rattle.machine.specs.Refusals.{unlike}
 use Rattle.device.proofs.conditions.unlike.Statement.{statement}
 use Rattle.device.proofs.conditions.unlike.Tie as tie
 

@@ -3,7 +3,7 @@ use mathlib.Core.Bool.{not}
 use Rattle.octets.proofs.CopyLaws.{part-from}
 use Rattle.lms.specs.Lms.{valid}
 use Rattle.wire.specs.Message.{manifestBytes}
-use Rattle.device.specs.Refusals.{unsigned}
+use Rattle.machine.specs.Refusals.{unsigned}
 use borrow.Author.Needs.{needs}
 use Rattle.device.proofs.conditions.unsigned.Statement.{statement}
 use Rattle.device.proofs.conditions.unsigned.Tie as tie

@@ -4,7 +4,7 @@ use native.Mathlib.Omega.{arith}
 use lib.Dec.{eqb}
 use lib.ListN.{length}
 use Rattle.merkle.specs.Frontier.{messageLength}
-use Rattle.device.specs.Refusals.{wrongLength}
+use Rattle.machine.specs.Refusals.{wrongLength}
 use Rattle.device.proofs.ConditionLaws.{sound}
 use borrow.Author.Needs.{needs}
 use Rattle.device.proofs.conditions.wrong_length.Statement.{statement}

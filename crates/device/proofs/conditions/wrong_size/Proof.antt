@@ -1,4 +1,4 @@
-use Rattle.device.specs.Refusals.{badSize}
+use Rattle.machine.specs.Refusals.{badSize}
 use borrow.Author.Needs.{needs}
 use Rattle.device.proofs.conditions.wrong_size.Statement.{statement}
 use Rattle.device.proofs.conditions.wrong_size.Tie as tie

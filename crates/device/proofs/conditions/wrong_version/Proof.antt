@@ -1,5 +1,5 @@
 use mathlib.Core.Path.{refl}
-use Rattle.device.specs.Refusals.{wrongVersion}
+use Rattle.machine.specs.Refusals.{wrongVersion}
 use Rattle.device.proofs.conditions.wrong_version.Statement.{statement}
 use Rattle.device.proofs.conditions.wrong_version.Tie as tie
 

@@ -2,7 +2,7 @@ use mathlib.Core.Path.{_≡_, refl, sym, _∙_}
 use mathlib.Core.Bool.{false}
 use Rattle.sha256.specs.Sha256.{digest}
 use Rattle.lms.specs.Lms.{valid}
-use Rattle.device.specs.Refusals.{senseless, noKind, leastLength, ofKind}
+use Rattle.machine.specs.Refusals.{senseless, noKind, leastLength, ofKind}
 use Rattle.device.proofs.JudgeLaws.{state-found, kind-found, short-found, rest-found}
 use borrow.Author.Needs.{needs}
 use Rattle.device.proofs.judge.judge.Statement.{statement}

@@ -4,9 +4,9 @@ use Rattle.sha256.specs.Sha256.{digest}
 use Rattle.lms.specs.Lms.{valid}
 use Rattle.wire.specs.declared.refusal.Refusal.the-variants.{Mismatch}
 use Rattle.wire.specs.Refusal.{firstThatApplies}
-use Rattle.device.specs.declared.state.Answer.{Answer}
-use Rattle.device.specs.Refusals.{mismatch, ofBlock}
-use Rattle.device.specs.Answers.{answerOf}
+use Rattle.machine.specs.declared.state.Answer.{Answer}
+use Rattle.machine.specs.Refusals.{mismatch, ofBlock}
+use Rattle.machine.specs.Answers.{answerOf}
 use Rattle.device.proofs.JudgeLaws.{Cascade, passed, here, later, found, block-found, Awaits, awaits}
 use borrow.Author.Needs.{needs}
 use Rattle.device.proofs.judge.judge_block.Statement.{statement}

@@ -1,5 +1,5 @@
 use mathlib.Core.Path.{sym, _∙_}
-use Rattle.device.specs.Refusals.{ofManifest}
+use Rattle.machine.specs.Refusals.{ofManifest}
 use Rattle.device.proofs.JudgeLaws.{passed, here, later, found}
 use borrow.Author.Needs.{needs}
 use Rattle.device.proofs.judge.judge_manifest.Statement.{statement}

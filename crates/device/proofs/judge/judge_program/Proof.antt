@@ -2,8 +2,8 @@ use mathlib.Core.Path.{sym, _∙_}
 use Rattle.sha256.specs.Sha256.{digest}
 use Rattle.lms.specs.Lms.{valid}
 use Rattle.wire.specs.Message.{manifestBytes, manifestIn, programSignature}
-use Rattle.device.specs.declared.state.Answer.the-variants.{Accepted}
-use Rattle.device.specs.Refusals.{ofManifest}
+use Rattle.machine.specs.declared.state.Answer.the-variants.{Accepted}
+use Rattle.machine.specs.Refusals.{ofManifest}
 use Rattle.device.proofs.JudgeLaws.{Cascade, passed, here, later, cascade, within, behind, program-found, size-passed}
 use borrow.Author.Needs.{needs}
 use Rattle.device.proofs.judge.judge_program.Statement.{statement}

@@ -9,9 +9,9 @@ use Rattle.wire.specs.declared.refusal.Refusal.the-variants.{Mismatch}
 use Rattle.wire.specs.Refusal.{firstThatApplies}
 use Rattle.wire.specs.Size.{outside}
 use Rattle.wire.specs.Message.{manifestBytes, manifestIn, updateNumber, updateSignature}
-use Rattle.device.specs.declared.state.Answer.{Answer}
-use Rattle.device.specs.Refusals.{ofManifest, ofUpdate}
-use Rattle.device.specs.Answers.{answerOf}
+use Rattle.machine.specs.declared.state.Answer.{Answer}
+use Rattle.machine.specs.Refusals.{ofManifest, ofUpdate}
+use Rattle.machine.specs.Answers.{answerOf}
 use Rattle.device.proofs.JudgeLaws.{Cascade, passed, here, later, found, cascade, within, behind, updateEnd, updateRest, update-found, lacks-found, size-passed}
 use borrow.Author.Needs.{needs}
 use Rattle.device.proofs.judge.judge_update.Statement.{statement}

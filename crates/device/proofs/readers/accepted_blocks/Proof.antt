@@ -3,8 +3,8 @@ use Prim.Native.Nat.{ℕ}
 use native.Mathlib.Nat.{div-zero, div-eq-of-lt}
 use native.Mathlib.Omega.{arith}
 use Rattle.merkle.specs.Blocks.{blockCount}
-use Rattle.device.specs.Device.{countOf}
-use Rattle.device.specs.Readers.{acceptedBlocks}
+use Rattle.machine.specs.Device.{countOf}
+use Rattle.machine.specs.Readers.{acceptedBlocks}
 use Rattle.device.proofs.ConditionLaws.{before-is}
 use borrow.Author.Needs.{needs}
 use Rattle.device.proofs.readers.accepted_blocks.Statement.{statement}

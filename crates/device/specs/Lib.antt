@@ -1,7 +1,0 @@
-pub mod Device
-pub mod Refusals
-pub mod Step
-pub mod Answers
-pub mod Readers
-pub mod Run
-pub mod Demand3

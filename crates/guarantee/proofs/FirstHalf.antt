@@ -1,0 +1,150 @@
+-- Demand 3, first half: what a complete device has.
+use mathlib.Core.Path.{_≡_, refl, sym, ap, _∙_, subst}
+use mathlib.Core.Logic.{_⊎_, inl, inr}
+use mathlib.Core.Bool.{Bool}
+use mathlib.Core.List.{List, []}
+use mathlib.Core.Option.{none, some}
+use Prim.Native.Nat.{ℕ, zero, suc, _*_, _<_}
+use native.Mathlib.Nat.{zero-add}
+use native.Mathlib.Omega.{arith}
+use lib.ListN.{length, take}
+use lib.Seq.{take-all}
+use Rattle.merkle.specs.Limits.{hashLength}
+use Rattle.merkle.specs.Blocks.{blockCount, cut}
+use Rattle.merkle.specs.Shape.{shape}
+use Rattle.merkle.specs.Hash.{Collision}
+use Rattle.merkle.proofs.ShapeLaws.{size-shape}
+use Rattle.merkle.proofs.HashLaws.{Same}
+use Rattle.merkle.proofs.BindingLaws.{binding}
+use Rattle.merkle.proofs.BlockLaws.{blocks-equal}
+use Rattle.wire.specs.declared.manifest.Manifest.{Manifest}
+use Rattle.wire.specs.Image.{filled, imageBlocks}
+use Rattle.wire.specs.Message.{manifestIn}
+use Rattle.wire.proofs.SizeLaws.{Sized}
+use Rattle.wire.proofs.ImageLaws.{length-filled}
+use Rattle.machine.specs.declared.state.Stage.{Stage}
+use Rattle.machine.specs.declared.state.Stage.the-variants.{Idle, Loading, Complete}
+use Rattle.machine.specs.declared.state.Device.{Device}
+use Rattle.machine.specs.Device.{countOf, Fresh, Situation}
+use Rattle.machine.specs.Refusals.{treeOver}
+use Rattle.machine.specs.Step.{step}
+use Rattle.guarantee.specs.Run.{Messages, lastProgram, blocksSince, lastCarrier, Completed}
+use Rattle.guarantee.specs.Demand3.{Bound, FirstHalf}
+use Rattle.machine.proofs.RefusalLaws.{passed}
+use Rattle.guarantee.proofs.InvariantLaws.{Carried, InComplete, Holds, Invariant, kept}
+use Rattle.guarantee.proofs.RunLaws.{now, taken, every-list}
+
+module _ (H : List ℕ → List ℕ) (hash-long : (x : List ℕ) → length (H x) ≡ hashLength) where
+  -- an image of the flash's length with its root is the start of the flash, or there is a collision
+  bound-image : (s : Manifest) (f x : List ℕ) → Sized (s .«block_len») (s .«image_len») → treeOver H s f ≡ s .root → length x ≡ s .«image_len» → treeOver H s (filled (s .«block_len») x) ≡ s .root
+      → (filled (s .«block_len») x ≡ take (length (filled (s .«block_len») x)) f) ⊎ Collision H [] [] (imageBlocks (s .«block_len») x) (cut (s .«block_len») f) 0 (shape (countOf s))
+  unfolding treeOver imageBlocks
+  bound-image s f x z rooted lx e = go (binding H [] [] hash-long (cut L (filled L x)) (cut L f) 0 (shape n) (e ∙ sym rooted))
+    where
+      L : ℕ
+      L = s .«block_len»
+
+      n : ℕ
+      n = countOf s
+
+      long : length (filled (s .«block_len») x) ≡ countOf s * s .«block_len»
+      long = unfold countOf in (length-filled (s .«block_len») x (rw lx z) ∙ ap (λ t. blockCount (s .«block_len») t * s .«block_len») lx)
+
+      pos : 0 < countOf s
+      pos = unfold countOf in z .first
+
+      go : Same (cut L (filled L x)) 0 (cut L f) 0 (shape n) ⊎ Collision H [] [] (cut L (filled L x)) (cut L f) 0 (shape n)
+          → (filled L x ≡ take (length (filled L x)) f) ⊎ Collision H [] [] (cut L (filled L x)) (cut L f) 0 (shape n)
+      go (inl a) =
+          let blocks = blocks-equal L (filled L x) f n (λ j h. rw zero-add at (a .block j (rw (size-shape n pos) h))) in
+          inl (rw long (sym (take-all (n * L) (filled L x) (omega (arith, long))) ∙ blocks))
+      go (inr c) = inr c
+
+module _ (H : List ℕ → List ℕ) (valid : (key message signature : List ℕ) → Bool) (d : Device) where
+  -- the stage of a list that is complete
+  stage-complete : (t : Stage) (s : Manifest) (array f : List ℕ) (ms : Messages) → Holds H valid (d .key) t s array f ms → Completed ms → t ≡ Complete
+  stage-complete Idle s array f ms w c = absurd (let l = c .last in let n = w .0 in let z : _≡_ {A = ℕ} 0 1 = cc in omega arith)
+  stage-complete (Loading zero) s array f ms w c = absurd w
+  stage-complete (Loading (suc k)) s array f ms w c =
+      let q : s ≡ c .manifest = let l = c .last in let h = w .last in cc in
+      let b = w .below in
+      let e = w .since in
+      let a = c .all in
+      absurd (omega (arith, ap countOf q))
+  stage-complete Complete s array f ms w c = refl
+
+  -- .. of one without a program message, and of one with blocks to come
+  stage-idle : (t : Stage) (s : Manifest) (array f : List ℕ) (ms : Messages) → Holds H valid (d .key) t s array f ms → lastProgram ms ≡ none → t ≡ Idle
+  stage-idle Idle s array f ms w e = refl
+  stage-idle (Loading zero) s array f ms w e = absurd w
+  stage-idle (Loading (suc k)) s array f ms w e = absurd (let l = w .last in let z : _≡_ {A = ℕ} 0 1 = cc in omega arith)
+  stage-idle Complete s array f ms w e = absurd (let l = w .last in let z : _≡_ {A = ℕ} 0 1 = cc in omega arith)
+
+  stage-loading : (t : Stage) (s : Manifest) (array f : List ℕ) (ms : Messages) → Holds H valid (d .key) t s array f ms
+      → (p : Manifest) → lastProgram ms ≡ some p → blocksSince ms < countOf p → t ≡ Loading (suc (blocksSince ms))
+  stage-loading Idle s array f ms w p e h = absurd (let n = w .0 in let z : _≡_ {A = ℕ} 0 1 = cc in omega arith)
+  stage-loading (Loading zero) s array f ms w p e h = absurd w
+  stage-loading (Loading (suc k)) s array f ms w p e h = ap (λ (x : ℕ). Loading (suc x)) (sym (w .since))
+  stage-loading Complete s array f ms w p e h =
+      let q : w .first ≡ p = let l = w .last in cc in
+      absurd (omega (arith, w .all, ap countOf q))
+
+  carried-is : (ms : Messages) (s : Manifest) → Carried H valid (d .key) ms s → (m : List ℕ) → lastCarrier ms ≡ some m → s ≡ manifestIn m
+  carried-is ms s c m e = let l = c .last in let q : c .carrier ≡ m = cc in c .manifest ∙ ap manifestIn q
+
+  -- the manifest of the last carrier
+  manifest-carried : (t : Stage) (s : Manifest) (array f : List ℕ) (ms : Messages) → Holds H valid (d .key) t s array f ms → (m : List ℕ) → lastCarrier ms ≡ some m → s ≡ manifestIn m
+  manifest-carried Idle s array f ms w m e = absurd (let n = w .1 in let z : _≡_ {A = ℕ} 0 1 = cc in omega arith)
+  manifest-carried (Loading zero) s array f ms w m e = absurd w
+  manifest-carried (Loading (suc k)) s array f ms w m e = carried-is ms s (w .carries) m e
+  manifest-carried Complete s array f ms w m e = carried-is ms s (w .carries) m e
+
+module _ (H : List ℕ → List ℕ) (valid : (key message signature : List ℕ) → Bool) (d : Device) (flash : List ℕ) where
+  invariant : Fresh d → (ms : Messages) → Invariant H valid (d .key) (length flash) (now H valid d flash ms .device) (now H valid d flash ms .flash) (taken H valid d flash ms)
+  unfolding lastProgram lastCarrier
+  invariant fresh ms =
+      every-list H valid d flash (λ s taken. Invariant H valid (d .key) (length flash) (s .device) (s .flash) taken)
+      (λ ms m v e.
+      let s : Situation = now H valid d flash ms in
+      kept H valid (d .key) (length flash) (s .device) (s .flash) m (taken H valid d flash ms) v (passed H valid (s .device) (s .flash) m e))
+      (record { same = refl; long = refl; holds = rw (fresh .idle) (refl, refl) }) ms
+
+module _ (H : List ℕ → List ℕ) (hash-long : (x : List ℕ) → length (H x) ≡ hashLength) (valid : (key message signature : List ℕ) → Bool) (d : Device) (fresh : Fresh d)
+    (flash : List ℕ) (ms : Messages) where
+  abbrev at : Situation
+  at = now H valid d flash ms
+
+  abbrev list : Messages
+  list = taken H valid d flash ms
+
+  holds : Holds H valid (d .key) (at .device .stage) (at .device .manifest) (at .device .hashes) (at .flash) list
+  holds = invariant H valid d flash fresh ms .holds
+
+  in-complete : at .device .stage ≡ Complete → InComplete H valid (d .key) (at .device .manifest) (at .flash) list
+  in-complete e = subst (λ t. Holds H valid (d .key) t (at .device .manifest) (at .device .hashes) (at .flash) list) e holds
+
+  stage-is : Completed list → at .device .stage ≡ Complete
+  stage-is c = stage-complete H valid d (at .device .stage) (at .device .manifest) (at .device .hashes) (at .flash) list holds c
+
+  bound : Completed list → Bound H valid (step H valid) d flash list (at .device .manifest) (at .flash)
+  bound c =
+      let w = in-complete (stage-is c) in
+      record {
+        carrier = w .carries .carrier;
+        last = w .carries .last;
+        signed = w .carries .signed;
+        room = w .room;
+        rooted = w .rooted;
+        image = λ x lx e. bound-image H hash-long (at .device .manifest) (at .flash) x (w .size) (w .rooted) lx e;
+      }
+
+  pub first-half : FirstHalf H valid (step H valid) d flash ms
+  first-half =
+      record {
+        manifest = manifest-carried H valid d (at .device .stage) (at .device .manifest) (at .device .hashes) (at .flash) list holds;
+        exactly = (λ e. let w = in-complete e in record { manifest = w .first; last = w .last; all = w .all }, stage-is);
+        idle = stage-idle H valid d (at .device .stage) (at .device .manifest) (at .device .hashes) (at .flash) list holds;
+        loading = stage-loading H valid d (at .device .stage) (at .device .manifest) (at .device .hashes) (at .flash) list holds;
+        one = invariant H valid d flash fresh ms .long;
+        bound = bound;
+      }

@@ -1,0 +1,185 @@
+-- The honest run, step by step: a device that loads a job accepts the sender's next block, and then loads it still.
+use mathlib.Core.Path.{_≡_, refl, sym, ap, ap₂, _∙_, subst}
+use mathlib.Core.Logic.{_⊎_, inl, inr}
+use mathlib.Core.Bool.{Bool, true, false, not, _||_}
+use mathlib.Core.List.{List, [], _++_}
+use mathlib.Core.Option.{none}
+use Prim.Native.Nat.{ℕ, suc, _*_, max, _≤_, _<_}
+use native.Mathlib.Nat.{mul-le-mul-right, zero-mul}
+use native.Mathlib.Omega.{arith}
+use lib.Dec.{eqb, eqb·suc-zero}
+use lib.ListN.{length, take, drop, length-append, length-drop}
+use lib.Seq.{take-all, length-take-le}
+use borrow.Author.Tests.{lt-ltb, le-ltb, eq-eqb}
+use Rattle.merkle.specs.Limits.{hashLength, heldBytes}
+use Rattle.merkle.specs.Shape.{shape, depth}
+use Rattle.merkle.specs.Hash.{hashes}
+use Rattle.merkle.specs.Frontier.{messageLength, frontier, held}
+use Rattle.merkle.specs.Held.{heldIn, begun, advanced, fits}
+use Rattle.merkle.proofs.ShapeLaws.{lt-or-le}
+use Rattle.merkle.proofs.HashLaws.{length-hashes}
+use Rattle.merkle.proofs.CountLaws.{held-depth}
+use Rattle.merkle.proofs.HeldLaws.{begun-held, length-begun, all-held}
+use Rattle.merkle.proofs.LoadingLaws.{hashes-zero}
+use Rattle.merkle.proofs.RunLaws.{Honest, honest}
+use Rattle.wire.specs.declared.kind.Kind.the-variants.{Program, Block}
+use Rattle.wire.specs.declared.manifest.Manifest.{Manifest}
+use Rattle.wire.specs.Size.{outside}
+use Rattle.wire.specs.Manifest.{written}
+use Rattle.wire.specs.Image.{filled, imageBlocks}
+use Rattle.wire.specs.Message.{manifestBytes, manifestIn, numberIn, blockIn, hashesAfter}
+use Rattle.sender.specs.Job.{Job, count, blocks, rootOf, manifestFor, blockFor}
+use Rattle.machine.specs.declared.state.Stage.the-variants.{Loading, Complete}
+use Rattle.machine.specs.declared.state.Device.{Device}
+use Rattle.machine.specs.Device.{countOf, heldBy, Situation}
+use Rattle.machine.specs.Refusals.{wrongVersion, badSize, senseless, short, leastLength, tooSmall, notLoading, nextOf, notNext, wrongLength, withBlock, mismatch}
+use Rattle.machine.specs.Step.{acceptProgram, stageAfter, acceptBlock, accept, refusalOf}
+use Rattle.guarantee.specs.Demand3.{Sendable}
+use Rattle.machine.proofs.RefusalLaws.{ProgramPassed, NextDue, due-unrefused}
+use Rattle.machine.proofs.FlashLaws.{more-blocks}
+use Rattle.guarantee.proofs.SentLaws.{count-some, count-most, job-length, block-length, root-long, manifest-is, Sent, block-sent}
+
+both-false : (s t : Bool) → s ≡ false → t ≡ false → s || t ≡ false
+both-false s t a b = rw (a, b)
+
+-- a device that loads the job, at block j + 1
+loadingAt : (List ℕ → List ℕ) → Job → ℕ → List ℕ → ℕ → List ℕ → Device
+loadingAt H job model key j array = record { model = model; key = key; stage = Loading (suc j); manifest = manifestFor H job; hashes = array }
+
+module _ (H : List ℕ → List ℕ) (hash-long : (x : List ℕ) → length (H x) ≡ hashLength) (valid : (key message signature : List ℕ) → Bool) (job : Job) (ok : Sendable job) where
+  -- after j blocks of the job, over an old flash
+  pub record Here (old : List ℕ) (j : ℕ) (s : Situation) : Type 0 where
+    pub within : j ≤ count job
+    pub stage : s .device .stage ≡ stageAfter (count job) j
+    pub manifest : s .device .manifest ≡ manifestFor H job
+    pub array : length (s .device .hashes) ≡ heldBytes
+    pub holds : heldIn (count job) j (s .device .hashes) ≡ hashes H [] [] (blocks job) (frontier 0 (shape (count job)) j)
+    pub room : count job * job .block ≤ length old
+    pub flash : s .flash ≡ take (j * job .block) (filled (job .block) (job .image)) ++ drop (j * job .block) old
+
+  -- the sender's next block, to a device that loads the job
+  module _ (j : ℕ) (array : List ℕ) (below : j < count job) (array-long : length array ≡ heldBytes)
+      (holds : heldIn (count job) j array ≡ hashes H [] [] (blocks job) (frontier 0 (shape (count job)) j)) where
+    run : Honest H [] [] hash-long (count job) (blocks job) j array
+    run = honest H [] [] hash-long (count job) (blocks job) j array below (count-most H hash-long job ok) array-long holds
+
+    is-sent : Sent H hash-long job ok j (blockFor H job (suc j))
+    is-sent = block-sent H hash-long job ok j below
+
+    matches : fits H [] [] (count job) j array (blockIn (job .block) (blockFor H job (suc j))) (hashesAfter (job .block) (blockFor H job (suc j))) ≡ true
+    matches = rw (is-sent .block, is-sent .after) (run .accepted)
+
+    is-due : (model : ℕ) (key f : List ℕ) → count job * job .block ≤ length f → NextDue H valid (loadingAt H job model key j array) f (blockFor H job (suc j))
+    unfolding senseless short leastLength notLoading tooSmall nextOf notNext wrongLength mismatch wrongVersion badSize outside countOf count loadingAt manifestFor messageLength
+    is-due model key f room =
+        let m : List ℕ = blockFor H job (suc j) in
+        record {
+          is = is-sent .is;
+          sense = both-false _ _ (ok .size) (both-false (eqb (suc j) 0) _ (eqb·suc-zero j) (le-ltb (count job) (suc j) (omega arith)));
+          head = le-ltb (length m) 3 (omega (arith, is-sent .size));
+          loading = refl;
+          area = le-ltb (length f) _ room;
+          turn = ap not (eq-eqb (numberIn m) (suc j) (is-sent .number));
+          size = ap not (eq-eqb (length m) _ (is-sent .size));
+          same = ap not matches;
+        }
+
+  module _ (old : List ℕ) (j : ℕ) (s : Situation) (w : Here old j s) where
+    room-now : count job * job .block ≤ length (s .flash)
+    room-now =
+        let L = job .block in
+        let front = length-take-le (j * L) (filled L (job .image)) (omega (arith, job-length H hash-long job ok, mul-le-mul-right L (w .within))) in
+        rw (w .flash, length-append (take (j * L) (filled L (job .image))) (drop (j * L) old), length-drop (j * L) old) (omega (arith, w .room))
+
+    is-loading : j < count job → s .device ≡ loadingAt H job (s .device .model) (s .device .key) j (s .device .hashes)
+    unfolding stageAfter loadingAt
+    is-loading h =
+        let t : s .device .stage ≡ Loading (suc j) = w .stage ∙ rw (lt-ltb j (count job) h) in
+        λ i. record { model = s .device .model; key = s .device .key; stage = t i; manifest = w .manifest i; hashes = s .device .hashes }
+
+    pub next-due : j < count job → NextDue H valid (s .device) (s .flash) (blockFor H job (suc j))
+    next-due h =
+        subst (λ d. NextDue H valid d (s .flash) (blockFor H job (suc j))) (sym (is-loading h))
+        (is-due j (s .device .hashes) h (w .array) (w .holds) (s .device .model) (s .device .key) (s .flash) room-now)
+
+    pub next-accepted : j < count job → refusalOf H valid (s .device) (s .flash) (blockFor H job (suc j)) ≡ none
+    next-accepted h = due-unrefused H valid (s .device) (s .flash) (blockFor H job (suc j)) (next-due h)
+
+    next-flash : j < count job → withBlock (job .block) (s .flash) (suc j) (blockIn (job .block) (blockFor H job (suc j)))
+        ≡ take (suc j * job .block) (filled (job .block) (job .image)) ++ drop (suc j * job .block) old
+    unfolding blocks imageBlocks
+    next-flash h =
+        let L = job .block in
+        ap₂ (λ x b. withBlock L x (suc j) b) (w .flash) (block-sent H hash-long job ok j h .block)
+        ∙ more-blocks L j (filled L (job .image)) old (omega (arith, job-length H hash-long job ok, mul-le-mul-right L (w .within))) (block-length H hash-long job ok j h)
+
+    pub next-here : j < count job → Here old (suc j) (accept Block (s .device) (s .flash) (blockFor H job (suc j)))
+    next-here h = subst (λ d. Here old (suc j) (accept Block d (s .flash) (blockFor H job (suc j)))) (sym (is-loading h)) go
+      where
+        go : Here old (suc j) (accept Block (loadingAt H job (s .device .model) (s .device .key) j (s .device .hashes)) (s .flash) (blockFor H job (suc j)))
+        go = unfold accept acceptBlock loadingAt nextOf manifestFor countOf count in
+            let r = block-sent H hash-long job ok j h in
+            let k = run j (s .device .hashes) h (w .array) (w .holds) in
+            record {
+              within = h;
+              stage = refl;
+              manifest = refl;
+              array = ap (λ x. length (advanced (count job) j (s .device .hashes) x)) (r .after) ∙ k .size;
+              holds = ap (λ x. heldIn (count job) (suc j) (advanced (count job) j (s .device .hashes) x)) (r .after) ∙ k .holds;
+              room = w .room;
+              flash = next-flash h;
+            }
+
+    pub is-complete : j ≡ count job → s .device .stage ≡ Complete
+    unfolding stageAfter
+    is-complete e = w .stage ∙ rw (le-ltb j (count job) (omega arith))
+
+    pub holding : heldBy (s .device) ≡ hashes H [] [] (blocks job) (frontier 0 (shape (count job)) j)
+    unfolding heldBy
+    holding = go (lt-or-le j (count job))
+      where
+        go : (j < count job) ⊎ (count job ≤ j) → heldBy (s .device) ≡ hashes H [] [] (blocks job) (frontier 0 (shape (count job)) j)
+        go (inl h) = unfold loadingAt manifestFor countOf count in (ap heldBy (is-loading h) ∙ w .holds)
+        go (inr h) =
+            let e : j ≡ count job = omega (arith, w .within) in
+            rw (is-complete e, heldBy)
+            (sym (all-held (count job) (s .device .hashes) (count-some H hash-long job ok)) ∙ ap (λ x. heldIn (count job) x (s .device .hashes)) (sym e) ∙ w .holds)
+
+    pub held-few : length (heldBy (s .device)) ≤ max 1 (depth (count job))
+    unfolding held
+    held-few = rw (holding, length-hashes H [] [] (blocks job) (frontier 0 (shape (count job)) j)) (held-depth (count job) j (count-some H hash-long job ok))
+
+    pub none-held : j ≡ count job → heldBy (s .device) ≡ []
+    unfolding heldBy
+    none-held e = rw (is-complete e, heldBy)
+
+    pub flash-is : j ≡ count job → s .flash ≡ filled (job .block) (job .image) ++ drop (count job * job .block) old
+    flash-is e =
+        let L = job .block in
+        w .flash ∙ ap (λ x. take (x * L) (filled L (job .image)) ++ drop (x * L) old) e
+        ∙ ap (λ x. x ++ drop (count job * L) old) (take-all (count job * L) (filled L (job .image)) (omega (arith, job-length H hash-long job ok)))
+
+  -- the manifest came
+  pub first-here : (d : Device) (f m : List ℕ) → manifestBytes m ≡ written (manifestFor H job) → ProgramPassed H valid d f m → Here f 0 (accept Program d f m)
+  unfolding accept acceptProgram
+  first-here d f m e p =
+      subst (λ (s : Manifest). Here f 0 (record { device = record { model = d .model; key = d .key; stage = Loading 1; manifest = s; hashes = begun (s .root) }; flash = f }))
+      (sym is) go
+    where
+      is : manifestIn m ≡ manifestFor H job
+      is = manifest-is H hash-long job ok m e
+
+      root : length (manifestFor H job .root) ≡ hashLength
+      root = root-long H hash-long job ok
+
+      go : Here f 0 (record { device = record { model = d .model; key = d .key; stage = Loading 1; manifest = manifestFor H job; hashes = begun (manifestFor H job .root) }; flash = f })
+      go =
+          record {
+            within = omega arith;
+            stage = unfold stageAfter in rw (lt-ltb 0 (count job) (count-some H hash-long job ok));
+            manifest = refl;
+            array = length-begun (manifestFor H job .root) root;
+            holds = begun-held (count job) (manifestFor H job .root) root ∙ (unfold manifestFor rootOf in sym (hashes-zero H [] [] (blocks job) (shape (count job))));
+            room = unfold manifestFor countOf count in (rw is at (p .room));
+            flash = rw (zero-mul (job .block));
+          }

@@ -1,0 +1,292 @@
+-- What every list of messages keeps, from a fresh device on: the invariant behind demand 3's first half.
+use mathlib.Core.Path.{_≡_, refl, ap, _∙_, subst}
+use mathlib.Core.Logic.{_⊎_, inl, inr}
+use mathlib.Core.Bool.{Bool, true, false, _||_, cond, true≢false}
+use mathlib.Core.List.{List, []}
+use mathlib.Core.Option.{none, some}
+use Prim.Native.Nat.{ℕ, zero, suc, _+_, _*_, _≤_, _<_}
+use native.Mathlib.Omega.{arith}
+use lib.Dec.{ltb}
+use lib.ListN.{length, drop, length-drop}
+use lib.Seq.{length-take-le}
+use borrow.Author.Tests.{lt-ltb, le-ltb, ne-eqb}
+use Rattle.octets.specs.Octets.{part}
+use Rattle.merkle.specs.Limits.{maxBlocks, hashLength, heldBytes}
+use Rattle.merkle.specs.Blocks.{blockCount, cut}
+use Rattle.merkle.specs.Shape.{shape}
+use Rattle.merkle.specs.Frontier.{carried, messageLength}
+use Rattle.merkle.specs.Held.{heldIn, advanced, fits}
+use Rattle.merkle.proofs.ShapeLaws.{lt-or-le, size-shape}
+use Rattle.merkle.proofs.HeldLaws.{begun-held, length-begun, all-held, advance}
+use Rattle.merkle.proofs.LoadingLaws.{Loaded, loaded-start, loaded-end}
+use Rattle.merkle.proofs.RunLaws.{loaded-fits}
+use Rattle.wire.specs.declared.kind.Kind.the-variants.{Program, Block, Update}
+use Rattle.wire.specs.declared.manifest.Manifest.{Manifest}
+use Rattle.wire.specs.Size.{wrongSize}
+use Rattle.wire.specs.Manifest.{read}
+use Rattle.wire.specs.Message.{kind, manifestBytes, manifestIn, programSignature, blockIn, hashesAfter, updateNumber, updateBlock, updateSignature}
+use Rattle.wire.proofs.SizeLaws.{Sized, outside-not}
+use Rattle.machine.specs.declared.state.Stage.{Stage}
+use Rattle.machine.specs.declared.state.Stage.the-variants.{Idle, Loading, Complete}
+use Rattle.machine.specs.declared.state.Device.{Device}
+use Rattle.machine.specs.Device.{countOf, Situation}
+use Rattle.machine.specs.Refusals.{wrongVersion, badSize, senseless, notLoading, notComplete, nextOf, withBlock, updated, treeOver}
+use Rattle.machine.specs.Step.{acceptProgram, stageAfter, acceptBlock, acceptUpdate, accept}
+use Rattle.guarantee.specs.Run.{Messages, _▷_, lastProgram, blocksSince, lastCarrier, signatureIn}
+use Rattle.machine.proofs.RefusalLaws.{ProgramPassed, BlockPassed, UpdatePassed, Passed, took-program, took-block, took-update}
+use Rattle.machine.proofs.FlashLaws.{length-with, with-here, with-before}
+
+-- what an accepted message of each kind adds to the list of those accepted
+module _ (ms : Messages) (m : List ℕ) where
+  with-program : kind m ≡ Program → (lastProgram (ms ▷ m) ≡ some (manifestIn m)) × (blocksSince (ms ▷ m) ≡ 0) × (lastCarrier (ms ▷ m) ≡ some m) × (signatureIn m ≡ programSignature m)
+  unfolding lastProgram blocksSince lastCarrier signatureIn
+  with-program e = (rw (e, lastProgram), rw (e, blocksSince), rw (e, lastCarrier), rw (e, signatureIn))
+
+  with-block : kind m ≡ Block → (lastProgram (ms ▷ m) ≡ lastProgram ms) × (blocksSince (ms ▷ m) ≡ suc (blocksSince ms)) × (lastCarrier (ms ▷ m) ≡ lastCarrier ms)
+  unfolding lastProgram blocksSince lastCarrier
+  with-block e = (rw (e, lastProgram), rw (e, blocksSince), rw (e, lastCarrier))
+
+  with-update : kind m ≡ Update
+      → (lastProgram (ms ▷ m) ≡ lastProgram ms) × (blocksSince (ms ▷ m) ≡ blocksSince ms) × (lastCarrier (ms ▷ m) ≡ some m) × (signatureIn m ≡ updateSignature (manifestIn m .«block_len») m)
+  unfolding lastProgram blocksSince lastCarrier signatureIn
+  with-update e = (rw (e, lastProgram), rw (e, blocksSince), rw (e, lastCarrier), rw (e, signatureIn))
+
+root-length : (m : List ℕ) → 49 ≤ length m → length (manifestIn m .root) ≡ hashLength
+unfolding manifestIn read manifestBytes
+root-length m e =
+    let a : length (part 1 48 m) ≡ 48 = length-take-le 48 (drop 1 m) (rw (length-drop 1 m) (omega arith)) in
+    length-take-le 32 (drop 16 (part 1 48 m)) (rw (length-drop 16 (part 1 48 m)) (omega arith))
+
+not-wrong : (L T : ℕ) → Sized L T → wrongSize L T ≡ false
+unfolding wrongSize
+not-wrong L T z = rw (z .allowed, ne-eqb T 0 (λ e. omega (arith, z .some)), le-ltb maxBlocks (blockCount L T) (z .count))
+
+module _ (H : List ℕ → List ℕ) (valid : (key message signature : List ℕ) → Bool) (key : List ℕ) where
+  -- the last accepted message that carries a manifest has this one, and it was signed
+  pub record Carried (taken : Messages) (s : Manifest) : Type 0 where
+    pub carrier : List ℕ
+    pub last : lastCarrier taken ≡ some carrier
+    pub manifest : s ≡ manifestIn carrier
+    pub signed : valid key (manifestBytes carrier) (signatureIn carrier) ≡ true
+
+  -- loading, k blocks accepted
+  pub record InLoading (k : ℕ) (s : Manifest) (array flash : List ℕ) (taken : Messages) : Type 0 where
+    pub below : k < countOf s
+    pub version : wrongVersion s ≡ false
+    pub size : Sized (s .«block_len») (s .«image_len»)
+    pub array-size : length array ≡ heldBytes
+    pub room : countOf s * s .«block_len» ≤ length flash
+    pub carries : Carried taken s
+    pub last : lastProgram taken ≡ some s
+    pub since : blocksSince taken ≡ k
+    pub loaded : Loaded H [] [] (shape (countOf s)) (s .root) k (cut (s .«block_len») flash) (heldIn (countOf s) k array)
+
+  -- complete; first is the manifest of the last program message, before any update
+  pub record InComplete (s : Manifest) (flash : List ℕ) (taken : Messages) : Type 0 where
+    pub version : wrongVersion s ≡ false
+    pub size : Sized (s .«block_len») (s .«image_len»)
+    pub room : countOf s * s .«block_len» ≤ length flash
+    pub carries : Carried taken s
+    pub first : Manifest
+    pub last : lastProgram taken ≡ some first
+    pub all : blocksSince taken ≡ countOf first
+    pub rooted : treeOver H s flash ≡ s .root
+
+  abbrev pub Holds : Stage → Manifest → List ℕ → List ℕ → Messages → Type 0
+  Holds Idle s array flash taken = (lastProgram taken ≡ none) × (lastCarrier taken ≡ none)
+  Holds (Loading zero) s array flash taken = ⊥
+  Holds (Loading (suc k)) s array flash taken = InLoading k s array flash taken
+  Holds Complete s array flash taken = InComplete s flash taken
+
+  -- total is the length of the flash
+  pub record Invariant (total : ℕ) (d : Device) (flash : List ℕ) (taken : Messages) : Type 0 where
+    pub same : d .key ≡ key
+    pub long : length flash ≡ total
+    pub holds : Holds (d .stage) (d .manifest) (d .hashes) flash taken
+
+  module _ (total : ℕ) (d : Device) (flash m : List ℕ) (taken : Messages) (v : Invariant total d flash taken) where
+    abbrev Kept : Situation → Messages → Type 0
+    Kept s taken = Invariant total (s .device) (s .flash) taken
+
+    kept-program : kind m ≡ Program → ProgramPassed H valid d flash m → Kept (acceptProgram d flash m) (taken ▷ m)
+    unfolding acceptProgram countOf
+    kept-program e p =
+        let s : Manifest = manifestIn m in
+        let w = with-program taken m e in
+        let lr : length (s .root) ≡ hashLength = root-length m (p .long) in
+        record {
+          same = v .same;
+          long = v .long;
+          holds = record {
+            below = p .size .first;
+            version = p .version;
+            size = p .size;
+            array-size = length-begun (s .root) lr;
+            room = p .room;
+            carries = record { carrier = m; last = w .2; manifest = refl; signed = rw (w .3) (rw (v .same) at (p .signed)) };
+            last = w .0;
+            since = w .1;
+            loaded = rw (begun-held (countOf s) (s .root) lr) (loaded-start H [] [] (shape (countOf s)) (s .root) (cut (s .«block_len») flash));
+          };
+        }
+
+    -- block k + 1
+    module _ (k : ℕ) (e : kind m ≡ Block) (long : length m ≡ messageLength (d .manifest .«block_len») (countOf (d .manifest)) (suc k))
+        (same : fits H [] [] (countOf (d .manifest)) k (d .hashes) (blockIn (d .manifest .«block_len») m) (hashesAfter (d .manifest .«block_len») m) ≡ true)
+        (w : InLoading k (d .manifest) (d .hashes) flash taken) where
+      abbrev s : Manifest
+      s = d .manifest
+
+      abbrev n : ℕ
+      n = countOf (d .manifest)
+
+      abbrev block : List ℕ
+      block = blockIn (d .manifest .«block_len») m
+
+      abbrev message : List ℕ
+      message = hashesAfter (d .manifest .«block_len») m
+
+      abbrev flash' : List ℕ
+      flash' = withBlock (d .manifest .«block_len») flash (suc k) block
+
+      abbrev array' : List ℕ
+      array' = advanced n k (d .hashes) message
+
+      few : n ≤ maxBlocks
+      unfolding countOf
+      few = w .size .count
+
+      block-long : length block ≡ s .«block_len»
+      unfolding blockIn messageLength
+      block-long = length-take-le (s .«block_len») (drop 3 m) (rw (length-drop 3 m) (omega arith))
+
+      message-long : length message ≡ hashLength * carried n (suc k)
+      unfolding hashesAfter messageLength
+      message-long = length-drop (3 + s .«block_len») m ∙ omega arith
+
+      array-long : length array' ≡ heldBytes
+      array-long = advance n k (d .hashes) message (w .below) few (w .array-size) message-long .size
+
+      flash-long : length flash' ≡ length flash
+      flash-long = length-with (s .«block_len») n k flash (w .below) (w .room) block block-long
+
+      still-loaded : Loaded H [] [] (shape n) (s .root) (suc k) (cut (s .«block_len») flash') (heldIn n (suc k) array')
+      still-loaded =
+          let here = with-here (s .«block_len») n k flash (w .below) (w .room) block block-long in
+          loaded-fits H [] [] n k (s .root) (d .hashes) message (cut (s .«block_len») flash) (cut (s .«block_len») flash') (w .below) few (w .array-size) message-long
+          (with-before (s .«block_len») n k flash (w .below) (w .room) block block-long) (rw here same) (w .loaded)
+
+      last-loaded : suc k ≡ n → treeOver H s flash' ≡ s .root
+      unfolding treeOver
+      last-loaded q =
+          let pos : 0 < n = omega arith in
+          let whole = subst (λ x. Loaded H [] [] (shape n) (s .root) x (cut (s .«block_len») flash') (heldIn n x array')) q still-loaded in
+          loaded-end H [] [] (shape n) (s .root) (cut (s .«block_len») flash') (rw (size-shape n pos) (rw (all-held n array' pos) at whole))
+
+      carried-on : Carried (taken ▷ m) s
+      carried-on = let c = w .carries in record { carrier = c .carrier; last = with-block taken m e .2 ∙ c .last; manifest = c .manifest; signed = c .signed }
+
+      next-stage : Holds (stageAfter n (suc k)) s array' flash' (taken ▷ m)
+      unfolding stageAfter
+      next-stage = go (lt-or-le (suc k) n)
+        where
+          since : blocksSince (taken ▷ m) ≡ suc k
+          since = with-block taken m e .1 ∙ ap suc (w .since)
+
+          last : lastProgram (taken ▷ m) ≡ some s
+          last = with-block taken m e .0 ∙ w .last
+
+          go : (suc k < n) ⊎ (n ≤ suc k) → Holds (cond (ltb (suc k) n) (Loading (suc (suc k))) Complete) s array' flash' (taken ▷ m)
+          go (inl g) =
+              rw (lt-ltb (suc k) n g)
+              (record {
+                below = g;
+                version = w .version;
+                size = w .size;
+                array-size = array-long;
+                room = rw flash-long (w .room);
+                carries = carried-on;
+                last = last;
+                since = since;
+                loaded = still-loaded;
+              })
+          go (inr g) =
+              let q : suc k ≡ n = let b = w .below in omega arith in
+              rw (le-ltb (suc k) n g)
+              (record {
+                version = w .version;
+                size = w .size;
+                room = rw flash-long (w .room);
+                carries = carried-on;
+                first = s;
+                last = last;
+                all = since ∙ q;
+                rooted = last-loaded q;
+              })
+
+    kept-block : kind m ≡ Block → BlockPassed H valid d flash m → Kept (acceptBlock d flash m) (taken ▷ m)
+    unfolding acceptBlock nextOf notLoading
+    kept-block e p = go (d .stage) refl (v .holds)
+      where
+        go : (t : Stage) → d .stage ≡ t → Holds t (d .manifest) (d .hashes) flash taken → Kept (acceptBlock d flash m) (taken ▷ m)
+        go Idle q w = absurd (true≢false (rw q at (p .loading)))
+        go (Loading zero) q w = absurd w
+        go (Loading (suc k)) q w =
+            rw q (record { same = v .same; long = flash-long k e (rw q at (p .long)) (rw q at (p .same)) w ∙ v .long; holds = next-stage k e (rw q at (p .long)) (rw q at (p .same)) w })
+        go Complete q w = absurd (true≢false (rw q at (p .loading)))
+
+    length-updated : UpdatePassed H valid d flash m → length (updated flash m) ≡ length flash
+    unfolding updated
+    length-updated p = go (updateNumber m) (p .turn)
+      where
+        long : length (updateBlock (manifestIn m .«block_len») m) ≡ manifestIn m .«block_len»
+        long = unfold updateBlock in length-take-le (manifestIn m .«block_len») (drop 51 m) (rw (length-drop 51 m) (omega (arith, p .long)))
+
+        go : (i : ℕ) → (0 < i) × (i ≤ countOf (manifestIn m)) → length (withBlock (manifestIn m .«block_len») flash i (updateBlock (manifestIn m .«block_len») m)) ≡ length flash
+        go zero t = absurd (omega arith)
+        go (suc i) t = length-with (manifestIn m .«block_len») (countOf (manifestIn m)) i flash (t .1) (p .room) (updateBlock (manifestIn m .«block_len») m) long
+
+    kept-update : kind m ≡ Update → UpdatePassed H valid d flash m → Kept (acceptUpdate d flash m) (taken ▷ m)
+    unfolding acceptUpdate notComplete
+    kept-update e p = go (d .stage) refl (v .holds)
+      where
+        go : (t : Stage) → d .stage ≡ t → Holds t (d .manifest) (d .hashes) flash taken → Kept (acceptUpdate d flash m) (taken ▷ m)
+        go Idle q w = absurd (true≢false (rw q at (p .complete)))
+        go (Loading i) q w = absurd (true≢false (rw q at (p .complete)))
+        go Complete q w =
+            let a = with-update taken m e in
+            record {
+              same = v .same;
+              long = length-updated p ∙ v .long;
+              holds = rw q
+                  (record {
+                    version = p .version;
+                    size = p .size;
+                    room = rw (length-updated p) (p .room);
+                    carries = record { carrier = m; last = a .2; manifest = refl; signed = rw (a .3) (rw (v .same) at (p .signed)) };
+                    first = w .first;
+                    last = a .0 ∙ w .last;
+                    all = a .1 ∙ w .all;
+                    rooted = p .rooted;
+                  });
+            }
+
+    pub kept : Passed H valid d flash m → Kept (accept (kind m) d flash m) (taken ▷ m)
+    unfolding accept
+    kept (took-program q p) = rw q (kept-program q p)
+    kept (took-block q p) = rw q (kept-block q p)
+    kept (took-update q p) = rw q (kept-update q p)
+
+  -- A device that has the invariant makes sense: refusal 1 never applies.
+  pub makes-sense : (total : ℕ) (d : Device) (flash : List ℕ) (taken : Messages) → Invariant total d flash taken → senseless d ≡ false
+  unfolding senseless badSize
+  makes-sense total d flash taken v = go (d .stage) refl (v .holds)
+    where
+      whole : wrongVersion (d .manifest) ≡ false → Sized (d .manifest .«block_len») (d .manifest .«image_len») → wrongVersion (d .manifest) || badSize (d .manifest) ≡ false
+      whole e z = rw (e, not-wrong (d .manifest .«block_len») (d .manifest .«image_len») z)
+
+      go : (t : Stage) → d .stage ≡ t → Holds t (d .manifest) (d .hashes) flash taken → senseless d ≡ false
+      go Idle q w = rw (q, senseless)
+      go (Loading zero) q w = absurd w
+      go (Loading (suc k)) q w = rw (q, senseless, whole (w .version) (w .size), outside-not (countOf (d .manifest)) (suc k) (λ e. omega arith) (w .below))
+      go Complete q w = rw (q, senseless, whole (w .version) (w .size))

@@ -1,0 +1,106 @@
+-- One message more: what it adds to a list, and what no list changes.
+use mathlib.Core.Path.{_≡_, refl, sym, ap, _∙_}
+use mathlib.Core.Bool.{Bool}
+use mathlib.Core.List.{List}
+use mathlib.Core.Option.{Option, none, some}
+use Prim.Native.Nat.{ℕ}
+use native.Mathlib.Omega.{arith}
+use Rattle.wire.specs.declared.kind.Kind.{Kind}
+use Rattle.wire.specs.declared.kind.Kind.the-variants.{Program, Block, Update, Unknown}
+use Rattle.wire.specs.declared.refusal.Refusal.{Refusal}
+use Rattle.wire.specs.Message.{kind}
+use Rattle.machine.specs.declared.state.Device.{Device}
+use Rattle.machine.specs.declared.state.Answer.the-variants.{Accepted, Refused}
+use Rattle.machine.specs.Device.{Situation}
+use Rattle.machine.specs.Step.{acceptProgram, acceptBlock, acceptUpdate, accept, outcome, refusalOf, step}
+use Rattle.guarantee.specs.Run.{Messages, empty, _▷_, after, answerTo, accepted}
+use Rattle.machine.specs.Answers.{answerOf}
+use Rattle.guarantee.specs.Demand3.{Calls}
+
+answer-none : (r : Option Refusal) → answerOf r ≡ Accepted → r ≡ none
+unfolding answerOf
+answer-none none e = refl
+answer-none (some x) e = absurd (let z : _≡_ {A = ℕ} 0 1 = cc in omega arith)
+
+answer-some : (r : Option Refusal) (x : Refusal) → answerOf r ≡ Refused x → r ≡ some x
+unfolding answerOf
+answer-some none x e = absurd (let z : _≡_ {A = ℕ} 0 1 = cc in omega arith)
+answer-some (some y) x e = cc
+
+accept-keeps : (k : Kind) (d : Device) (flash m : List ℕ) → (accept k d flash m .device .model ≡ d .model) × (accept k d flash m .device .key ≡ d .key)
+unfolding accept acceptProgram acceptBlock acceptUpdate
+accept-keeps Program d flash m = (refl, refl)
+accept-keeps Block d flash m = (refl, refl)
+accept-keeps Update d flash m = (refl, refl)
+accept-keeps Unknown d flash m = (refl, refl)
+
+module _ (H : List ℕ → List ℕ) (valid : (key message signature : List ℕ) → Bool) (d : Device) (flash : List ℕ) where
+  abbrev pub now : Messages → Situation
+  now ms = after (step H valid) d flash ms
+
+  abbrev pub taken : Messages → Messages
+  taken ms = accepted (step H valid) d flash ms
+
+  -- the refusal of m after the list
+  abbrev pub refusalAt : Messages → List ℕ → Option Refusal
+  refusalAt ms m = refusalOf H valid (now ms .device) (now ms .flash) m
+
+  module _ (ms : Messages) (m : List ℕ) where
+    pub answered : answerTo (step H valid) d flash ms m ≡ answerOf (refusalAt ms m)
+    unfolding answerTo step outcome answerOf
+    answered = go (refusalAt ms m)
+      where
+        go : (r : Option Refusal) → outcome r (now ms .device) (now ms .flash) (accept (kind m) (now ms .device) (now ms .flash) m) .answer ≡ answerOf r
+        go none = refl
+        go (some x) = refl
+
+    pub none-at : answerTo (step H valid) d flash ms m ≡ Accepted → refusalAt ms m ≡ none
+    none-at e = answer-none (refusalAt ms m) (sym answered ∙ e)
+
+    pub some-at : (r : Refusal) → answerTo (step H valid) d flash ms m ≡ Refused r → refusalAt ms m ≡ some r
+    some-at r e = answer-some (refusalAt ms m) r (sym answered ∙ e)
+
+    pub record More : Type 0 where
+      pub after-is : now (ms ▷ m) ≡ accept (kind m) (now ms .device) (now ms .flash) m
+      pub taken-is : taken (ms ▷ m) ≡ taken ms ▷ m
+
+    pub more : refusalAt ms m ≡ none → More
+    unfolding after accepted step outcome answerOf
+    more e = record { after-is = rw (e, outcome); taken-is = rw (answered ∙ ap answerOf e, accepted) }
+
+    pub record Same : Type 0 where
+      pub after-is : now (ms ▷ m) ≡ now ms
+      pub taken-is : taken (ms ▷ m) ≡ taken ms
+
+    pub same : (r : Refusal) → refusalAt ms m ≡ some r → Same
+    unfolding after accepted step outcome answerOf
+    same r e = record { after-is = rw (e, outcome); taken-is = rw (answered ∙ ap answerOf e, accepted) }
+
+  -- What an accepted message keeps, every list keeps.
+  module _ (P : Situation → Messages → Type 0)
+      (accepting : (ms : Messages) (m : List ℕ) → P (now ms) (taken ms) → refusalAt ms m ≡ none → P (accept (kind m) (now ms .device) (now ms .flash) m) (taken ms ▷ m)) where
+    one-more : (ms : Messages) (m : List ℕ) → P (now ms) (taken ms) → P (now (ms ▷ m)) (taken (ms ▷ m))
+    one-more ms m p = go (refusalAt ms m) refl
+      where
+        go : (r : Option Refusal) → refusalAt ms m ≡ r → P (now (ms ▷ m)) (taken (ms ▷ m))
+        go none e = let a = more ms m e in rw (a .after-is, a .taken-is) (accepting ms m p e)
+        go (some x) e = let a = same ms m x e in rw (a .after-is, a .taken-is) p
+
+    pub every-list : P (record { device = d; flash = flash }) empty → (ms : Messages) → P (now ms) (taken ms)
+    unfolding after accepted
+    every-list start empty = start
+    every-list start (ms ▷ m) = one-more ms m (every-list start ms)
+
+  keeps : (ms : Messages) → (now ms .device .model ≡ d .model) × (now ms .device .key ≡ d .key)
+  keeps ms =
+      every-list (λ s taken. (s .device .model ≡ d .model) × (s .device .key ≡ d .key))
+      (λ ms m p e. let a = accept-keeps (kind m) (now ms .device) (now ms .flash) m in (a .0 ∙ p .0, a .1 ∙ p .1)) (refl, refl) ms
+
+  pub calls : (ms : Messages) → Calls H valid (step H valid) d flash ms
+  calls ms =
+      record {
+        answers = λ m. answered ms m;
+        refused = λ m r e. same ms m r (some-at ms m r e) .after-is;
+        model = keeps ms .0;
+        key = keeps ms .1;
+      }

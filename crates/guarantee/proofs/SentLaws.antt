@@ -1,0 +1,82 @@
+-- What a device reads in the messages that the sender writes for a job.
+use mathlib.Core.Path.{_≡_, ap, _∙_}
+use mathlib.Core.List.{List, []}
+use Prim.Native.Nat.{ℕ, suc, _*_, _≤_, _<_}
+use native.Mathlib.Nat.{mul-le-mul-right}
+use native.Mathlib.Omega.{arith}
+use lib.ListN.{length}
+use Rattle.merkle.specs.Limits.{maxBlocks, hashLength}
+use Rattle.merkle.specs.Blocks.{blockCount}
+use Rattle.merkle.specs.Shape.{shape}
+use Rattle.merkle.specs.Frontier.{messageLength}
+use Rattle.merkle.specs.Held.{sent}
+use Rattle.merkle.proofs.HashLaws.{length-hash}
+use Rattle.merkle.proofs.RunLaws.{length-sent}
+use Rattle.wire.specs.declared.kind.Kind.the-variants.{Block}
+use Rattle.wire.specs.Manifest.{read, written}
+use Rattle.wire.specs.Image.{filled}
+use Rattle.wire.specs.Message.{kind, manifestBytes, manifestIn, numberIn, blockIn, hashesAfter}
+use Rattle.wire.proofs.SizeLaws.{Sized, sized}
+use Rattle.wire.proofs.ManifestLaws.{Fits, read-written}
+use Rattle.wire.proofs.ImageLaws.{length-filled, length-block}
+use Rattle.wire.proofs.MessageLaws.{of-block}
+use Rattle.sender.specs.Job.{Job, count, blocks, rootOf, manifestFor, blockFor}
+use Rattle.guarantee.specs.Demand3.{Sendable}
+
+module _ (H : List ℕ → List ℕ) (hash-long : (x : List ℕ) → length (H x) ≡ hashLength) (job : Job) (ok : Sendable job) where
+  pub job-sized : Sized (job .block) (length (job .image))
+  job-sized = sized (job .block) (length (job .image)) (ok .size)
+
+  pub count-some : 0 < count job
+  unfolding count
+  count-some = job-sized .first
+
+  pub count-most : count job ≤ maxBlocks
+  unfolding count
+  count-most = job-sized .count
+
+  pub job-length : length (filled (job .block) (job .image)) ≡ count job * job .block
+  unfolding count
+  job-length = length-filled (job .block) (job .image) job-sized
+
+  pub block-length : (j : ℕ) → j < count job → length (blocks job j) ≡ job .block
+  unfolding count blocks
+  block-length j h = length-block (job .block) (job .image) job-sized j h
+
+  pub root-long : length (manifestFor H job .root) ≡ hashLength
+  unfolding manifestFor rootOf
+  root-long = length-hash H [] [] hash-long (blocks job) 0 (shape (count job))
+
+  manifest-fits : Fits (manifestFor H job)
+  unfolding manifestFor
+  manifest-fits =
+      let z = job-sized in
+      let m : blockCount (job .block) (length (job .image)) * job .block ≤ maxBlocks * job .block = mul-le-mul-right (job .block) (z .count) in
+      record { version = omega arith; «block_len» = omega arith; model = ok .model; serial = ok .serial; «image_len» = omega arith; root = root-long }
+
+  -- a message with exactly the job's manifest
+  pub manifest-is : (m : List ℕ) → manifestBytes m ≡ written (manifestFor H job) → manifestIn m ≡ manifestFor H job
+  unfolding manifestIn
+  manifest-is m e = ap read e ∙ read-written (manifestFor H job) manifest-fits
+
+  -- the sender's message of block j + 1
+  pub record Sent (j : ℕ) (m : List ℕ) : Type 0 where
+    pub is : kind m ≡ Block
+    pub number : numberIn m ≡ suc j
+    pub block : blockIn (job .block) m ≡ blocks job j
+    pub after : hashesAfter (job .block) m ≡ sent H [] [] (count job) (blocks job) j
+    pub size : length m ≡ messageLength (job .block) (count job) (suc j)
+
+  pub block-sent : (j : ℕ) → j < count job → Sent j (blockFor H job (suc j))
+  unfolding blockFor messageLength
+  block-sent j h =
+      let most = count-most in
+      let long = block-length j h in
+      let r = of-block (suc j) (omega arith) (blocks job j) (sent H [] [] (count job) (blocks job) j) in
+      record {
+        is = r .is;
+        number = r .number;
+        block = rw long at (r .blocks);
+        after = rw long at (r .after);
+        size = r .size ∙ omega (arith, length-sent H [] [] hash-long (count job) (blocks job) j);
+      }

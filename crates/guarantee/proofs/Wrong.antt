@@ -1,0 +1,335 @@
+-- Wrong devices, each with the part of demand 3 that it breaks: by runs that compute, with a toy hash function and a toy verdict.
+use mathlib.Core.Path.{_≡_, refl, sym, ap, _∙_}
+use mathlib.Core.Bool.{Bool, true, false, cond, true≢false, false≢true}
+use mathlib.Core.List.{List, [], _∷_, _++_}
+use mathlib.Core.Option.{none, some}
+use Prim.Native.Nat.{ℕ, suc}
+use native.Mathlib.Omega.{arith}
+use lib.Dec.{ltb, lit<}
+use lib.ListN.{length, take, drop, replicate, length-append, length-replicate}
+use lib.Seq.{length-take-le}
+use Rattle.octets.specs.Octets.{bytes, number, equal}
+use Rattle.octets.proofs.EqualLaws.{equal-self}
+use Rattle.merkle.specs.Limits.{hashLength, heldBytes}
+use Rattle.merkle.specs.Blocks.{blockCount, cut}
+use Rattle.merkle.specs.Shape.{size, leastFrom, depth, split, build, shape}
+use Rattle.merkle.specs.Hash.{hash, hashes, climbFrom, climb}
+use Rattle.merkle.specs.Frontier.{largest, rightSiblings, siblings, carried, messageLength, frontier, held}
+use Rattle.merkle.specs.Held.{joined, hashesIn, heldStart, heldIn, nextHeld, begun, advanced, fits, sent}
+use Rattle.wire.specs.declared.kind.Kind.the-variants.{Program, Block, Update, Unknown}
+use Rattle.wire.specs.declared.manifest.Manifest.{Manifest}
+use Rattle.wire.specs.declared.refusal.Refusal.the-variants as refusal
+use Rattle.wire.specs.Refusal.{firstThatApplies}
+use Rattle.wire.specs.Size.{allowedLength, wrongSize, outside}
+use Rattle.wire.specs.Manifest.{written, read}
+use Rattle.wire.specs.Image.{filled, imageBlocks}
+use Rattle.wire.specs.Message.{kind, programMessage, blockMessage, updateMessage, manifestBytes, manifestIn, programSignature, numberIn, blockIn, hashesAfter, updateNumber, updateBlock, updateSignature}
+use Rattle.sender.specs.Job.{Job, count, blocks, rootOf, manifestFor, programFor, blockFor, updateFor}
+use Rattle.machine.specs.declared.state.Stage.the-variants.{Idle, Loading, Complete}
+use Rattle.machine.specs.declared.state.Device.{Device}
+use Rattle.machine.specs.declared.state.Answer.the-variants.{Accepted, Refused}
+use Rattle.machine.specs.Device.{countOf, Fresh, serialOf, heldBy, Situation, Outcome}
+use Rattle.machine.specs.Refusals.{ofManifest, wrongVersion, badSize, senseless, noKind, leastLength, short, otherModel, notNewer, tooSmall, notLoading, notComplete, nextOf, notNext, wrongLength, unlike, withBlock, updated, treeOver, mismatch, lacksRoot, unsigned, always, ofProgram, ofBlock, ofUpdate, ofKind, refusals}
+use Rattle.machine.specs.Step.{acceptProgram, stageAfter, acceptBlock, acceptUpdate, accept, outcome, refusalOf, step}
+use Rattle.guarantee.specs.Run.{Messages, empty, _▷_, after, answerTo, accepted, lastProgram, blocksSince, lastCarrier, signatureIn, Completed}
+use Rattle.machine.specs.Answers.{answerOf}
+use Rattle.guarantee.specs.Demand3.{thenBlocks, Calls, FirstHalf, Begun, begin, next, SecondHalf, Demand3}
+use Rattle.guarantee.proofs.Demand3Holds.{demand3-for}
+
+abbrev Step : Type 0
+Step = Device → List ℕ → List ℕ → Outcome
+
+-- a toy hash of 32 bytes, in which of two hashes the right one counts; every signature valid, or none
+toy : List ℕ → List ℕ
+toy x = 1 ∷ take 31 (drop 32 x ++ replicate 31 0)
+
+any : (key message signature : List ℕ) → Bool
+any k m s = true
+
+nobody : (key message signature : List ℕ) → Bool
+nobody k m s = false
+
+-- an image of two blocks of 64 bytes, and its successor, with another second block
+job : Job
+job = record { image = replicate 128 3; block = 64; model = 7; serial = 1 }
+
+newer : Job
+newer = record { image = replicate 64 3 ++ replicate 64 4; block = 64; model = 7; serial = 2 }
+
+fresh : Device
+fresh = record { model = 7; key = []; stage = Idle; manifest = record { version = 0; «block_len» = 0; model = 0; serial = 0; «image_len» = 0; root = [] }; hashes = replicate heldBytes 0 }
+
+flash : List ℕ
+flash = replicate 130 5
+
+program : List ℕ
+program = programFor toy job []
+
+-- the device as it should be; one that accepts without a look; one that refuses
+right : Step
+right = step toy any
+
+taking : Step
+taking d f m = outcome none d f (accept (kind m) d f m)
+
+refusing : Step
+refusing d f m = outcome (some refusal.State) d f (record { device = d; flash = f })
+
+-- an outcome with another device; a device with a step for each kind
+but : Outcome → Device → Outcome
+but o d = record { answer = o .answer; device = d; flash = o .flash }
+
+byKind : Step → Step → Step → Step
+byKind p b u d f m = elim (kind m) [ Program ↦ p d f m | Block ↦ b d f m | Update ↦ u d f m | Unknown ↦ right d f m ]
+
+-- What the runs compute with, by layer: to unfold the last is to unfold all.
+tree-computes : ℕ
+unfolding blockCount cut size leastFrom depth split build shape hash hashes climbFrom climb largest rightSiblings siblings carried messageLength frontier held joined hashesIn heldStart heldIn nextHeld begun advanced fits sent
+tree-computes = 0
+
+wire-computes : ℕ
+unfolding bytes number equal firstThatApplies allowedLength wrongSize outside written read filled imageBlocks kind programMessage blockMessage updateMessage manifestBytes manifestIn programSignature numberIn blockIn hashesAfter updateNumber updateBlock updateSignature
+wire-computes = 0
+
+sender-computes : ℕ
+unfolding count blocks rootOf manifestFor programFor blockFor updateFor
+sender-computes = 0
+
+refusals-compute : ℕ
+unfolding countOf serialOf wrongVersion badSize senseless noKind leastLength short otherModel notNewer tooSmall notLoading notComplete nextOf notNext wrongLength unlike treeOver mismatch lacksRoot unsigned always ofManifest ofProgram ofBlock ofUpdate ofKind refusals refusalOf
+refusals-compute = 0
+
+run-computes : ℕ
+unfolding heldBy withBlock updated acceptProgram stageAfter acceptBlock acceptUpdate accept outcome step after answerTo accepted lastProgram blocksSince lastCarrier signatureIn answerOf thenBlocks
+run-computes = 0
+
+computing : ℕ
+unfolding tree-computes wire-computes sender-computes refusals-compute run-computes toy any nobody job newer fresh flash program right taking refusing but byKind
+computing = 0
+
+abbrev loaded : Messages
+loaded = empty ▷ program ▷ blockFor toy job 1 ▷ blockFor toy job 2
+
+-- the right device in these runs: complete, and the update taken
+right-runs : (after right fresh flash loaded .device .stage ≡ Complete)
+    × (after right fresh flash loaded .flash ≡ replicate 128 3 ++ (5 ∷ 5 ∷ []))
+    × (answerTo right fresh flash loaded (updateFor toy newer 2 []) ≡ Accepted)
+    × (answerTo right fresh flash (empty ▷ program ▷ blockFor toy job 1) (blockFor toy newer 2) ≡ Refused refusal.Mismatch)
+unfolding computing
+right-runs = (refl, refl, refl, refl)
+
+-- A complete device whose tree lacks its manifest's root.
+unrooted : (wrong : Step) (ms : Messages) → Completed (accepted wrong fresh flash ms)
+    → equal (treeOver toy (after wrong fresh flash ms .device .manifest) (after wrong fresh flash ms .flash)) (after wrong fresh flash ms .device .manifest .root) ≡ false
+    → FirstHalf toy any wrong fresh flash ms → ⊥
+unrooted wrong ms c e h =
+    let r = h .bound c .rooted in
+    true≢false (sym (equal-self (after wrong fresh flash ms .device .manifest .root)) ∙ ap (λ x. equal x (after wrong fresh flash ms .device .manifest .root)) (sym r) ∙ e)
+
+-- It checks block 1 and merely steps on for later ones.
+careless : Step
+careless = byKind right (λ d f m. cond (ltb 1 (nextOf (d .stage))) (taking d f m) (right d f m)) right
+
+careless-list : Messages
+careless-list = empty ▷ program ▷ blockFor toy job 1 ▷ blockFor toy newer 2
+
+careless-caught : FirstHalf toy any careless fresh flash careless-list → ⊥
+unfolding computing careless careless-list
+careless-caught = unrooted careless careless-list (record { manifest = manifestFor toy job; last = refl; all = refl }) refl
+
+-- It does not compare an update's root.
+blind : Step
+blind = byKind right right taking
+
+blind-caught : FirstHalf toy any blind fresh flash (loaded ▷ updateFor toy newer 1 []) → ⊥
+unfolding computing blind
+blind-caught = unrooted blind (loaded ▷ updateFor toy newer 1 []) (record { manifest = manifestFor toy job; last = refl; all = refl }) refl
+
+-- Its manifest is not the last accepted message's.
+other-serial : (wrong : Step) (ms : Messages) (m : List ℕ) → lastCarrier (accepted wrong fresh flash ms) ≡ some m
+    → (after wrong fresh flash ms .device .manifest .serial ≡ manifestIn m .serial → ⊥) → FirstHalf toy any wrong fresh flash ms → ⊥
+other-serial wrong ms m c n h = n (ap (λ (s : Manifest). s .serial) (h .manifest m c))
+
+-- It keeps the old manifest when it takes an update.
+keeping : Step
+keeping = byKind right right (λ d f m. but (right d f m) d)
+
+keeping-caught : FirstHalf toy any keeping fresh flash (loaded ▷ updateFor toy newer 2 []) → ⊥
+unfolding computing keeping
+keeping-caught = other-serial keeping (loaded ▷ updateFor toy newer 2 []) (updateFor toy newer 2 []) refl (λ (e : _≡_ {A = ℕ} 1 2). omega arith)
+
+-- It forgets the serial while it loads, so that older programs are taken again.
+without-serial : Manifest → Manifest
+without-serial s = record { version = s .version; «block_len» = s .«block_len»; model = s .model; serial = 0; «image_len» = s .«image_len»; root = s .root }
+
+forgetting : Step
+forgetting = byKind (λ d f m. but (right d f m) (record { model = d .model; key = d .key; stage = Loading 1; manifest = without-serial (manifestIn m); hashes = begun (manifestIn m .root) })) right right
+
+forgetting-caught : FirstHalf toy any forgetting fresh flash (empty ▷ program) → ⊥
+unfolding computing forgetting without-serial
+forgetting-caught = other-serial forgetting (empty ▷ program) program refl (λ (e : _≡_ {A = ℕ} 0 1). omega arith)
+
+-- It stays idle after a manifest, so that older serials are taken next.
+idling : Step
+idling = byKind (λ d f m. but (right d f m) (record { model = d .model; key = d .key; stage = Idle; manifest = manifestIn m; hashes = begun (manifestIn m .root) })) right right
+
+idling-caught : FirstHalf toy any idling fresh flash (empty ▷ program) → ⊥
+unfolding computing idling
+idling-caught h =
+    let e : Idle ≡ Loading 1 = h .loading (manifestFor toy job) refl (lit< tt) in
+    let z : _≡_ {A = ℕ} 0 1 = cc in
+    omega arith
+
+-- It is complete after the first block.
+early : Step
+early = byKind right (λ d f m. but (right d f m) (record { model = d .model; key = d .key; stage = Complete; manifest = d .manifest; hashes = d .hashes })) right
+
+early-list : Messages
+early-list = empty ▷ program ▷ blockFor toy job 1
+
+early-runs : (after early fresh flash early-list .device .stage ≡ Complete) × (blocksSince (accepted early fresh flash early-list) ≡ 1)
+    × (lastProgram (accepted early fresh flash early-list) ≡ some (manifestFor toy job)) × (countOf (manifestFor toy job) ≡ 2)
+unfolding computing early early-list
+early-runs = (refl, refl, refl, refl)
+
+early-caught : FirstHalf toy any early fresh flash early-list → ⊥
+early-caught h =
+    let r = early-runs in
+    let c = h .exactly .0 (r .0) in
+    let l = c .last in
+    let q : c .manifest ≡ manifestFor toy job = let k = r .2 in cc in
+    let z : _≡_ {A = ℕ} 1 2 = sym (r .1) ∙ c .all ∙ ap countOf q ∙ r .3 in
+    omega arith
+
+-- It is never complete.
+endless : Step
+endless d f m =
+    let o = right d f m in
+    elim (o .device .stage) [ Idle ↦ o | Loading i ↦ o | Complete ↦ but o d ]
+
+endless-caught : FirstHalf toy any endless fresh flash loaded → ⊥
+unfolding computing endless
+endless-caught h =
+    let e : Loading 2 ≡ Complete = h .exactly .1 (record { manifest = manifestFor toy job; last = refl; all = refl }) in
+    let z : _≡_ {A = ℕ} 0 1 = cc in
+    omega arith
+
+-- It accepts everything.
+trusting-caught : FirstHalf toy nobody taking fresh flash loaded → ⊥
+unfolding computing
+trusting-caught h = false≢true (h .bound (record { manifest = manifestFor toy job; last = refl; all = refl }) .signed)
+
+-- The honest run of the job, as far as the wrong device takes the manifest.
+begun-by : (wrong : Step) → answerTo wrong fresh flash empty program ≡ Accepted → Begun toy any wrong fresh flash job empty program
+unfolding computing
+begun-by wrong e = record { sendable = record { size = refl; model = lit< tt; serial = lit< tt }; program = refl; carries = refl; taken = e }
+
+-- It takes manifests and refuses each block.
+deaf : Step
+deaf = byKind right refusing right
+
+deaf-caught : SecondHalf toy any deaf fresh flash (empty ▷ program ▷ blockFor toy job 1) → ⊥
+unfolding computing deaf
+deaf-caught h =
+    let r = h .loads job empty program 1 (begun-by deaf refl) (next (lit< tt) begin) .all in
+    let z : _≡_ {A = ℕ} 0 1 = ap blocksSince r in
+    omega arith
+
+-- It answers as it should, and leaves state and flash untouched.
+still : Step
+still d f m = record { answer = right d f m .answer; device = d; flash = f }
+
+still-caught : SecondHalf toy any still fresh flash (empty ▷ program) → ⊥
+unfolding computing still
+still-caught h =
+    let r = h .loads job empty program 0 (begun-by still refl) begin .held in
+    let z : _≡_ {A = ℕ} 0 1 = ap (λ (l : List (List ℕ)). length l) r in
+    omega arith
+
+-- It does not put the message's hashes in the place of the held one.
+hoarding : Step
+hoarding = byKind right (λ d f m. but (right d f m) (record { model = d .model; key = d .key; stage = stageAfter 2 (nextOf (d .stage)); manifest = d .manifest; hashes = d .hashes })) right
+
+hoarding-caught : SecondHalf toy any hoarding fresh flash (empty ▷ program ▷ blockFor toy job 1) → ⊥
+unfolding computing hoarding
+hoarding-caught h =
+    let r = h .loads job empty program 1 (begun-by hoarding refl) (next (lit< tt) begin) .held in
+    let z : _≡_ {A = ℕ} 1 3 = ap (λ (l : List (List ℕ)). number (take 1 (drop 1 (joined l)))) r in
+    omega arith
+
+-- It holds a number of hashes that is not the tree's: its next number runs ahead.
+skipping : Step
+skipping = byKind right (λ d f m. but (right d f m) (record { model = d .model; key = d .key; stage = Loading 3; manifest = d .manifest; hashes = right d f m .device .hashes })) right
+
+skipping-caught : SecondHalf toy any skipping fresh flash (empty ▷ program ▷ blockFor toy job 1) → ⊥
+unfolding computing skipping
+skipping-caught h =
+    let r = h .loads job empty program 1 (begun-by skipping refl) (next (lit< tt) begin) .held in
+    let z : _≡_ {A = ℕ} 0 1 = ap (λ (l : List (List ℕ)). length l) r in
+    omega arith
+
+-- It refuses every manifest.
+closed : Step
+closed = byKind refusing right right
+
+closed-caught : Calls toy any closed fresh flash empty → ⊥
+unfolding computing closed
+closed-caught h =
+    let e : Refused refusal.State ≡ Accepted = h .answers program in
+    let z : _≡_ {A = ℕ} 0 1 = cc in
+    omega arith
+
+-- It writes an updated block before its root agrees.
+hasty : Step
+hasty = byKind right right (λ d f m. let o = right d f m in record { answer = o .answer; device = o .device; flash = updated f m })
+
+hasty-caught : Calls toy any hasty fresh flash loaded → ⊥
+unfolding computing hasty
+hasty-caught h =
+    let r = h .refused (updateMessage (manifestFor toy newer) 1 (replicate 64 9) []) refusal.Mismatch refl in
+    let z : _≡_ {A = ℕ} 9 3 = ap (λ (s : Situation). number (take 1 (s .flash))) r in
+    omega arith
+
+-- None of them meets demand 3; the right device does, with the same hash function and verdict.
+is-fresh : Fresh fresh
+unfolding computing
+is-fresh = record { idle = refl; array = refl }
+
+toy-long : (x : List ℕ) → length (toy x) ≡ hashLength
+unfolding toy
+toy-long x = ap suc (length-take-le 31 (drop 32 x ++ replicate 31 0) (omega (arith, length-append (drop 32 x) (replicate 31 0), length-replicate {A = ℕ} 31 0)))
+
+meets : Demand3 toy any right
+unfolding right
+meets = demand3-for toy toy-long any
+
+none-meets : (Demand3 toy any careless → ⊥)
+    × (Demand3 toy any blind → ⊥)
+    × (Demand3 toy any keeping → ⊥)
+    × (Demand3 toy any forgetting → ⊥)
+    × (Demand3 toy any idling → ⊥)
+    × (Demand3 toy any early → ⊥)
+    × (Demand3 toy any endless → ⊥)
+    × (Demand3 toy nobody taking → ⊥)
+    × (Demand3 toy any deaf → ⊥)
+    × (Demand3 toy any still → ⊥)
+    × (Demand3 toy any hoarding → ⊥)
+    × (Demand3 toy any skipping → ⊥)
+    × (Demand3 toy any closed → ⊥)
+    × (Demand3 toy any hasty → ⊥)
+none-meets = (
+  λ c. careless-caught (c fresh is-fresh flash _ .first),
+  λ c. blind-caught (c fresh is-fresh flash _ .first),
+  λ c. keeping-caught (c fresh is-fresh flash _ .first),
+  λ c. forgetting-caught (c fresh is-fresh flash _ .first),
+  λ c. idling-caught (c fresh is-fresh flash _ .first),
+  λ c. early-caught (c fresh is-fresh flash _ .first),
+  λ c. endless-caught (c fresh is-fresh flash _ .first),
+  λ c. trusting-caught (c fresh is-fresh flash _ .first),
+  λ c. deaf-caught (c fresh is-fresh flash _ .second),
+  λ c. still-caught (c fresh is-fresh flash _ .second),
+  λ c. hoarding-caught (c fresh is-fresh flash _ .second),
+  λ c. skipping-caught (c fresh is-fresh flash _ .second),
+  λ c. closed-caught (c fresh is-fresh flash _ .calls),
+  λ c. hasty-caught (c fresh is-fresh flash _ .calls),
+)

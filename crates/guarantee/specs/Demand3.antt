@@ -1,0 +1,134 @@
+-- Demand 3, of any device: for any hash function H, any verdict on signatures, and any step of the device.
+use mathlib.Core.Path.{_≡_}
+use mathlib.Core.Logic.{_⊎_, _↔_}
+use mathlib.Core.Bool.{Bool, true, false}
+use mathlib.Core.List.{List, [], _++_}
+use mathlib.Core.Option.{none, some}
+use Prim.Native.Nat.{ℕ, zero, suc, _*_, _^_, max, _≤_, _<_}
+use lib.ListN.{length, take, drop}
+use Rattle.merkle.specs.Blocks.{cut}
+use Rattle.merkle.specs.Shape.{shape, depth}
+use Rattle.merkle.specs.Hash.{hashes, Collision}
+use Rattle.merkle.specs.Frontier.{frontier}
+use Rattle.wire.specs.declared.kind.Kind.the-variants.{Program}
+use Rattle.wire.specs.declared.manifest.Manifest.{Manifest}
+use Rattle.wire.specs.declared.refusal.Refusal.{Refusal}
+use Rattle.wire.specs.Size.{wrongSize}
+use Rattle.wire.specs.Manifest.{written}
+use Rattle.wire.specs.Image.{filled, imageBlocks}
+use Rattle.wire.specs.Message.{kind, manifestBytes, manifestIn}
+use Rattle.sender.specs.Job.{Job, count, blocks, manifestFor, blockFor}
+use Rattle.machine.specs.declared.state.Stage.the-variants.{Idle, Loading, Complete}
+use Rattle.machine.specs.declared.state.Device.{Device}
+use Rattle.machine.specs.declared.state.Answer.{Answer}
+use Rattle.machine.specs.declared.state.Answer.the-variants.{Accepted, Refused}
+use Rattle.machine.specs.Device.{countOf, Fresh, heldBy, Outcome}
+use Rattle.machine.specs.Refusals.{treeOver}
+use Rattle.machine.specs.Step.{refusalOf}
+use Rattle.machine.specs.Answers.{answerOf}
+use Rattle.guarantee.specs.Run.{Messages, _▷_, after, answerTo, accepted, lastProgram, blocksSince, lastCarrier, signatureIn, Completed}
+
+-- The sender writes a manifest for the job: it does not refuse 5, and model and serial have four bytes.
+pub record Sendable (job : Job) : Type 0 where
+  pub size : wrongSize (job .block) (length (job .image)) ≡ false
+  pub model : job .model < 2 ^ 32
+  pub serial : job .serial < 2 ^ 32
+
+-- the list, and after it the sender's block messages from 1 to j
+unfoldable pub thenBlocks : (List ℕ → List ℕ) → Job → Messages → ℕ → Messages
+thenBlocks H job ms zero = ms
+thenBlocks H job ms (suc j) = thenBlocks H job ms j ▷ blockFor H job (suc j)
+
+module _ (H : List ℕ → List ℕ) (valid : (key message signature : List ℕ) → Bool) (step : Device → List ℕ → List ℕ → Outcome) (d : Device) (flash : List ℕ) where
+  -- device, flash and accepted messages after a list, and the answer to one message more
+  abbrev deviceAfter : Messages → Device
+  deviceAfter ms = after step d flash ms .device
+
+  abbrev flashAfter : Messages → List ℕ
+  flashAfter ms = after step d flash ms .flash
+
+  abbrev acceptedOf : Messages → Messages
+  acceptedOf ms = accepted step d flash ms
+
+  abbrev answer : Messages → List ℕ → Answer
+  answer ms m = answerTo step d flash ms m
+
+  -- One message more after a list.
+  pub record Calls (ms : Messages) : Type 0 where
+    -- "Accepted: .. exactly where none of the drive's refusals .. applies"; and otherwise it gets its refusal number
+    pub answers : (m : List ℕ) → answer ms m ≡ answerOf (refusalOf H valid (deviceAfter ms) (flashAfter ms) m)
+    -- "a refused one leaves both as they were"
+    pub refused : (m : List ℕ) (r : Refusal) → answer ms m ≡ Refused r → after step d flash (ms ▷ m) ≡ after step d flash ms
+    -- "no call changes model or key"
+    pub model : deviceAfter ms .model ≡ d .model
+    pub key : deviceAfter ms .key ≡ d .key
+
+  -- A device that is complete with manifest s, and its flash f.
+  pub record Bound (taken : Messages) (s : Manifest) (f : List ℕ) : Type 0 where
+    pub carrier : List ℕ
+    pub last : lastCarrier taken ≡ some carrier
+    -- "signed means that this message's signature over it is valid under the drive's key"
+    pub signed : valid (d .key) (manifestBytes carrier) (signatureIn carrier) ≡ true
+    -- "the tree over its area has the slip's root", and the area has all of that tree's blocks
+    pub room : countOf s * s .«block_len» ≤ length f
+    pub rooted : treeOver H s f ≡ s .root
+    -- "every image of the same length .. with that root": "filled, it equals the start of the area, or at one place its tree's hash input and the area's differ
+    -- and have the same SHA-256"
+    pub image : (x : List ℕ) → length x ≡ s .«image_len» → treeOver H s (filled (s .«block_len») x) ≡ s .root
+        → (filled (s .«block_len») x ≡ take (length (filled (s .«block_len») x)) f) ⊎ Collision H [] [] (imageBlocks (s .«block_len») x) (cut (s .«block_len») f) 0 (shape (countOf s))
+
+  -- The first half.
+  pub record FirstHalf (ms : Messages) : Type 0 where
+    -- "The drive's slip is that of the last accepted message that carries one"
+    pub manifest : (m : List ℕ) → lastCarrier (acceptedOf ms) ≡ some m → deviceAfter ms .manifest ≡ manifestIn m
+    -- "The stage is complete exactly then." Before, it is idle while no kind 1 was accepted, and then loading, with the number after the accepted blocks.
+    pub exactly : (deviceAfter ms .stage ≡ Complete) ↔ Completed (acceptedOf ms)
+    pub idle : lastProgram (acceptedOf ms) ≡ none → deviceAfter ms .stage ≡ Idle
+    pub loading : (s : Manifest) → lastProgram (acceptedOf ms) ≡ some s → blocksSince (acceptedOf ms) < countOf s
+        → deviceAfter ms .stage ≡ Loading (suc (blocksSince (acceptedOf ms)))
+    -- "The area is one throughout"
+    pub one : length (flashAfter ms) ≡ length flash
+    pub bound : Completed (acceptedOf ms) → Bound (acceptedOf ms) (deviceAfter ms .manifest) (flashAfter ms)
+
+  -- "an accepted kind 1 carried exactly the slip that demand 2 has the sender write for an image": message m, after the messages `before`
+  pub record Begun (job : Job) (before : Messages) (m : List ℕ) : Type 0 where
+    pub sendable : Sendable job
+    pub program : kind m ≡ Program
+    pub carries : manifestBytes m ≡ written (manifestFor H job)
+    pub taken : answer before m ≡ Accepted
+
+  -- "After it the sender's block messages for the same image and values stand in the list in order, from 1 up to some j, j from 0 to n, and every other message
+  -- after that slip was refused."
+  pub data Honest (job : Job) (before : Messages) (m : List ℕ) : ℕ → Messages → Type 0 where
+    begin : Honest job before m 0 (before ▷ m)
+    next : {j : ℕ} {ms : Messages} → j < count job → Honest job before m j ms → Honest job before m (suc j) (ms ▷ blockFor H job (suc j))
+    other : {j : ℕ} {ms : Messages} (x : List ℕ) (r : Refusal) → answer ms x ≡ Refused r → Honest job before m j ms → Honest job before m j (ms ▷ x)
+
+  -- "For j = n the stage is then complete with this slip, the area begins with the filled image, and its bytes beyond are as when the slip came", and no hash is held.
+  pub record Loaded (job : Job) (before : Messages) (ms : Messages) : Type 0 where
+    pub stage : deviceAfter ms .stage ≡ Complete
+    pub manifest : deviceAfter ms .manifest ≡ manifestFor H job
+    pub none-held : heldBy (deviceAfter ms) ≡ []
+    pub image : flashAfter ms ≡ filled (job .block) (job .image) ++ drop (count job * job .block) (flashAfter before)
+
+  pub record Loads (job : Job) (before : Messages) (m : List ℕ) (j : ℕ) (ms : Messages) : Type 0 where
+    -- "Then all j were accepted": since the manifest these, and nothing else
+    pub all : acceptedOf ms ≡ thenBlocks H job (acceptedOf before ▷ m) j
+    -- "the labels held are those of the image's tree at the subtrees named above for i = j"
+    pub held : heldBy (deviceAfter ms) ≡ hashes H [] [] (blocks job) (frontier 0 (shape (count job)) j)
+    -- "never more labels were held than the tree's depth, or one at depth 0"
+    pub few : length (heldBy (deviceAfter ms)) ≤ max 1 (depth (count job))
+    pub done : j ≡ count job → Loaded job before ms
+
+  -- The second half: the honest run. "This counts for each beginning of a list as well": it is said of every list, and a beginning is one.
+  pub record SecondHalf (ms : Messages) : Type 0 where
+    pub loads : (job : Job) (before : Messages) (m : List ℕ) (j : ℕ) → Begun job before m → Honest job before m j ms → Loads job before m j ms
+
+  pub record Claim (ms : Messages) : Type 0 where
+    pub calls : Calls ms
+    pub first : FirstHalf ms
+    pub second : SecondHalf ms
+
+-- "It starts from a fresh drive with any model and key, and an area of any length and content": every list of messages, "the empty one included".
+abbrev pub Demand3 : (H : List ℕ → List ℕ) (valid : (key message signature : List ℕ) → Bool) (step : Device → List ℕ → List ℕ → Outcome) → Type 0
+Demand3 H valid step = (d : Device) → Fresh d → (flash : List ℕ) (ms : Messages) → Claim H valid step d flash ms

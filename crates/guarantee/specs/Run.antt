@@ -1,0 +1,58 @@
+-- Lists of messages, and what a device makes of them (01, 'The list that demand 3 speaks of').
+use mathlib.Core.Path.{_≡_}
+use mathlib.Core.List.{List, []}
+use mathlib.Core.Option.{Option, none, some}
+use Prim.Native.Nat.{ℕ, suc}
+use Rattle.wire.specs.declared.kind.Kind.the-variants.{Program, Block, Update, Unknown}
+use Rattle.wire.specs.declared.manifest.Manifest.{Manifest}
+use Rattle.wire.specs.Message.{kind, manifestIn, programSignature, updateSignature}
+use Rattle.machine.specs.declared.state.Device.{Device}
+use Rattle.machine.specs.declared.state.Answer.{Answer}
+use Rattle.machine.specs.declared.state.Answer.the-variants.{Accepted, Refused}
+use Rattle.machine.specs.Device.{countOf, Situation, Outcome}
+
+-- A list as it grows: empty, or a beginning of it and one message more.
+infixl 25 _▷_
+pub data Messages : Type 0 where
+  empty : Messages
+  _▷_ : Messages → List ℕ → Messages
+
+-- "Each message, of any kind or none, goes with the state that the call before it returned and the area that it left", from device d and its flash on.
+module _ (step : Device → List ℕ → List ℕ → Outcome) (d : Device) (flash : List ℕ) where
+  unfoldable pub after : Messages → Situation
+  after empty = record { device = d; flash = flash }
+  after (ms ▷ m) = let o = step (after ms .device) (after ms .flash) m in record { device = o .device; flash = o .flash }
+
+  -- the answer to one message more
+  unfoldable pub answerTo : Messages → List ℕ → Answer
+  answerTo ms m = step (after ms .device) (after ms .flash) m .answer
+
+  -- "Accepted: the call gave no refusal number": the messages of the list that were
+  unfoldable pub accepted : Messages → Messages
+  accepted empty = empty
+  accepted (ms ▷ m) = elim (answerTo ms m) [ Accepted ↦ accepted ms ▷ m | Refused r ↦ accepted ms ]
+
+-- Of a list of accepted messages: the manifest of the last kind 1,
+unfoldable pub lastProgram : Messages → Option Manifest
+lastProgram empty = none
+lastProgram (ms ▷ m) = elim (kind m) [ Program ↦ some (manifestIn m) | Block ↦ lastProgram ms | Update ↦ lastProgram ms | Unknown ↦ lastProgram ms ]
+
+-- how many kind 2 came since that,
+unfoldable pub blocksSince : Messages → ℕ
+blocksSince empty = 0
+blocksSince (ms ▷ m) = elim (kind m) [ Program ↦ 0 | Block ↦ suc (blocksSince ms) | Update ↦ blocksSince ms | Unknown ↦ blocksSince ms ]
+
+-- and the last message that carries a manifest.
+unfoldable pub lastCarrier : Messages → Option (List ℕ)
+lastCarrier empty = none
+lastCarrier (ms ▷ m) = elim (kind m) [ Program ↦ some m | Block ↦ lastCarrier ms | Update ↦ some m | Unknown ↦ lastCarrier ms ]
+
+-- the signature of a message that carries a manifest
+unfoldable pub signatureIn : List ℕ → List ℕ
+signatureIn m = elim (kind m) [ Program ↦ programSignature m | Block ↦ [] | Update ↦ updateSignature (manifestIn m .«block_len») m | Unknown ↦ [] ]
+
+-- "Complete: the list has an accepted kind 1, and since the last of these as many kind 2 messages were accepted as its slip has blocks."
+pub record Completed (taken : Messages) : Type 0 where
+  pub manifest : Manifest
+  pub last : lastProgram taken ≡ some manifest
+  pub all : blocksSince taken ≡ countOf manifest

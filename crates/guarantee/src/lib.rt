@@ -1,0 +1,1 @@
+// What is guaranteed of every list of messages (01, demand 3): definitions and proofs about `machine`, and no code.

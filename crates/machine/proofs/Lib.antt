@@ -1,0 +1,5 @@
+pub mod FreshLaws
+pub mod RefusalLaws
+pub mod SerialLaws
+pub mod OrderLaws
+pub mod FlashLaws

@@ -1,0 +1,50 @@
+-- A device's state (01, 'Slip, messages, state').
+use mathlib.Core.Path.{_≡_}
+use mathlib.Core.List.{List, []}
+use Prim.Native.Nat.{ℕ, pred}
+use lib.ListN.{length, replicate}
+use Rattle.merkle.specs.Limits.{hashLength, heldBytes}
+use Rattle.merkle.specs.Blocks.{blockCount}
+use Rattle.merkle.specs.Held.{heldIn}
+use Rattle.wire.specs.declared.manifest.Manifest.{Manifest}
+use Rattle.machine.specs.declared.state.Stage.the-variants.{Idle, Loading, Complete}
+use Rattle.machine.specs.declared.state.Device.{Device}
+use Rattle.machine.specs.declared.state.Answer.{Answer}
+
+-- n, from the manifest alone
+unfoldable pub countOf : Manifest → ℕ
+countOf s = blockCount (s .«block_len») (s .«image_len»)
+
+-- "A fresh drive is idle."
+pub record Fresh (d : Device) : Type 0 where
+  pub idle : d .stage ≡ Idle
+  pub array : length (d .hashes) ≡ heldBytes
+
+-- one with this model and key; manifest and array mean nothing while it is idle
+unfoldable pub freshWith : ℕ → List ℕ → Device
+freshWith model key =
+    record {
+      model = model;
+      key = key;
+      stage = Idle;
+      manifest = record { version = 0; «block_len» = 0; model = 0; serial = 0; «image_len» = 0; root = replicate hashLength 0 };
+      hashes = replicate heldBytes 0;
+    }
+
+-- "The serial is kept once, in the slip, and counts as 0 when idle."
+unfoldable pub serialOf : Device → ℕ
+serialOf d = elim (d .stage) [ Idle ↦ 0 | Loading i ↦ d .manifest .serial | Complete ↦ d .manifest .serial ]
+
+-- the hashes held: "it follows from slip and next number"
+unfoldable pub heldBy : Device → List (List ℕ)
+heldBy d = elim (d .stage) [ Idle ↦ [] | Loading i ↦ heldIn (countOf (d .manifest)) (pred i) (d .hashes) | Complete ↦ [] ]
+
+-- device and flash (01: area) between two calls, and with the answer after one
+pub record Situation : Type 0 where
+  pub device : Device
+  pub flash : List ℕ
+
+pub record Outcome : Type 0 where
+  pub answer : Answer
+  pub device : Device
+  pub flash : List ℕ

@@ -1,0 +1,75 @@
+-- What a device answers to a message, and what device and flash are then.
+use mathlib.Core.Bool.{Bool, cond}
+use mathlib.Core.List.{List}
+use mathlib.Core.Option.{Option, none, some}
+use Prim.Native.Nat.{ℕ, suc, pred}
+use lib.Dec.{ltb}
+use Rattle.merkle.specs.Held.{begun, advanced}
+use Rattle.wire.specs.declared.kind.Kind.{Kind}
+use Rattle.wire.specs.declared.kind.Kind.the-variants as kinds
+use Rattle.wire.specs.declared.refusal.Refusal.{Refusal}
+use Rattle.wire.specs.Refusal.{firstThatApplies}
+use Rattle.wire.specs.Message.{kind, manifestIn, blockIn, hashesAfter}
+use Rattle.machine.specs.declared.state.Stage.{Stage}
+use Rattle.machine.specs.declared.state.Stage.the-variants.{Loading, Complete}
+use Rattle.machine.specs.declared.state.Device.{Device}
+use Rattle.machine.specs.declared.state.Answer.the-variants.{Accepted, Refused}
+use Rattle.machine.specs.Device.{countOf, Situation, Outcome}
+use Rattle.machine.specs.Refusals.{nextOf, withBlock, updated, refusals}
+
+-- "Accepting kind 1 makes the stage loading at block 1; the area is not written."
+unfoldable pub acceptProgram : Device → List ℕ → List ℕ → Situation
+acceptProgram d flash m =
+    let s = manifestIn m in
+    record { device = record { model = d .model; key = d .key; stage = Loading 1; manifest = s; hashes = begun (s .root) }; flash = flash }
+
+-- "the next number is i + 1. After block n the stage is complete."
+unfoldable pub stageAfter : ℕ → ℕ → Stage
+stageAfter n i = cond (ltb i n) (Loading (suc i)) Complete
+
+-- "Accepting kind 2 writes block i to its place and nothing else; the message's labels take the place of that held label, the other held labels stay"
+unfoldable pub acceptBlock : Device → List ℕ → List ℕ → Situation
+acceptBlock d flash m =
+    let s = d .manifest in
+    let i = nextOf (d .stage) in
+    record {
+      device =
+          record {
+            model = d .model;
+            key = d .key;
+            stage = stageAfter (countOf s) i;
+            manifest = s;
+            hashes = advanced (countOf s) (pred i) (d .hashes) (hashesAfter (s .«block_len») m);
+          };
+      flash = withBlock (s .«block_len») flash i (blockIn (s .«block_len») m);
+    }
+
+-- "Accepting kind 3 writes that one block and replaces the slip."
+unfoldable pub acceptUpdate : Device → List ℕ → List ℕ → Situation
+acceptUpdate d flash m =
+    record { device = record { model = d .model; key = d .key; stage = d .stage; manifest = manifestIn m; hashes = d .hashes }; flash = updated flash m }
+
+unfoldable pub accept : Kind → Device → List ℕ → List ℕ → Situation
+accept k d flash m =
+    elim k [
+      | kinds.Program ↦ acceptProgram d flash m
+      | kinds.Block ↦ acceptBlock d flash m
+      | kinds.Update ↦ acceptUpdate d flash m
+      | kinds.Unknown ↦ record { device = d; flash = flash }
+    ]
+
+-- accepted where no refusal applies, with what that does; else the refusal alone, and device and flash as before
+unfoldable pub outcome : Option Refusal → Device → List ℕ → Situation → Outcome
+outcome r d flash then =
+    elim r [
+      | none ↦ record { answer = Accepted; device = then .device; flash = then .flash }
+      | some x ↦ record { answer = Refused x; device = d; flash = flash }
+    ]
+
+module _ (H : List ℕ → List ℕ) (valid : (key message signature : List ℕ) → Bool) where
+  -- the first refusal that applies, if any
+  unfoldable pub refusalOf : Device → List ℕ → List ℕ → Option Refusal
+  refusalOf d flash m = firstThatApplies (refusals H valid (kind m) d flash m)
+
+  unfoldable pub step : Device → List ℕ → List ℕ → Outcome
+  step d flash m = outcome (refusalOf d flash m) d flash (accept (kind m) d flash m)

@@ -1,0 +1,25 @@
+// A device's state. How many hashes are held and how many blocks there are is stored nowhere: both follow from manifest and next number.
+use wire::Manifest;
+use wire::Refusal;
+
+pub enum Stage {
+    Idle,
+    // With the number of the next block, from 1.
+    Loading(u16),
+    Complete,
+}
+
+pub struct Device {
+    pub model: u32,
+    pub key: [u8; 56],
+    pub stage: Stage,
+    // What stage is about; means nothing while that is idle.
+    pub manifest: Manifest,
+    // The held hashes, at the end and in block order (`merkle`).
+    pub hashes: [u8; merkle::HELD_LEN],
+}
+
+pub enum Answer {
+    Accepted,
+    Refused(Refusal),
+}
