@@ -9,6 +9,7 @@ use lib.ListN.{length, set, length-append}
 use lib.Seq.{paste}
 use Rattle.octets.specs.Octets.{bytes, part}
 use Rattle.octets.proofs.NumberLaws.{length-bytes}
+use Rattle.octets.proofs.JoinedLaws.{joined-suc}
 use Rattle.lms.specs.Notation.{u8str, u16str, u32str, coef, H}
 use Rattle.lms.specs.Ots.{chain, z, zs}
 use Rattle.octets.proofs.BufferLaws.{Begun, more, one, whole, less}
@@ -51,4 +52,4 @@ module _ (I : List ℕ) (q w : ℕ) (S signature : List ℕ) (p i : ℕ) where
 
 pub zs-suc : (s I : List ℕ) (q w : ℕ) (S y : List ℕ) (i : ℕ) → s ++ zs I q w S y i ++ z I q w S y i ≡ s ++ zs I q w S y (i + 1)
 unfolding zs
-zs-suc s I q w S y i = rw (add-one i) (append-assoc s (zs I q w S y i) (z I q w S y i))
+zs-suc s I q w S y i = rw (add-one i, joined-suc i (z I q w S y)) (append-assoc s (zs I q w S y i) (z I q w S y i))

@@ -1,10 +1,10 @@
 -- RFC 8554, section 4: LM-OTS, the one-time signature.
 use mathlib.Core.Bool.{cond}
-use mathlib.Core.List.{List, [], _++_}
+use mathlib.Core.List.{List, _++_}
 use mathlib.Core.Option.{Option, none, some}
 use Prim.Native.Nat.{ℕ, zero, suc, _+_, _-_, _*_, _/_, _^_}
 use lib.Dec.{eqb}
-use Rattle.octets.specs.Octets.{part}
+use Rattle.octets.specs.Octets.{part, joined, upTo}
 use Rattle.lms.specs.Notation.{u8str, u16str, u32str, coef, H, D-PBLC, D-MESG}
 
 -- 4.1, table 1: the digit width w, the number p of chains, and the checksum's shift ls, of the types 3 (LMOTS_SHA256_N32_W4) and 4 (LMOTS_SHA256_N32_W8)
@@ -49,8 +49,7 @@ module _ (I : List ℕ) (q : ℕ) where
 
   -- z[0] || .. || z[k-1]
   unfoldable pub zs : (w : ℕ) (S y : List ℕ) (k : ℕ) → List ℕ
-  zs w S y zero = []
-  zs w S y (suc k) = zs w S y k ++ z w S y k
+  zs w S y k = joined (upTo k (z w S y))
 
 -- Kc, of a signature: type (4 bytes), C (32), y[0] to y[p-1]
 unfoldable pub Kc : (t : Row) (I : List ℕ) (q : ℕ) (message signature : List ℕ) → List ℕ

@@ -1,5 +1,6 @@
 pub mod BufferLaws
 pub mod CopyLaws
 pub mod EqualLaws
+pub mod JoinedLaws
 pub mod NumberLaws
 pub mod SixLaws

@@ -23,6 +23,16 @@ number (b ∷ bs) = b * 256 ^ length bs + number bs
 abbrev pub part : ℕ → ℕ → List ℕ → List ℕ
 part i k s = take k (drop i s)
 
+-- strings one behind the other
+unfoldable pub joined : List (List ℕ) → List ℕ
+joined [] = []
+joined (s ∷ ss) = s ++ joined ss
+
+-- f 0, .., f (k - 1)
+unfoldable pub upTo : ℕ → (ℕ → List ℕ) → List (List ℕ)
+upTo zero f = []
+upTo (suc k) f = upTo k f ++ (f k ∷ [])
+
 -- whether two strings are the same
 unfoldable pub equal : List ℕ → List ℕ → Bool
 equal [] [] = true

@@ -1,19 +1,19 @@
 -- The digest's bytes, one word after the other.
 use mathlib.Core.Path.{_≡_, refl, sym, ap, ap₂, _∙_}
-use mathlib.Core.List.{List, [], _∷_, _++_, append-assoc, append-nil}
+use mathlib.Core.List.{List, [], _∷_, _++_, map, map-append}
 use Prim.Native.Nat.{ℕ, zero, suc, _+_, _*_, _/_, _≤_, _<_}
 use native.Mathlib.Numerals.{add-one}
 use native.Mathlib.Omega.{arith}
 use lib.ListN.{length, getD, take, length-append}
 use lib.Seq.{take-suc, take-all, take-paste, take-length, paste}
-use Rattle.octets.specs.Octets.{bytes}
+use Rattle.octets.specs.Octets.{bytes, joined}
 use Rattle.octets.proofs.NumberLaws.{length-bytes}
+use Rattle.octets.proofs.JoinedLaws.{joined-last}
 use Rattle.sha256.specs.Sha256.{H0, compress, sums, hashValue, pad, concatenated, digest}
 
 snoc : (ws : List ℕ) (x : ℕ) → concatenated (ws ++ (x ∷ [])) ≡ concatenated ws ++ bytes 4 x
 unfolding concatenated
-snoc [] x = append-nil (bytes 4 x)
-snoc (w ∷ ws) x = ap (λ (r : List ℕ). bytes 4 w ++ r) (snoc ws x) ∙ sym (append-assoc (bytes 4 w) (concatenated ws) (bytes 4 x))
+snoc ws x = ap joined (map-append (bytes 4) ws (x ∷ [])) ∙ joined-last (map (bytes 4) ws) (bytes 4 x)
 
 module _ (h out : List ℕ) (i : ℕ) (e : take (4 * i) out ≡ concatenated (take i h)) where
   pub concatenated-more : (b : List ℕ) → i < length h → 4 * i + 4 ≤ length out → b ≡ bytes 4 (getD h i 0)
@@ -31,7 +31,7 @@ module _ (h out : List ℕ) (i : ℕ) (e : take (4 * i) out ≡ concatenated (ta
   concatenated-all l k g = sym (take-all (4 * i) out (omega arith)) ∙ e ∙ ap concatenated (take-all i h (omega arith))
 
 length-concatenated : (ws : List ℕ) → length (concatenated ws) ≡ 4 * length ws
-unfolding concatenated
+unfolding concatenated joined
 length-concatenated [] = refl
 length-concatenated (w ∷ ws) =
     length-append (bytes 4 w) (concatenated ws) ∙ ap₂ (λ (a b : ℕ). a + b) (length-bytes 4 w) (length-concatenated ws) ∙ omega arith

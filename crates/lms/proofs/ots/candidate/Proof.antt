@@ -5,7 +5,7 @@ use native.Mathlib.Omega.{arith}
 use lib.ListN.{length}
 use borrow.Author.Needs.{needs}
 use Rattle.sha256.specs.Context.{Absorbed}
-use Rattle.octets.specs.Octets.{part}
+use Rattle.octets.specs.Octets.{part, joined, upTo}
 use Rattle.octets.proofs.CopyLaws.{length-part, part-between}
 use Rattle.lms.specs.Notation.{u16str, u32str, H, D-PBLC}
 use Rattle.lms.specs.Ots.{checked, zs, Kc}
@@ -64,7 +64,7 @@ update-requires : tie.Need-update-requires Inv-loop μ-loop
 update-requires c κs = search needs
 
 loop-holds : tie.Need-loop-holds Inv-loop μ-loop
-unfolding zs
+unfolding zs joined upTo
 loop-holds c =
     let s = c .before .before .before in
     (omega arith, rw append-nil (rw (← s .start .ensures) (c .update .ensures _ (c .before .before .new .ensures))))

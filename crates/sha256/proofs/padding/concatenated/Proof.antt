@@ -4,6 +4,7 @@ use Prim.Native.Nat.{_*_, _-_, _≤_}
 use native.Mathlib.Omega.{arith}
 use lib.ListN.{length, take, getD}
 use lib.Seq.{length-paste}
+use Rattle.octets.specs.Octets.{joined}
 use Rattle.octets.proofs.NumberLaws.{length-bytes}
 use Rattle.sha256.specs.Sha256.{concatenated}
 use Rattle.sha256.proofs.DigestLaws.{concatenated-more, concatenated-all}
@@ -17,7 +18,7 @@ abbrev μ-loop : tie.MeasureT-loop
 μ-loop h out₀ i₀ out i = 8 - i
 
 loop-holds : tie.Need-loop-holds Inv-loop μ-loop
-unfolding concatenated
+unfolding concatenated joined
 loop-holds c = (search needs, refl, refl)
 
 mul-be32 : tie.Need-mul-be32 Inv-loop μ-loop
