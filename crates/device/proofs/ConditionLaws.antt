@@ -2,7 +2,7 @@
 use mathlib.Core.Path.{_≡_, refl, sym, ap, _∙_}
 use mathlib.Core.Logic.{_⊎_, inl, inr}
 use mathlib.Core.Bool.{Bool, false, not}
-use mathlib.Core.List.{List, [], map}
+use mathlib.Core.List.{List, map}
 use Prim.Native.Nat.{ℕ, zero, suc, pred, _+_, _-_, _*_, _≤_, _<_}
 use native.Mathlib.Nat.{mul-le-mul, mul-le-mul-right}
 use native.Mathlib.Omega.{arith}
@@ -15,7 +15,7 @@ use Rattle.octets.proofs.CopyLaws.{length-part, part-between, part-from}
 use Rattle.merkle.specs.Limits.{maxBlocks, hashLength, heldBytes}
 use Rattle.merkle.specs.Blocks.{cut, overlay}
 use Rattle.merkle.specs.Shape.{shape}
-use Rattle.merkle.specs.Hash.{hash}
+use Rattle.merkle.specs.Hash.{plain, rootOver}
 use Rattle.merkle.specs.Frontier.{carried, messageLength}
 use Rattle.merkle.specs.Held.{fits}
 use Rattle.merkle.proofs.ShapeLaws.{lt-or-le}
@@ -107,16 +107,16 @@ rest-long s i n m pos en e =
 module _ (H : List ℕ → List ℕ) where
   -- 14 while loading, as the code tests it
   pub mismatch-is : (d : Device) (i n : ℕ) (m b r : List ℕ) (t : Bool) → n ≡ countOf (d .manifest) → b ≡ blockIn (d .manifest .«block_len») m → r ≡ hashesAfter (d .manifest .«block_len») m
-      → t ≡ fits H [] [] n (i - 1) (d .hashes) b r → not t ≡ mismatch H d i m
+      → t ≡ fits (plain H) n (i - 1) (d .hashes) b r → not t ≡ mismatch H d i m
   unfolding mismatch
   mismatch-is d i n m b r t en eb er e = rw (e, en, before-is i, eb, er)
 
   -- 14 of an update: the tree over flash and block together is the tree over the flash with the block written
   pub lacks-is : (s : Manifest) (a x : List ℕ) (i n : ℕ) (root : List ℕ) (t : Bool) → tooSmall s a ≡ false → 0 < i → i ≤ countOf s → n ≡ countOf s → length x ≡ s .«block_len»
-      → root ≡ hash H [] [] (overlay (cut (s .«block_len») a) (i - 1) x) 0 (shape n) → t ≡ equal root (s .root) → not t ≡ lacksRoot H s (withBlock (s .«block_len») a i x)
+      → root ≡ rootOver (plain H) (overlay (cut (s .«block_len») a) (i - 1) x) n → t ≡ equal root (s .root) → not t ≡ lacksRoot H s (withBlock (s .«block_len») a i x)
   unfolding lacksRoot treeOver withBlock
   lacks-is s a x i n root t small low high en long e et =
       let fit = room s a i small low high in
-      ap not (et ∙ ap (λ y. equal y (s .root)) (e ∙ ap (λ k. hash H [] [] (overlay (cut (s .«block_len») a) (i - 1) x) 0 (shape k)) en
-      ∙ sym (hash-written H [] [] (s .«block_len») a x (i - 1) (omega arith) (long ∙ sym (length-cut (s .«block_len») a (i - 1) fit)) 0 (shape (countOf s)))
-      ∙ ap (λ k. hash H [] [] (cut (s .«block_len») (paste a (k * s .«block_len») x (length x))) 0 (shape (countOf s))) (before-is i)))
+      ap not (et ∙ ap (λ y. equal y (s .root)) (e ∙ ap (λ k. rootOver (plain H) (overlay (cut (s .«block_len») a) (i - 1) x) k) en
+      ∙ sym (hash-written (plain H) (s .«block_len») a x (i - 1) (omega arith) (long ∙ sym (length-cut (s .«block_len») a (i - 1) fit)) 0 (shape (countOf s)))
+      ∙ ap (λ k. rootOver (plain H) (cut (s .«block_len») (paste a (k * s .«block_len») x (length x))) (countOf s)) (before-is i)))

@@ -2,7 +2,7 @@
 use mathlib.Core.Path.{_≡_, refl, sym, ap, _∙_, subst}
 use mathlib.Core.Logic.{_⊎_, inl, inr}
 use mathlib.Core.Bool.{Bool}
-use mathlib.Core.List.{List, []}
+use mathlib.Core.List.{List}
 use mathlib.Core.Option.{none, some}
 use Prim.Native.Nat.{ℕ, zero, suc, _*_, _<_}
 use native.Mathlib.Nat.{zero-add}
@@ -12,7 +12,7 @@ use lib.Seq.{take-all}
 use Rattle.merkle.specs.Limits.{hashLength}
 use Rattle.merkle.specs.Blocks.{blockCount, cut}
 use Rattle.merkle.specs.Shape.{shape}
-use Rattle.merkle.specs.Hash.{Collision}
+use Rattle.merkle.specs.Hash.{plain, Collision}
 use Rattle.merkle.proofs.ShapeLaws.{size-shape}
 use Rattle.merkle.proofs.HashLaws.{Same}
 use Rattle.merkle.proofs.BindingLaws.{binding}
@@ -37,9 +37,9 @@ use Rattle.guarantee.proofs.RunLaws.{now, taken, every-list}
 module _ (H : List ℕ → List ℕ) (hash-long : (x : List ℕ) → length (H x) ≡ hashLength) where
   -- an image of the flash's length with its root is the start of the flash, or there is a collision
   bound-image : (s : Manifest) (f x : List ℕ) → Sized (s .«block_len») (s .«image_len») → treeOver H s f ≡ s .root → length x ≡ s .«image_len» → treeOver H s (filled (s .«block_len») x) ≡ s .root
-      → (filled (s .«block_len») x ≡ take (length (filled (s .«block_len») x)) f) ⊎ Collision H [] [] (imageBlocks (s .«block_len») x) (cut (s .«block_len») f) 0 (shape (countOf s))
+      → (filled (s .«block_len») x ≡ take (length (filled (s .«block_len») x)) f) ⊎ Collision (plain H) (imageBlocks (s .«block_len») x) (cut (s .«block_len») f) 0 (shape (countOf s))
   unfolding treeOver imageBlocks
-  bound-image s f x z rooted lx e = go (binding H [] [] hash-long (cut L (filled L x)) (cut L f) 0 (shape n) (e ∙ sym rooted))
+  bound-image s f x z rooted lx e = go (binding (plain H) hash-long (cut L (filled L x)) (cut L f) 0 (shape n) (e ∙ sym rooted))
     where
       L : ℕ
       L = s .«block_len»
@@ -53,8 +53,8 @@ module _ (H : List ℕ → List ℕ) (hash-long : (x : List ℕ) → length (H x
       pos : 0 < countOf s
       pos = unfold countOf in z .first
 
-      go : Same (cut L (filled L x)) 0 (cut L f) 0 (shape n) ⊎ Collision H [] [] (cut L (filled L x)) (cut L f) 0 (shape n)
-          → (filled L x ≡ take (length (filled L x)) f) ⊎ Collision H [] [] (cut L (filled L x)) (cut L f) 0 (shape n)
+      go : Same (cut L (filled L x)) 0 (cut L f) 0 (shape n) ⊎ Collision (plain H) (cut L (filled L x)) (cut L f) 0 (shape n)
+          → (filled L x ≡ take (length (filled L x)) f) ⊎ Collision (plain H) (cut L (filled L x)) (cut L f) 0 (shape n)
       go (inl a) =
           let blocks = blocks-equal L (filled L x) f n (λ j h. rw zero-add at (a .block j (rw (size-shape n pos) h))) in
           inl (rw long (sym (take-all (n * L) (filled L x) (omega (arith, long))) ∙ blocks))

@@ -13,7 +13,7 @@ use lib.Seq.{take-all, length-take-le}
 use borrow.Author.Tests.{lt-ltb, le-ltb, eq-eqb}
 use Rattle.merkle.specs.Limits.{hashLength, heldBytes}
 use Rattle.merkle.specs.Shape.{shape, depth}
-use Rattle.merkle.specs.Hash.{hashes}
+use Rattle.merkle.specs.Hash.{plain, hashes}
 use Rattle.merkle.specs.Frontier.{messageLength, frontier, held}
 use Rattle.merkle.specs.Held.{heldIn, begun, advanced, fits}
 use Rattle.merkle.proofs.ShapeLaws.{lt-or-le}
@@ -53,20 +53,20 @@ module _ (H : List ℕ → List ℕ) (hash-long : (x : List ℕ) → length (H x
     pub stage : s .device .stage ≡ stageAfter (count job) j
     pub manifest : s .device .manifest ≡ manifestFor H job
     pub array : length (s .device .hashes) ≡ heldBytes
-    pub holds : heldIn (count job) j (s .device .hashes) ≡ hashes H [] [] (blocks job) (frontier 0 (shape (count job)) j)
+    pub holds : heldIn (count job) j (s .device .hashes) ≡ hashes (plain H) (blocks job) (frontier 0 (shape (count job)) j)
     pub room : count job * job .block ≤ length old
     pub flash : s .flash ≡ take (j * job .block) (filled (job .block) (job .image)) ++ drop (j * job .block) old
 
   -- the sender's next block, to a device that loads the job
   module _ (j : ℕ) (array : List ℕ) (below : j < count job) (array-long : length array ≡ heldBytes)
-      (holds : heldIn (count job) j array ≡ hashes H [] [] (blocks job) (frontier 0 (shape (count job)) j)) where
-    run : Honest H [] [] hash-long (count job) (blocks job) j array
-    run = honest H [] [] hash-long (count job) (blocks job) j array below (count-most H hash-long job ok) array-long holds
+      (holds : heldIn (count job) j array ≡ hashes (plain H) (blocks job) (frontier 0 (shape (count job)) j)) where
+    run : Honest (plain H) hash-long (count job) (blocks job) j array
+    run = honest (plain H) hash-long (count job) (blocks job) j array below (count-most H hash-long job ok) array-long holds
 
     is-sent : Sent H hash-long job ok j (blockFor H job (suc j))
     is-sent = block-sent H hash-long job ok j below
 
-    matches : fits H [] [] (count job) j array (blockIn (job .block) (blockFor H job (suc j))) (hashesAfter (job .block) (blockFor H job (suc j))) ≡ true
+    matches : fits (plain H) (count job) j array (blockIn (job .block) (blockFor H job (suc j))) (hashesAfter (job .block) (blockFor H job (suc j))) ≡ true
     matches = rw (is-sent .block, is-sent .after) (run .accepted)
 
     is-due : (model : ℕ) (key f : List ℕ) → count job * job .block ≤ length f → NextDue H valid (loadingAt H job model key j array) f (blockFor H job (suc j))
@@ -134,11 +134,11 @@ module _ (H : List ℕ → List ℕ) (hash-long : (x : List ℕ) → length (H x
     unfolding stageAfter
     is-complete e = w .stage ∙ rw (le-ltb j (count job) (omega arith))
 
-    pub holding : heldBy (s .device) ≡ hashes H [] [] (blocks job) (frontier 0 (shape (count job)) j)
+    pub holding : heldBy (s .device) ≡ hashes (plain H) (blocks job) (frontier 0 (shape (count job)) j)
     unfolding heldBy
     holding = go (lt-or-le j (count job))
       where
-        go : (j < count job) ⊎ (count job ≤ j) → heldBy (s .device) ≡ hashes H [] [] (blocks job) (frontier 0 (shape (count job)) j)
+        go : (j < count job) ⊎ (count job ≤ j) → heldBy (s .device) ≡ hashes (plain H) (blocks job) (frontier 0 (shape (count job)) j)
         go (inl h) = unfold loadingAt manifestFor countOf count in (ap heldBy (is-loading h) ∙ w .holds)
         go (inr h) =
             let e : j ≡ count job = omega (arith, w .within) in
@@ -147,7 +147,7 @@ module _ (H : List ℕ → List ℕ) (hash-long : (x : List ℕ) → length (H x
 
     pub held-few : length (heldBy (s .device)) ≤ max 1 (depth (count job))
     unfolding held
-    held-few = rw (holding, length-hashes H [] [] (blocks job) (frontier 0 (shape (count job)) j)) (held-depth (count job) j (count-some H hash-long job ok))
+    held-few = rw (holding, length-hashes (plain H) (blocks job) (frontier 0 (shape (count job)) j)) (held-depth (count job) j (count-some H hash-long job ok))
 
     pub none-held : j ≡ count job → heldBy (s .device) ≡ []
     unfolding heldBy
@@ -179,7 +179,7 @@ module _ (H : List ℕ → List ℕ) (hash-long : (x : List ℕ) → length (H x
             stage = unfold stageAfter in rw (lt-ltb 0 (count job) (count-some H hash-long job ok));
             manifest = refl;
             array = length-begun (manifestFor H job .root) root;
-            holds = begun-held (count job) (manifestFor H job .root) root ∙ (unfold manifestFor rootOf in sym (hashes-zero H [] [] (blocks job) (shape (count job))));
+            holds = begun-held (count job) (manifestFor H job .root) root ∙ (unfold manifestFor rootOf in sym (hashes-zero (plain H) (blocks job) (shape (count job))));
             room = unfold manifestFor countOf count in (rw is at (p .room));
             flash = rw (zero-mul (job .block));
           }

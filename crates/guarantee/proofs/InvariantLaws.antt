@@ -2,7 +2,7 @@
 use mathlib.Core.Path.{_≡_, refl, ap, _∙_, subst}
 use mathlib.Core.Logic.{_⊎_, inl, inr}
 use mathlib.Core.Bool.{Bool, true, false, _||_, cond, true≢false}
-use mathlib.Core.List.{List, []}
+use mathlib.Core.List.{List}
 use mathlib.Core.Option.{none, some}
 use Prim.Native.Nat.{ℕ, zero, suc, _+_, _*_, _≤_, _<_}
 use native.Mathlib.Omega.{arith}
@@ -16,6 +16,7 @@ use Rattle.merkle.specs.Blocks.{blockCount, cut}
 use Rattle.merkle.specs.Shape.{shape}
 use Rattle.merkle.specs.Frontier.{carried, messageLength}
 use Rattle.merkle.specs.Held.{heldIn, advanced, fits}
+use Rattle.merkle.specs.Hash.{plain}
 use Rattle.merkle.proofs.ShapeLaws.{lt-or-le, size-shape}
 use Rattle.merkle.proofs.HeldLaws.{begun-held, length-begun, all-held, advance}
 use Rattle.merkle.proofs.LoadingLaws.{Loaded, loaded-start, loaded-end}
@@ -79,7 +80,7 @@ module _ (H : List ℕ → List ℕ) (valid : (key message signature : List ℕ)
     pub carries : Carried taken s
     pub last : lastProgram taken ≡ some s
     pub since : blocksSince taken ≡ k
-    pub loaded : Loaded H [] [] (shape (countOf s)) (s .root) k (cut (s .«block_len») flash) (heldIn (countOf s) k array)
+    pub loaded : Loaded (plain H) (shape (countOf s)) (s .root) k (cut (s .«block_len») flash) (heldIn (countOf s) k array)
 
   -- complete; first is the manifest of the last program message, before any update
   pub record InComplete (s : Manifest) (flash : List ℕ) (taken : Messages) : Type 0 where
@@ -126,13 +127,13 @@ module _ (H : List ℕ → List ℕ) (valid : (key message signature : List ℕ)
             carries = record { carrier = m; last = w .2; manifest = refl; signed = rw (w .3) (rw (v .same) at (p .signed)) };
             last = w .0;
             since = w .1;
-            loaded = rw (begun-held (countOf s) (s .root) lr) (loaded-start H [] [] (shape (countOf s)) (s .root) (cut (s .«block_len») flash));
+            loaded = rw (begun-held (countOf s) (s .root) lr) (loaded-start (plain H) (shape (countOf s)) (s .root) (cut (s .«block_len») flash));
           };
         }
 
     -- block k + 1
     module _ (k : ℕ) (e : kind m ≡ Block) (long : length m ≡ messageLength (d .manifest .«block_len») (countOf (d .manifest)) (suc k))
-        (same : fits H [] [] (countOf (d .manifest)) k (d .hashes) (blockIn (d .manifest .«block_len») m) (hashesAfter (d .manifest .«block_len») m) ≡ true)
+        (same : fits (plain H) (countOf (d .manifest)) k (d .hashes) (blockIn (d .manifest .«block_len») m) (hashesAfter (d .manifest .«block_len») m) ≡ true)
         (w : InLoading k (d .manifest) (d .hashes) flash taken) where
       abbrev s : Manifest
       s = d .manifest
@@ -170,18 +171,18 @@ module _ (H : List ℕ → List ℕ) (valid : (key message signature : List ℕ)
       flash-long : length flash' ≡ length flash
       flash-long = length-with (s .«block_len») n k flash (w .below) (w .room) block block-long
 
-      still-loaded : Loaded H [] [] (shape n) (s .root) (suc k) (cut (s .«block_len») flash') (heldIn n (suc k) array')
+      still-loaded : Loaded (plain H) (shape n) (s .root) (suc k) (cut (s .«block_len») flash') (heldIn n (suc k) array')
       still-loaded =
           let here = with-here (s .«block_len») n k flash (w .below) (w .room) block block-long in
-          loaded-fits H [] [] n k (s .root) (d .hashes) message (cut (s .«block_len») flash) (cut (s .«block_len») flash') (w .below) few (w .array-size) message-long
+          loaded-fits (plain H) n k (s .root) (d .hashes) message (cut (s .«block_len») flash) (cut (s .«block_len») flash') (w .below) few (w .array-size) message-long
           (with-before (s .«block_len») n k flash (w .below) (w .room) block block-long) (rw here same) (w .loaded)
 
       last-loaded : suc k ≡ n → treeOver H s flash' ≡ s .root
       unfolding treeOver
       last-loaded q =
           let pos : 0 < n = omega arith in
-          let whole = subst (λ x. Loaded H [] [] (shape n) (s .root) x (cut (s .«block_len») flash') (heldIn n x array')) q still-loaded in
-          loaded-end H [] [] (shape n) (s .root) (cut (s .«block_len») flash') (rw (size-shape n pos) (rw (all-held n array' pos) at whole))
+          let whole = subst (λ x. Loaded (plain H) (shape n) (s .root) x (cut (s .«block_len») flash') (heldIn n x array')) q still-loaded in
+          loaded-end (plain H) (shape n) (s .root) (cut (s .«block_len») flash') (rw (size-shape n pos) (rw (all-held n array' pos) at whole))
 
       carried-on : Carried (taken ▷ m) s
       carried-on = let c = w .carries in record { carrier = c .carrier; last = with-block taken m e .2 ∙ c .last; manifest = c .manifest; signed = c .signed }

@@ -1,6 +1,6 @@
 -- What a device reads in the messages that the sender writes for a job.
 use mathlib.Core.Path.{_≡_, ap, _∙_}
-use mathlib.Core.List.{List, []}
+use mathlib.Core.List.{List}
 use Prim.Native.Nat.{ℕ, suc, _*_, _≤_, _<_}
 use native.Mathlib.Nat.{mul-le-mul-right}
 use native.Mathlib.Omega.{arith}
@@ -10,6 +10,7 @@ use Rattle.merkle.specs.Blocks.{blockCount}
 use Rattle.merkle.specs.Shape.{shape}
 use Rattle.merkle.specs.Frontier.{messageLength}
 use Rattle.merkle.specs.Held.{sent}
+use Rattle.merkle.specs.Hash.{plain}
 use Rattle.merkle.proofs.HashLaws.{length-hash}
 use Rattle.merkle.proofs.RunLaws.{length-sent}
 use Rattle.wire.specs.declared.kind.Kind.the-variants.{Block}
@@ -45,7 +46,7 @@ module _ (H : List ℕ → List ℕ) (hash-long : (x : List ℕ) → length (H x
 
   pub root-long : length (manifestFor H job .root) ≡ hashLength
   unfolding manifestFor rootOf
-  root-long = length-hash H [] [] hash-long (blocks job) 0 (shape (count job))
+  root-long = length-hash (plain H) hash-long (blocks job) 0 (shape (count job))
 
   manifest-fits : Fits (manifestFor H job)
   unfolding manifestFor
@@ -64,7 +65,7 @@ module _ (H : List ℕ → List ℕ) (hash-long : (x : List ℕ) → length (H x
     pub is : kind m ≡ Block
     pub number : numberIn m ≡ suc j
     pub block : blockIn (job .block) m ≡ blocks job j
-    pub after : hashesAfter (job .block) m ≡ sent H [] [] (count job) (blocks job) j
+    pub after : hashesAfter (job .block) m ≡ sent (plain H) (count job) (blocks job) j
     pub size : length m ≡ messageLength (job .block) (count job) (suc j)
 
   pub block-sent : (j : ℕ) → j < count job → Sent j (blockFor H job (suc j))
@@ -72,11 +73,11 @@ module _ (H : List ℕ → List ℕ) (hash-long : (x : List ℕ) → length (H x
   block-sent j h =
       let most = count-most in
       let long = block-length j h in
-      let r = of-block (suc j) (omega arith) (blocks job j) (sent H [] [] (count job) (blocks job) j) in
+      let r = of-block (suc j) (omega arith) (blocks job j) (sent (plain H) (count job) (blocks job) j) in
       record {
         is = r .is;
         number = r .number;
         block = rw long at (r .blocks);
         after = rw long at (r .after);
-        size = r .size ∙ omega (arith, length-sent H [] [] hash-long (count job) (blocks job) j);
+        size = r .size ∙ omega (arith, length-sent (plain H) hash-long (count job) (blocks job) j);
       }

@@ -8,7 +8,7 @@ use Prim.Native.Nat.{ℕ, zero, suc, _*_, _^_, max, _≤_, _<_}
 use lib.ListN.{length, take, drop}
 use Rattle.merkle.specs.Blocks.{cut}
 use Rattle.merkle.specs.Shape.{shape, depth}
-use Rattle.merkle.specs.Hash.{hashes, Collision}
+use Rattle.merkle.specs.Hash.{plain, hashes, Collision}
 use Rattle.merkle.specs.Frontier.{frontier}
 use Rattle.wire.specs.declared.kind.Kind.the-variants.{Program}
 use Rattle.wire.specs.declared.manifest.Manifest.{Manifest}
@@ -75,7 +75,7 @@ module _ (H : List ℕ → List ℕ) (valid : (key message signature : List ℕ)
     -- "every image of the same length .. with that root": "filled, it equals the start of the area, or at one place its tree's hash input and the area's differ
     -- and have the same SHA-256"
     pub image : (x : List ℕ) → length x ≡ s .«image_len» → treeOver H s (filled (s .«block_len») x) ≡ s .root
-        → (filled (s .«block_len») x ≡ take (length (filled (s .«block_len») x)) f) ⊎ Collision H [] [] (imageBlocks (s .«block_len») x) (cut (s .«block_len») f) 0 (shape (countOf s))
+        → (filled (s .«block_len») x ≡ take (length (filled (s .«block_len») x)) f) ⊎ Collision (plain H) (imageBlocks (s .«block_len») x) (cut (s .«block_len») f) 0 (shape (countOf s))
 
   -- The first half.
   pub record FirstHalf (ms : Messages) : Type 0 where
@@ -115,7 +115,7 @@ module _ (H : List ℕ → List ℕ) (valid : (key message signature : List ℕ)
     -- "Then all j were accepted": since the manifest these, and nothing else
     pub all : acceptedOf ms ≡ thenBlocks H job (acceptedOf before ▷ m) j
     -- "the labels held are those of the image's tree at the subtrees named above for i = j"
-    pub held : heldBy (deviceAfter ms) ≡ hashes H [] [] (blocks job) (frontier 0 (shape (count job)) j)
+    pub held : heldBy (deviceAfter ms) ≡ hashes (plain H) (blocks job) (frontier 0 (shape (count job)) j)
     -- "never more labels were held than the tree's depth, or one at depth 0"
     pub few : length (heldBy (deviceAfter ms)) ≤ max 1 (depth (count job))
     pub done : j ≡ count job → Loaded job before ms

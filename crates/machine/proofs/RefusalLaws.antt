@@ -11,6 +11,7 @@ use borrow.Author.Tests.{eqb-true, ltb-false, not-false}
 use Rattle.octets.proofs.EqualLaws.{equal-true}
 use Rattle.merkle.specs.Frontier.{messageLength}
 use Rattle.merkle.specs.Held.{fits}
+use Rattle.merkle.specs.Hash.{plain}
 use Rattle.wire.specs.declared.kind.Kind.{Kind}
 use Rattle.wire.specs.declared.kind.Kind.the-variants.{Program, Block, Update, Unknown}
 use Rattle.wire.specs.declared.refusal.Refusal.{Refusal}
@@ -77,7 +78,7 @@ module _ (H : List ℕ → List ℕ) (valid : (key message signature : List ℕ)
     pub sense : senseless d ≡ false
     pub loading : notLoading (d .stage) ≡ false
     pub long : length m ≡ messageLength (d .manifest .«block_len») (countOf (d .manifest)) (nextOf (d .stage))
-    pub same : fits H [] [] (countOf (d .manifest)) (pred (nextOf (d .stage))) (d .hashes) (blockIn (d .manifest .«block_len») m) (hashesAfter (d .manifest .«block_len») m) ≡ true
+    pub same : fits (plain H) (countOf (d .manifest)) (pred (nextOf (d .stage))) (d .hashes) (blockIn (d .manifest .«block_len») m) (hashesAfter (d .manifest .«block_len») m) ≡ true
 
   pub record UpdatePassed : Type 0 where
     pub complete : notComplete (d .stage) ≡ false

@@ -7,8 +7,7 @@ use lib.ListN.{length}
 use lib.Seq.{paste}
 use Rattle.octets.specs.Octets.{equal}
 use Rattle.merkle.specs.Blocks.{cut}
-use Rattle.merkle.specs.Shape.{shape}
-use Rattle.merkle.specs.Hash.{hash}
+use Rattle.merkle.specs.Hash.{plain, rootOver}
 use Rattle.merkle.specs.Frontier.{messageLength}
 use Rattle.merkle.specs.Held.{fits}
 use Rattle.wire.specs.declared.kind.Kind.{Kind}
@@ -120,7 +119,7 @@ module _ (H : List ℕ → List ℕ) where
   unfoldable pub mismatch : Device → ℕ → List ℕ → Bool
   mismatch d i m =
       let s = d .manifest in
-      not (fits H [] [] (countOf s) (pred i) (d .hashes) (blockIn (s .«block_len») m) (hashesAfter (s .«block_len») m))
+      not (fits (plain H) (countOf s) (pred i) (d .hashes) (blockIn (s .«block_len») m) (hashesAfter (s .«block_len») m))
 
   -- "Kind 2: 10, 8, 11, 12, 14"
   unfoldable pub ofBlock : Device → List ℕ → List ℕ → List (Refusal × Bool)
@@ -136,7 +135,7 @@ module _ (H : List ℕ → List ℕ) where
 
   -- the root of the tree over the first n blocks of the flash
   unfoldable pub treeOver : Manifest → List ℕ → List ℕ
-  treeOver s flash = hash H [] [] (cut (s .«block_len») flash) 0 (shape (countOf s))
+  treeOver s flash = rootOver (plain H) (cut (s .«block_len») flash) (countOf s)
 
   -- 14 for kind 3: the tree over the flash with the new block lacks the new root
   unfoldable pub lacksRoot : Manifest → List ℕ → Bool

@@ -6,15 +6,15 @@ use native.Mathlib.Omega.{arith}
 use lib.ListN.{length, take, drop}
 use lib.Seq.{drop-drop}
 use Rattle.merkle.specs.Limits.{hashLength}
-use Rattle.merkle.specs.Hash.{climbFrom}
+use Rattle.merkle.specs.Hash.{Hashing, nodeHash, climbFrom}
 use Rattle.merkle.specs.Held.{hashesIn}
 
-module _ (H : List ℕ → List ℕ) (p q : List ℕ) (s : List ℕ) where
+module _ (H : Hashing) (s : List ℕ) where
   -- The top from the hash x, with the siblings from index at on.
   abbrev pub rest : List ℕ → ℕ → List ℕ
-  rest x at = climbFrom H p q x (hashesIn ((length s - at) / hashLength) (drop at s))
+  rest x at = climbFrom H x (hashesIn ((length s - at) / hashLength) (drop at s))
 
-  pub climb-more : (x : List ℕ) (at : ℕ) → hashLength ≤ length s - at → rest x at ≡ rest (H (q ++ (x ++ take hashLength (drop at s)))) (at + hashLength)
+  pub climb-more : (x : List ℕ) (at : ℕ) → hashLength ≤ length s - at → rest x at ≡ rest (nodeHash H x (take hashLength (drop at s))) (at + hashLength)
   unfolding climbFrom hashesIn
   climb-more x at h =
       let e : (length s - at) / hashLength ≡ suc ((length s - (at + hashLength)) / hashLength) = omega arith in
@@ -24,5 +24,5 @@ module _ (H : List ℕ → List ℕ) (p q : List ℕ) (s : List ℕ) where
   unfolding climbFrom hashesIn
   climb-done x at h = let e : (length s - at) / hashLength ≡ 0 = omega arith in rw e
 
-  pub climb-all : (x : List ℕ) → rest x 0 ≡ climbFrom H p q x (hashesIn (length s / hashLength) s)
+  pub climb-all : (x : List ℕ) → rest x 0 ≡ climbFrom H x (hashesIn (length s / hashLength) s)
   climb-all x = let e : length s - 0 ≡ length s = omega arith in rw e

@@ -9,6 +9,7 @@ use lib.ListN.{length, length-append}
 use Rattle.merkle.specs.Limits.{maxBlocks, maxHeld, hashLength}
 use Rattle.merkle.specs.Shape.{Shape, leaf, node, size, depth, split, shape}
 use Rattle.merkle.specs.Frontier.{rightSiblings, siblings, frontier, carried, messageLength, held}
+use Rattle.merkle.specs.Hash.{plain}
 use Rattle.merkle.proofs.ShapeLaws.{lt-or-le, shape-leaf, size-shape, depth-fits, depth-least, height, height-node, height-shape, halves, size-left, size-right}
 use Rattle.merkle.proofs.FrontierLaws.{on-halves, largest-zero, largest-left, largest-right, frontier-zero, frontier-leaf, frontier-left, frontier-right, frontier-all, Next, next}
 use Rattle.merkle.proofs.HashLaws.{Same, length-hashes, siblings-same, frontier-same}
@@ -27,11 +28,11 @@ module _ (o : ℕ) (s : Shape) (i : ℕ) where
 
   siblings-count : length (siblings o s i) ≡ length (siblings 0 s i)
   siblings-count =
-      sym (length-hashes id [] [] nothing (siblings o s i)) ∙ ap length (siblings-same id [] [] o s i same) ∙ length-hashes id [] [] nothing (siblings 0 s i)
+      sym (length-hashes (plain id) nothing (siblings o s i)) ∙ ap length (siblings-same (plain id) o s i same) ∙ length-hashes (plain id) nothing (siblings 0 s i)
 
   frontier-count : length (frontier o s i) ≡ length (frontier 0 s i)
   frontier-count =
-      sym (length-hashes id [] [] nothing (frontier o s i)) ∙ ap length (frontier-same id [] [] o s i same) ∙ length-hashes id [] [] nothing (frontier 0 s i)
+      sym (length-hashes (plain id) nothing (frontier o s i)) ∙ ap length (frontier-same (plain id) o s i same) ∙ length-hashes (plain id) nothing (frontier 0 s i)
 
 pub held-zero : (n : ℕ) → held n 0 ≡ 1
 unfolding held

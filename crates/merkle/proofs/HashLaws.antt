@@ -7,7 +7,7 @@ use native.Mathlib.Omega.{arith}
 use lib.ListN.{length}
 use Rattle.merkle.specs.Limits.{hashLength}
 use Rattle.merkle.specs.Shape.{Shape, leaf, node, size, Place}
-use Rattle.merkle.specs.Hash.{hash, hashes, input, climbFrom, climb}
+use Rattle.merkle.specs.Hash.{Hashing, leafHash, nodeHash, hash, hashes, input, climbFrom, climb}
 use Rattle.merkle.specs.Frontier.{largest, rightSiblings, siblings, frontier}
 use Rattle.merkle.proofs.ShapeLaws.{size-pos, size-node}
 use Rattle.merkle.proofs.FrontierLaws.{on-halves, largest-zero, largest-left, largest-right, frontier-zero, frontier-leaf, frontier-left, frontier-right}
@@ -32,38 +32,38 @@ module _ {f : ℕ → List ℕ} {o : ℕ} {g : ℕ → List ℕ} {u : ℕ} {l r 
   same-right =
       record { block = λ j h. ap f (add-assoc o (size l) j) ∙ e .block (size l + j) (omega (arith, size-node l r)) ∙ ap g (sym (add-assoc u (size l) j)) }
 
-module _ (H : List ℕ → List ℕ) (p q : List ℕ) where
-  pub length-hashes : (f : ℕ → List ℕ) (ps : List Place) → length (hashes H p q f ps) ≡ length ps
+module _ (H : Hashing) where
+  pub length-hashes : (f : ℕ → List ℕ) (ps : List Place) → length (hashes H f ps) ≡ length ps
   unfolding hashes
   length-hashes f [] = refl
   length-hashes f (x ∷ ps) = ap suc (length-hashes f ps)
 
-  pub hashes-append : (f : ℕ → List ℕ) (ps qs : List Place) → hashes H p q f (ps ++ qs) ≡ hashes H p q f ps ++ hashes H p q f qs
+  pub hashes-append : (f : ℕ → List ℕ) (ps qs : List Place) → hashes H f (ps ++ qs) ≡ hashes H f ps ++ hashes H f qs
   unfolding hashes
   hashes-append f [] qs = refl
   hashes-append f (x ∷ ps) qs = rw (hashes-append f ps qs)
 
-  pub hashes-last : (f : ℕ → List ℕ) (ps : List Place) (o : ℕ) (s : Shape) → hashes H p q f (ps ++ ((o, s) ∷ [])) ≡ hashes H p q f ps ++ (hash H p q f o s ∷ [])
+  pub hashes-last : (f : ℕ → List ℕ) (ps : List Place) (o : ℕ) (s : Shape) → hashes H f (ps ++ ((o, s) ∷ [])) ≡ hashes H f ps ++ (hash H f o s ∷ [])
   unfolding hashes
   hashes-last f ps o s = hashes-append f ps ((o, s) ∷ [])
 
-  pub hash-node : (f : ℕ → List ℕ) (o : ℕ) (l r : Shape) → hash H p q f o (node l r) ≡ H (q ++ (hash H p q f o l ++ hash H p q f (o + size l) r))
+  pub hash-node : (f : ℕ → List ℕ) (o : ℕ) (l r : Shape) → hash H f o (node l r) ≡ nodeHash H (hash H f o l) (hash H f (o + size l) r)
   unfolding hash
   hash-node f o l r = refl
 
-  pub hash-input : (f : ℕ → List ℕ) (o : ℕ) (s : Shape) → hash H p q f o s ≡ H (input H p q f o s)
+  pub hash-input : (f : ℕ → List ℕ) (o : ℕ) (s : Shape) → hash H f o s ≡ H .function (input H f o s)
   unfolding hash input
   hash-input f o leaf = refl
   hash-input f o (node l r) = refl
 
   -- A hash depends on the blocks alone.
-  pub hash-same : {f : ℕ → List ℕ} {o : ℕ} {g : ℕ → List ℕ} {u : ℕ} (s : Shape) → Same f o g u s → hash H p q f o s ≡ hash H p q g u s
+  pub hash-same : {f : ℕ → List ℕ} {o : ℕ} {g : ℕ → List ℕ} {u : ℕ} (s : Shape) → Same f o g u s → hash H f o s ≡ hash H g u s
   unfolding hash
-  hash-same {f} {o} {g} {u} leaf e = ap (λ x. H (p ++ x)) (ap f (sym (add-zero o)) ∙ e .block 0 (size-pos leaf) ∙ ap g (add-zero u))
-  hash-same (node l r) e = ap₂ (λ x y. H (q ++ (x ++ y))) (hash-same l (same-left e)) (hash-same r (same-right e))
+  hash-same {f} {o} {g} {u} leaf e = ap (λ x. leafHash H x) (ap f (sym (add-zero o)) ∙ e .block 0 (size-pos leaf) ∙ ap g (add-zero u))
+  hash-same (node l r) e = ap₂ (λ x y. nodeHash H x y) (hash-same l (same-left e)) (hash-same r (same-right e))
 
   rightSiblings-same : {f : ℕ → List ℕ} {o : ℕ} {g : ℕ → List ℕ} {u : ℕ} (s : Shape) → Same f o g u s
-      → hashes H p q f (rightSiblings o s) ≡ hashes H p q g (rightSiblings u s)
+      → hashes H f (rightSiblings o s) ≡ hashes H g (rightSiblings u s)
   unfolding rightSiblings
   rightSiblings-same leaf e = unfold hashes in refl
   rightSiblings-same {f} {o} {g} {u} (node l r) e =
@@ -72,18 +72,18 @@ module _ (H : List ℕ → List ℕ) (p q : List ℕ) where
       ∙ sym (hashes-last g (rightSiblings u l) (u + size l) r)
 
   -- The hashes that go with a block, and those of a frontier, do not depend on where the tree stands either.
-  pub siblings-same : {f g : ℕ → List ℕ} {u : ℕ} (o : ℕ) (s : Shape) (i : ℕ) → Same f o g u s → hashes H p q f (siblings o s i) ≡ hashes H p q g (siblings u s i)
+  pub siblings-same : {f g : ℕ → List ℕ} {u : ℕ} (o : ℕ) (s : Shape) (i : ℕ) → Same f o g u s → hashes H f (siblings o s i) ≡ hashes H g (siblings u s i)
   unfolding siblings
   siblings-same {f} {g} {u} o s i e =
-      on-halves (λ o s i. (u : ℕ) → Same f o g u s → hashes H p q f (siblings o s i) ≡ hashes H p q g (siblings u s i))
+      on-halves (λ o s i. (u : ℕ) → Same f o g u s → hashes H f (siblings o s i) ≡ hashes H g (siblings u s i))
       (λ o s u e. rw (largest-zero o s, largest-zero u s) (rightSiblings-same s e)) (λ o i v u e. unfold largest in rightSiblings-same leaf e)
       (λ o l r i v w ih u e. rw (largest-left o l r i v w, largest-left u l r i v w) (ih u (same-left e)))
       (λ o l r i w ih u e. rw (largest-right o l r i w, largest-right u l r i w) (ih (u + size l) (same-right e))) o s i u e
 
-  pub frontier-same : {f g : ℕ → List ℕ} {u : ℕ} (o : ℕ) (s : Shape) (i : ℕ) → Same f o g u s → hashes H p q f (frontier o s i) ≡ hashes H p q g (frontier u s i)
+  pub frontier-same : {f g : ℕ → List ℕ} {u : ℕ} (o : ℕ) (s : Shape) (i : ℕ) → Same f o g u s → hashes H f (frontier o s i) ≡ hashes H g (frontier u s i)
   unfolding hashes
   frontier-same {f} {g} {u} o s i e =
-      on-halves (λ o s i. (u : ℕ) → Same f o g u s → hashes H p q f (frontier o s i) ≡ hashes H p q g (frontier u s i))
+      on-halves (λ o s i. (u : ℕ) → Same f o g u s → hashes H f (frontier o s i) ≡ hashes H g (frontier u s i))
       (λ o s u e. rw (frontier-zero o s, frontier-zero u s) (ap {B = List (List ℕ)} (λ x. x ∷ []) (hash-same s e)))
       (λ o i v u e. rw (frontier-leaf o i v, frontier-leaf u i v))
       (λ o l r i v w ih u e.
@@ -93,20 +93,20 @@ module _ (H : List ℕ → List ℕ) (p q : List ℕ) where
       ∙ sym (hashes-last g (frontier u l i) (u + size l) r)))
       (λ o l r i w ih u e. rw (frontier-right o l r i w, frontier-right u l r i w) (ih (u + size l) (same-right e))) o s i u e
 
-  pub climb-last : (x : List ℕ) (ys : List (List ℕ)) (y : List ℕ) → climbFrom H p q x (ys ++ (y ∷ [])) ≡ H (q ++ (climbFrom H p q x ys ++ y))
+  pub climb-last : (x : List ℕ) (ys : List (List ℕ)) (y : List ℕ) → climbFrom H x (ys ++ (y ∷ [])) ≡ nodeHash H (climbFrom H x ys) y
   unfolding climbFrom
   climb-last x [] y = refl
-  climb-last x (z ∷ ys) y = climb-last (H (q ++ (x ++ z))) ys y
+  climb-last x (z ∷ ys) y = climb-last (nodeHash H x z) ys y
 
   -- A tree's hash is worked out from its first block and the right siblings above that.
-  pub hash-climb : (f : ℕ → List ℕ) (o : ℕ) (s : Shape) → hash H p q f o s ≡ climb H p q (f o) (hashes H p q f (rightSiblings o s))
+  pub hash-climb : (f : ℕ → List ℕ) (o : ℕ) (s : Shape) → hash H f o s ≡ climb H (f o) (hashes H f (rightSiblings o s))
   unfolding climb climbFrom rightSiblings hashes hash
   hash-climb f o leaf = refl
   hash-climb f o (node l r) =
-      ap (λ x. H (q ++ (x ++ hash H p q f (o + size l) r))) (hash-climb f o l)
-      ∙ sym (climb-last (H (p ++ f o)) (hashes H p q f (rightSiblings o l)) (hash H p q f (o + size l) r))
-      ∙ ap (climbFrom H p q (H (p ++ f o))) (sym (hashes-last f (rightSiblings o l) (o + size l) r))
+      ap (λ x. nodeHash H x (hash H f (o + size l) r)) (hash-climb f o l)
+      ∙ sym (climb-last (leafHash H (f o)) (hashes H f (rightSiblings o l)) (hash H f (o + size l) r))
+      ∙ ap (climbFrom H (leafHash H (f o))) (sym (hashes-last f (rightSiblings o l) (o + size l) r))
 
-  module _ (sized : (x : List ℕ) → length (H x) ≡ hashLength) where
-    pub length-hash : (f : ℕ → List ℕ) (o : ℕ) (s : Shape) → length (hash H p q f o s) ≡ hashLength
-    length-hash f o s = ap length (hash-input f o s) ∙ sized (input H p q f o s)
+  module _ (sized : (x : List ℕ) → length (H .function x) ≡ hashLength) where
+    pub length-hash : (f : ℕ → List ℕ) (o : ℕ) (s : Shape) → length (hash H f o s) ≡ hashLength
+    length-hash f o s = ap length (hash-input f o s) ∙ sized (input H f o s)

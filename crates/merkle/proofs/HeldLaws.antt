@@ -8,7 +8,7 @@ use lib.ListN.{length, take, drop, replicate, length-drop, length-append, length
 use lib.Seq.{paste, length-paste, drop-drop, take-append-le, drop-append-le, take-at, drop-at, take-all}
 use Rattle.octets.specs.Octets.{equal}
 use Rattle.merkle.specs.Limits.{hashLength, maxBlocks, heldBytes}
-use Rattle.merkle.specs.Hash.{climb}
+use Rattle.merkle.specs.Hash.{Hashing, climb}
 use Rattle.merkle.specs.Frontier.{carried, held}
 use Rattle.merkle.specs.Held.{joined, hashesIn, heldStart, heldIn, nextHeld, begun, advanced, fits}
 use Rattle.octets.proofs.CopyLaws.{paste-from}
@@ -110,11 +110,11 @@ start-is n i h c lt le e =
     let f = e .1 in
     (ap (λ x. heldBytes - hashLength * x) (e .0), omega arith, omega arith)
 
-pub fits-is : (H : List ℕ → List ℕ) (p q : List ℕ) (n i start : ℕ) (array block message x : List ℕ) (t : Bool) → start ≡ heldStart n i
-    → length message ≡ hashLength * carried n (i + 1) → x ≡ climb H p q block (hashesIn (length message / hashLength) message)
-    → t ≡ equal (take (start + hashLength - start) (drop start array)) x → t ≡ fits H p q n i array block message
+pub fits-is : (H : Hashing) (n i start : ℕ) (array block message x : List ℕ) (t : Bool) → start ≡ heldStart n i
+    → length message ≡ hashLength * carried n (i + 1) → x ≡ climb H block (hashesIn (length message / hashLength) message)
+    → t ≡ equal (take (start + hashLength - start) (drop start array)) x → t ≡ fits H n i array block message
 unfolding fits nextHeld
-fits-is H p q n i start array block message x t es lm ex et =
+fits-is H n i start array block message x t es lm ex et =
     let w : start + hashLength - start ≡ hashLength = omega arith in
     let z : i + 1 ≡ suc i = omega arith in
     let c : length message / hashLength ≡ carried n (suc i) = omega (arith, ap (carried n) z) in

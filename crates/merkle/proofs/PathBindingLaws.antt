@@ -10,7 +10,7 @@ use native.Mathlib.Decide.{ℕ-discrete}
 use lib.ListN.{length, length-append}
 use Rattle.merkle.specs.Limits.{hashLength}
 use Rattle.merkle.specs.Shape.{Shape, leaf, node, size, Place}
-use Rattle.merkle.specs.Hash.{hash, hashes, input}
+use Rattle.merkle.specs.Hash.{Hashing, leafInput, leafHash, hash, hashes, input}
 use Rattle.merkle.specs.Path.{pathSiblings, way, besideInput, ascend, ascendInputs, pathHash, pathInputs, PathCollision}
 use Rattle.merkle.proofs.HashLaws.{append-inj, hashes-last, hash-input, length-hash}
 use Rattle.merkle.proofs.PathLaws.{Down, on-way, length-last, top, path-node, inputs-node}
@@ -24,82 +24,82 @@ last-of (y ∷ z ∷ zs) (suc m) e =
     let k = last-of (z ∷ zs) m (omega arith) in
     (y ∷ k .0, k .1, ap {B = List (List ℕ)} (λ xs. y ∷ xs) (k .2), ap suc (k .3))
 
-module _ (H : List ℕ → List ℕ) (p q : List ℕ) (sized : (x : List ℕ) → length (H x) ≡ hashLength) where
-  length-ascend : (x : List ℕ) (ws : List (Place × Bool)) (ys : List (List ℕ)) → length x ≡ hashLength → length (ascend H p q x ws ys) ≡ hashLength
+module _ (H : Hashing) (sized : (x : List ℕ) → length (H .function x) ≡ hashLength) where
+  length-ascend : (x : List ℕ) (ws : List (Place × Bool)) (ys : List (List ℕ)) → length x ≡ hashLength → length (ascend H x ws ys) ≡ hashLength
   unfolding ascend
   length-ascend x [] ys e = e
   length-ascend x (w ∷ ws) [] e = e
-  length-ascend x (w ∷ ws) (y ∷ ys) e = length-ascend (H (besideInput H p q x (w .1) y)) ws ys (sized (besideInput H p q x (w .1) y))
+  length-ascend x (w ∷ ws) (y ∷ ys) e = length-ascend (H .function (besideInput H x (w .1) y)) ws ys (sized (besideInput H x (w .1) y))
 
-  length-path : (o : ℕ) (s : Shape) (i : ℕ) (b : List ℕ) (ys : List (List ℕ)) → length (pathHash H p q o s i b ys) ≡ hashLength
+  length-path : (o : ℕ) (s : Shape) (i : ℕ) (b : List ℕ) (ys : List (List ℕ)) → length (pathHash H o s i b ys) ≡ hashLength
   unfolding pathHash
-  length-path o s i b ys = length-ascend (H (p ++ b)) (way o s i) ys (sized (p ++ b))
+  length-path o s i b ys = length-ascend (leafHash H b) (way o s i) ys (sized (leafInput H b))
 
   -- equal hash inputs have equal parts
-  beside-inj : (t : Bool) (x y x' y' : List ℕ) → length x ≡ hashLength → length x' ≡ hashLength → besideInput H p q x t y ≡ besideInput H p q x' t y' → (x ≡ x') × (y ≡ y')
+  beside-inj : (t : Bool) (x y x' y' : List ℕ) → length x ≡ hashLength → length x' ≡ hashLength → besideInput H x t y ≡ besideInput H x' t y' → (x ≡ x') × (y ≡ y')
   unfolding besideInput
-  beside-inj true x y x' y' n n' e = append-inj x x' (n ∙ sym n') (append-cancel-left q (x ++ y) (x' ++ y') e)
+  beside-inj true x y x' y' n n' e = append-inj x x' (n ∙ sym n') (append-cancel-left (H .nodePrefix) (x ++ y) (x' ++ y') e)
   beside-inj false x y x' y' n n' e =
-      let k : y ++ x ≡ y' ++ x' = append-cancel-left q (y ++ x) (y' ++ x') e in
+      let k : y ++ x ≡ y' ++ x' = append-cancel-left (H .nodePrefix) (y ++ x) (y' ++ x') e in
       let w = append-inj y y' (omega (arith, simp length-append at (ap length k))) k in
       (w .1, w .0)
 
   -- The tree's block and siblings, or a collision.
   abbrev pub Bound : (ℕ → List ℕ) → List ℕ → List (List ℕ) → ℕ → Shape → ℕ → Type 0
-  Bound f b ys o s i = ((b ≡ f (o + i)) × (ys ≡ hashes H p q f (pathSiblings o s i))) ⊎ PathCollision H p q f o s i b ys
+  Bound f b ys o s i = ((b ≡ f (o + i)) × (ys ≡ hashes H f (pathSiblings o s i))) ⊎ PathCollision H f o s i b ys
 
-  bound-leaf : (f : ℕ → List ℕ) (b : List ℕ) (ys : List (List ℕ)) (o : ℕ) → length (way o leaf 0) ≡ length ys → pathHash H p q o leaf 0 b ys ≡ hash H p q f o leaf → Bound f b ys o leaf 0
+  bound-leaf : (f : ℕ → List ℕ) (b : List ℕ) (ys : List (List ℕ)) (o : ℕ) → length (way o leaf 0) ≡ length ys → pathHash H o leaf 0 b ys ≡ hash H f o leaf → Bound f b ys o leaf 0
   unfolding way pathHash ascend hash pathSiblings hashes pathInputs ascendInputs input
   bound-leaf f b (y ∷ ys) o n e = absurd (omega arith)
-  bound-leaf f b [] o n e = go (List-discrete ℕ-discrete (p ++ f (o + 0)) (p ++ b))
+  bound-leaf f b [] o n e = go (List-discrete ℕ-discrete (leafInput H (f (o + 0))) (leafInput H b))
     where
-      go : Dec (p ++ f (o + 0) ≡ p ++ b) → Bound f b [] o leaf 0
-      go (yes k) = inl (sym (append-cancel-left p (f (o + 0)) b k), refl)
+      go : Dec (leafInput H (f (o + 0)) ≡ leafInput H b) → Bound f b [] o leaf 0
+      go (yes k) = inl (sym (append-cancel-left (H .leafPrefix) (f (o + 0)) b k), refl)
       go (no d) =
-          inr (record { place = (o + 0, leaf); given = p ++ b; within = List·Memᴰ·head refl; differ = d; agree = ap (λ k. H (p ++ f k)) (add-zero o) ∙ sym e })
+          inr (record { place = (o + 0, leaf); given = leafInput H b; within = List·Memᴰ·head refl; differ = d; agree = ap (λ k. leafHash H (f k)) (add-zero o) ∙ sym e })
 
   module _ (f : ℕ → List ℕ) (b : List ℕ) (o : ℕ) (l r : Shape) (i : ℕ) (d : Down o l r i) (ys : List (List ℕ)) (y : List ℕ)
       (count : length (way (d .start) (d .half) (d .index)) ≡ length ys) where
     given : List ℕ
-    given = top H p q o l r i d b ys y count
+    given = top H o l r i d b ys y count
 
-    bound-node : pathHash H p q o (node l r) i b (ys ++ (y ∷ [])) ≡ hash H p q f o (node l r)
-        → (pathHash H p q (d .start) (d .half) (d .index) b ys ≡ hash H p q f (d .start) (d .half) → Bound f b ys (d .start) (d .half) (d .index))
+    bound-node : pathHash H o (node l r) i b (ys ++ (y ∷ [])) ≡ hash H f o (node l r)
+        → (pathHash H (d .start) (d .half) (d .index) b ys ≡ hash H f (d .start) (d .half) → Bound f b ys (d .start) (d .half) (d .index))
         → Bound f b (ys ++ (y ∷ [])) o (node l r) i
     unfolding given
-    bound-node e ih = go (List-discrete ℕ-discrete (input H p q f o (node l r)) given)
+    bound-node e ih = go (List-discrete ℕ-discrete (input H f o (node l r)) given)
       where
-        go : Dec (input H p q f o (node l r) ≡ given) → Bound f b (ys ++ (y ∷ [])) o (node l r) i
+        go : Dec (input H f o (node l r) ≡ given) → Bound f b (ys ++ (y ∷ [])) o (node l r) i
         go (no n) =
             inr (record {
               place = (o, node l r);
               given = given;
-              within = rw (inputs-node H p q o l r i d b ys y count) (Memᴰ·append-right (pathInputs H p q (d .start) (d .half) (d .index) b ys) (List·Memᴰ·head refl));
+              within = rw (inputs-node H o l r i d b ys y count) (Memᴰ·append-right (pathInputs H (d .start) (d .half) (d .index) b ys) (List·Memᴰ·head refl));
               differ = n;
-              agree = sym (hash-input H p q f o (node l r)) ∙ sym e ∙ path-node H p q o l r i d b ys y count;
+              agree = sym (hash-input H f o (node l r)) ∙ sym e ∙ path-node H o l r i d b ys y count;
             })
         go (yes k) =
-            let w = beside-inj (d .right) (hash H p q f (d .start) (d .half)) (hash H p q f (d .from) (d .beside)) (pathHash H p q (d .start) (d .half) (d .index) b ys) y
-            (length-hash H p q sized f (d .start) (d .half)) (length-path (d .start) (d .half) (d .index) b ys) (sym (d .input-is H p q f) ∙ k) in
+            let w = beside-inj (d .right) (hash H f (d .start) (d .half)) (hash H f (d .from) (d .beside)) (pathHash H (d .start) (d .half) (d .index) b ys) y
+            (length-hash H sized f (d .start) (d .half)) (length-path (d .start) (d .half) (d .index) b ys) (sym (d .input-is H f) ∙ k) in
             ⊎-elim
             (λ g. inl (
               g .0 ∙ ap f (d .block-is),
               ap₂ {C = List (List ℕ)} (λ u v. u ++ (v ∷ [])) (g .1) (sym (w .1))
-                  ∙ sym (ap (hashes H p q f) (d .siblings-are) ∙ hashes-last H p q f (pathSiblings (d .start) (d .half) (d .index)) (d .from) (d .beside)),
+                  ∙ sym (ap (hashes H f) (d .siblings-are) ∙ hashes-last H f (pathSiblings (d .start) (d .half) (d .index)) (d .from) (d .beside)),
             ))
             (λ c. inr (record {
               place = c .place;
               given = c .given;
-              within = rw (inputs-node H p q o l r i d b ys y count) (Memᴰ·append-left (((o, node l r), given) ∷ []) (c .within));
+              within = rw (inputs-node H o l r i d b ys y count) (Memᴰ·append-left (((o, node l r), given) ∷ []) (c .within));
               differ = c .differ;
               agree = c .agree;
             }))
             (ih (sym (w .0)))
 
   pub path-binding : (f : ℕ → List ℕ) (b : List ℕ) (o : ℕ) (s : Shape) (i : ℕ) → i < size s → (ys : List (List ℕ)) → length (way o s i) ≡ length ys
-      → pathHash H p q o s i b ys ≡ hash H p q f o s → Bound f b ys o s i
+      → pathHash H o s i b ys ≡ hash H f o s → Bound f b ys o s i
   path-binding f b =
-      on-way (λ o s i. (ys : List (List ℕ)) → length (way o s i) ≡ length ys → pathHash H p q o s i b ys ≡ hash H p q f o s → Bound f b ys o s i)
+      on-way (λ o s i. (ys : List (List ℕ)) → length (way o s i) ≡ length ys → pathHash H o s i b ys ≡ hash H f o s → Bound f b ys o s i)
       (λ o ys n e. bound-leaf f b ys o n e)
       (λ o l r i d ih ys n e.
       let ws : List (Place × Bool) = way (d .start) (d .half) (d .index) in

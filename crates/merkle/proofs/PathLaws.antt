@@ -10,7 +10,7 @@ use lib.ListN.{length, length-append}
 use borrow.Author.Tests.{lt-ltb, le-ltb}
 use Rattle.merkle.specs.Blocks.{overlay}
 use Rattle.merkle.specs.Shape.{Shape, leaf, node, size, Place}
-use Rattle.merkle.specs.Hash.{hash, hashes, input}
+use Rattle.merkle.specs.Hash.{Hashing, leafHash, hash, hashes, input}
 use Rattle.merkle.specs.Path.{pathSiblings, way, besideInput, ascend, ascendInputs, pathHash, pathInputs}
 use Rattle.merkle.proofs.ShapeLaws.{lt-or-le, size-node}
 use Rattle.merkle.proofs.BlockLaws.{overlay-same, overlay-other}
@@ -26,8 +26,8 @@ pub record Down (o : ℕ) (l r : Shape) (i : ℕ) : Type 0 where
   pub right : Bool
   pub siblings-are : pathSiblings o (node l r) i ≡ pathSiblings start half index ++ ((from, beside) ∷ [])
   pub way-is : way o (node l r) i ≡ way start half index ++ (((o, node l r), right) ∷ [])
-  pub input-is : (H : List ℕ → List ℕ) (p q : List ℕ) (f : ℕ → List ℕ)
-      → input H p q f o (node l r) ≡ besideInput H p q (hash H p q f start half) right (hash H p q f from beside)
+  pub input-is : (H : Hashing) (f : ℕ → List ℕ)
+      → input H f o (node l r) ≡ besideInput H (hash H f start half) right (hash H f from beside)
   pub within : index < size half
   pub block-is : start + index ≡ o + i
   pub apart : (j : ℕ) → j < size beside → from + j ≢ o + i
@@ -44,7 +44,7 @@ down-left o l r i h =
       right = true;
       siblings-are = rw (lt-ltb i (size l) h, pathSiblings);
       way-is = rw (lt-ltb i (size l) h, way);
-      input-is = λ H p q f. refl;
+      input-is = λ H f. refl;
       within = h;
       block-is = refl;
       apart = λ j g e. omega arith;
@@ -62,7 +62,7 @@ down-right o l r i h k =
       right = false;
       siblings-are = rw (le-ltb i (size l) h, pathSiblings);
       way-is = rw (le-ltb i (size l) h, way);
-      input-is = λ H p q f. refl;
+      input-is = λ H f. refl;
       within = omega (arith, size-node l r);
       block-is = omega arith;
       apart = λ j g e. omega arith;
@@ -92,70 +92,70 @@ length-way =
     ap length (d .way-is) ∙ length-last (way (d .start) (d .half) (d .index)) ((o, node l r), d .right) ∙ ap suc e
     ∙ sym (ap length (d .siblings-are) ∙ length-last (pathSiblings (d .start) (d .half) (d .index)) (d .from, d .beside)))
 
-module _ (H : List ℕ → List ℕ) (p q : List ℕ) where
+module _ (H : Hashing) where
   ascend-last : (x : List ℕ) (ws : List (Place × Bool)) (ys : List (List ℕ)) (w : Place × Bool) (y : List ℕ) → length ws ≡ length ys
-      → ascend H p q x (ws ++ (w ∷ [])) (ys ++ (y ∷ [])) ≡ H (besideInput H p q (ascend H p q x ws ys) (w .1) y)
+      → ascend H x (ws ++ (w ∷ [])) (ys ++ (y ∷ [])) ≡ H .function (besideInput H (ascend H x ws ys) (w .1) y)
   unfolding ascend
   ascend-last x [] [] w y e = refl
   ascend-last x [] (z ∷ ys) w y e = absurd (omega arith)
   ascend-last x (v ∷ ws) [] w y e = absurd (omega arith)
-  ascend-last x (v ∷ ws) (z ∷ ys) w y e = ascend-last (H (besideInput H p q x (v .1) z)) ws ys w y (omega arith)
+  ascend-last x (v ∷ ws) (z ∷ ys) w y e = ascend-last (H .function (besideInput H x (v .1) z)) ws ys w y (omega arith)
 
   inputs-last : (x : List ℕ) (ws : List (Place × Bool)) (ys : List (List ℕ)) (w : Place × Bool) (y : List ℕ) → length ws ≡ length ys
-      → ascendInputs H p q x (ws ++ (w ∷ [])) (ys ++ (y ∷ [])) ≡ ascendInputs H p q x ws ys ++ ((w .0, besideInput H p q (ascend H p q x ws ys) (w .1) y) ∷ [])
+      → ascendInputs H x (ws ++ (w ∷ [])) (ys ++ (y ∷ [])) ≡ ascendInputs H x ws ys ++ ((w .0, besideInput H (ascend H x ws ys) (w .1) y) ∷ [])
   unfolding ascend ascendInputs
   inputs-last x [] [] w y e = refl
   inputs-last x [] (z ∷ ys) w y e = absurd (omega arith)
   inputs-last x (v ∷ ws) [] w y e = absurd (omega arith)
-  inputs-last x (v ∷ ws) (z ∷ ys) w y e = rw (inputs-last (H (besideInput H p q x (v .1) z)) ws ys w y (omega arith))
+  inputs-last x (v ∷ ws) (z ∷ ys) w y e = rw (inputs-last (H .function (besideInput H x (v .1) z)) ws ys w y (omega arith))
 
   -- A path in a node: the path in the half, then its sibling y.
   module _ (o : ℕ) (l r : Shape) (i : ℕ) (d : Down o l r i) (b : List ℕ) (ys : List (List ℕ)) (y : List ℕ) (count : length (way (d .start) (d .half) (d .index)) ≡ length ys) where
     abbrev pub top : List ℕ
-    top = besideInput H p q (pathHash H p q (d .start) (d .half) (d .index) b ys) (d .right) y
+    top = besideInput H (pathHash H (d .start) (d .half) (d .index) b ys) (d .right) y
 
-    pub path-node : pathHash H p q o (node l r) i b (ys ++ (y ∷ [])) ≡ H top
+    pub path-node : pathHash H o (node l r) i b (ys ++ (y ∷ [])) ≡ H .function top
     unfolding pathHash
-    path-node = rw (d .way-is) (ascend-last (H (p ++ b)) (way (d .start) (d .half) (d .index)) ys ((o, node l r), d .right) y count)
+    path-node = rw (d .way-is) (ascend-last (leafHash H b) (way (d .start) (d .half) (d .index)) ys ((o, node l r), d .right) y count)
 
-    pub inputs-node : pathInputs H p q o (node l r) i b (ys ++ (y ∷ [])) ≡ pathInputs H p q (d .start) (d .half) (d .index) b ys ++ (((o, node l r), top) ∷ [])
+    pub inputs-node : pathInputs H o (node l r) i b (ys ++ (y ∷ [])) ≡ pathInputs H (d .start) (d .half) (d .index) b ys ++ (((o, node l r), top) ∷ [])
     unfolding pathHash pathInputs
-    inputs-node = rw (d .way-is, inputs-last (H (p ++ b)) (way (d .start) (d .half) (d .index)) ys ((o, node l r), d .right) y count, sym (d .block-is))
+    inputs-node = rw (d .way-is, inputs-last (leafHash H b) (way (d .start) (d .half) (d .index)) ys ((o, node l r), d .right) y count, sym (d .block-is))
 
   -- The root is worked out from a block and its siblings' hashes.
-  pub hash-path : (f : ℕ → List ℕ) (o : ℕ) (s : Shape) (i : ℕ) → i < size s → hash H p q f o s ≡ pathHash H p q o s i (f (o + i)) (hashes H p q f (pathSiblings o s i))
+  pub hash-path : (f : ℕ → List ℕ) (o : ℕ) (s : Shape) (i : ℕ) → i < size s → hash H f o s ≡ pathHash H o s i (f (o + i)) (hashes H f (pathSiblings o s i))
   hash-path f =
-      on-way (λ o s i. hash H p q f o s ≡ pathHash H p q o s i (f (o + i)) (hashes H p q f (pathSiblings o s i)))
-      (λ o. unfold hash in unfold pathHash in unfold way in unfold ascend in (ap (λ k. H (p ++ f k)) (sym (add-zero o))))
+      on-way (λ o s i. hash H f o s ≡ pathHash H o s i (f (o + i)) (hashes H f (pathSiblings o s i)))
+      (λ o. unfold hash in unfold pathHash in unfold way in unfold ascend in (ap (λ k. leafHash H (f k)) (sym (add-zero o))))
       (λ o l r i d e.
       let ps : List Place = pathSiblings (d .start) (d .half) (d .index) in
-      hash-input H p q f o (node l r) ∙ ap H (d .input-is H p q f)
-      ∙ ap (λ x. H (besideInput H p q x (d .right) (hash H p q f (d .from) (d .beside))))
-      (e ∙ ap (λ k. pathHash H p q (d .start) (d .half) (d .index) (f k) (hashes H p q f ps)) (d .block-is))
-      ∙ sym (path-node o l r i d (f (o + i)) (hashes H p q f ps) (hash H p q f (d .from) (d .beside))
-      (length-way (d .start) (d .half) (d .index) (d .within) ∙ sym (length-hashes H p q f ps)))
-      ∙ ap (pathHash H p q o (node l r) i (f (o + i))) (sym (ap (hashes H p q f) (d .siblings-are) ∙ hashes-last H p q f ps (d .from) (d .beside))))
+      hash-input H f o (node l r) ∙ ap (H .function) (d .input-is H f)
+      ∙ ap (λ x. H .function (besideInput H x (d .right) (hash H f (d .from) (d .beside))))
+      (e ∙ ap (λ k. pathHash H (d .start) (d .half) (d .index) (f k) (hashes H f ps)) (d .block-is))
+      ∙ sym (path-node o l r i d (f (o + i)) (hashes H f ps) (hash H f (d .from) (d .beside))
+      (length-way (d .start) (d .half) (d .index) (d .within) ∙ sym (length-hashes H f ps)))
+      ∙ ap (pathHash H o (node l r) i (f (o + i))) (sym (ap (hashes H f) (d .siblings-are) ∙ hashes-last H f ps (d .from) (d .beside))))
 
   -- A block's siblings do not depend on it.
   siblings-other : (f g : ℕ → List ℕ) (at : ℕ) → ((j : ℕ) → j ≢ at → f j ≡ g j) → (o : ℕ) (s : Shape) (i : ℕ) → i < size s → o + i ≡ at
-      → hashes H p q f (pathSiblings o s i) ≡ hashes H p q g (pathSiblings o s i)
+      → hashes H f (pathSiblings o s i) ≡ hashes H g (pathSiblings o s i)
   siblings-other f g at other =
-      on-way (λ o s i. o + i ≡ at → hashes H p q f (pathSiblings o s i) ≡ hashes H p q g (pathSiblings o s i)) (λ o z. unfold pathSiblings in unfold hashes in refl)
+      on-way (λ o s i. o + i ≡ at → hashes H f (pathSiblings o s i) ≡ hashes H g (pathSiblings o s i)) (λ o z. unfold pathSiblings in unfold hashes in refl)
       (λ o l r i d e z.
       let ps : List Place = pathSiblings (d .start) (d .half) (d .index) in
-      ap (hashes H p q f) (d .siblings-are) ∙ hashes-last H p q f ps (d .from) (d .beside)
+      ap (hashes H f) (d .siblings-are) ∙ hashes-last H f ps (d .from) (d .beside)
       ∙ ap₂ {C = List (List ℕ)} (λ x y. x ++ (y ∷ [])) (e (d .block-is ∙ z))
-      (hash-same H p q (d .beside) (record { block = λ j h. other (d .from + j) (λ k. d .apart j h (k ∙ sym z)) }))
-      ∙ sym (ap (hashes H p q g) (d .siblings-are) ∙ hashes-last H p q g ps (d .from) (d .beside)))
+      (hash-same H (d .beside) (record { block = λ j h. other (d .from + j) (λ k. d .apart j h (k ∙ sym z)) }))
+      ∙ sym (ap (hashes H g) (d .siblings-are) ∙ hashes-last H g ps (d .from) (d .beside)))
 
   -- One block replaced: a place without it keeps its hash, and the new root comes from the new block and the old siblings.
-  pub hash-elsewhere : (f : ℕ → List ℕ) (at : ℕ) (b : List ℕ) (o : ℕ) (s : Shape) → (at < o) ⊎ (o + size s ≤ at) → hash H p q (overlay f at b) o s ≡ hash H p q f o s
+  pub hash-elsewhere : (f : ℕ → List ℕ) (at : ℕ) (b : List ℕ) (o : ℕ) (s : Shape) → (at < o) ⊎ (o + size s ≤ at) → hash H (overlay f at b) o s ≡ hash H f o s
   hash-elsewhere f at b o s out =
-      hash-same H p q s (record { block = λ j h. overlay-other f at b (o + j) (λ e. ⊎-elim (λ (w : at < o). omega arith) (λ (w : o + size s ≤ at). omega arith) out) })
+      hash-same H s (record { block = λ j h. overlay-other f at b (o + j) (λ e. ⊎-elim (λ (w : at < o). omega arith) (λ (w : o + size s ≤ at). omega arith) out) })
 
   pub hash-replaced : (f : ℕ → List ℕ) (s : Shape) (at : ℕ) (b : List ℕ) → at < size s
-      → hash H p q (overlay f at b) 0 s ≡ pathHash H p q 0 s at b (hashes H p q f (pathSiblings 0 s at))
+      → hash H (overlay f at b) 0 s ≡ pathHash H 0 s at b (hashes H f (pathSiblings 0 s at))
   hash-replaced f s at b h =
       let z : 0 + at ≡ at = omega arith in
       hash-path (overlay f at b) 0 s at h
-      ∙ ap₂ (pathHash H p q 0 s at) (ap (overlay f at b) z ∙ overlay-same f at b) (siblings-other (overlay f at b) f at (overlay-other f at b) 0 s at h z)
+      ∙ ap₂ (pathHash H 0 s at) (ap (overlay f at b) z ∙ overlay-same f at b) (siblings-other (overlay f at b) f at (overlay-other f at b) 0 s at h z)

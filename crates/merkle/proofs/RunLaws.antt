@@ -9,7 +9,7 @@ use lib.ListN.{length}
 use Rattle.octets.proofs.EqualLaws.{equal-self, equal-true}
 use Rattle.merkle.specs.Limits.{hashLength, maxBlocks, heldBytes}
 use Rattle.merkle.specs.Shape.{Place, shape, size}
-use Rattle.merkle.specs.Hash.{hashes, climb}
+use Rattle.merkle.specs.Hash.{Hashing, hashes, climb}
 use Rattle.merkle.specs.Frontier.{siblings, frontier, carried}
 use Rattle.merkle.specs.Held.{joined, hashesIn, heldIn, nextHeld, advanced, fits, sent, afterSent}
 use Rattle.merkle.proofs.ShapeLaws.{lt-or-le, size-shape}
@@ -17,51 +17,51 @@ use Rattle.merkle.proofs.HashLaws.{length-hashes, length-hash}
 use Rattle.merkle.proofs.LoadingLaws.{Step, step, Loaded, loaded-step}
 use Rattle.merkle.proofs.HeldLaws.{length-hashesIn, Sized, none, more, length-joined, hashesIn-joined, Advance, advance}
 
-module _ (H : List ℕ → List ℕ) (p q : List ℕ) where
+module _ (H : Hashing) where
   -- A block that fits keeps the array loaded.
   pub loaded-fits : (n i : ℕ) (root array message : List ℕ) (before after : ℕ → List ℕ) → i < n → n ≤ maxBlocks → length array ≡ heldBytes
-      → length message ≡ hashLength * carried n (suc i) → ((j : ℕ) → j < i → after j ≡ before j) → fits H p q n i array (after i) message ≡ true
-      → Loaded H p q (shape n) root i before (heldIn n i array) → Loaded H p q (shape n) root (suc i) after (heldIn n (suc i) (advanced n i array message))
+      → length message ≡ hashLength * carried n (suc i) → ((j : ℕ) → j < i → after j ≡ before j) → fits H n i array (after i) message ≡ true
+      → Loaded H (shape n) root i before (heldIn n i array) → Loaded H (shape n) root (suc i) after (heldIn n (suc i) (advanced n i array message))
   unfolding fits carried
   loaded-fits n i root array message before after h le la lm same ok loaded =
       let a : Advance n i array message = advance n i array message h le la lm in
-      let e : nextHeld n i array ≡ climb H p q (after i) (hashesIn (carried n (suc i)) message) = equal-true (nextHeld n i array) _ ok in
+      let e : nextHeld n i array ≡ climb H (after i) (hashesIn (carried n (suc i)) message) = equal-true (nextHeld n i array) _ ok in
       rw (a .then)
-      (loaded-step H p q (shape n) root i before after (a .others) (hashesIn (carried n (suc i)) message) (rw (size-shape n (omega arith)) h) same
+      (loaded-step H (shape n) root i before after (a .others) (hashesIn (carried n (suc i)) message) (rw (size-shape n (omega arith)) h) same
       (length-hashesIn (carried n (suc i)) message) (rw (sym e) (rw (a .first) at loaded)))
 
-  module _ (sized : (x : List ℕ) → length (H x) ≡ hashLength) where
-    pub sized-hashes : (f : ℕ → List ℕ) (ps : List Place) → Sized (hashes H p q f ps)
+  module _ (sized : (x : List ℕ) → length (H .function x) ≡ hashLength) where
+    pub sized-hashes : (f : ℕ → List ℕ) (ps : List Place) → Sized (hashes H f ps)
     unfolding hashes
     sized-hashes f [] = none
-    sized-hashes f (x ∷ ps) = more (length-hash H p q sized f (x .0) (x .1)) (sized-hashes f ps)
+    sized-hashes f (x ∷ ps) = more (length-hash H sized f (x .0) (x .1)) (sized-hashes f ps)
 
-    pub length-sent : (n : ℕ) (f : ℕ → List ℕ) (i : ℕ) → length (sent H p q n f i) ≡ hashLength * carried n (suc i)
+    pub length-sent : (n : ℕ) (f : ℕ → List ℕ) (i : ℕ) → length (sent H n f i) ≡ hashLength * carried n (suc i)
     unfolding sent carried
     length-sent n f i =
-        length-joined (sized-hashes f (siblings 0 (shape n) i)) ∙ ap (λ c. hashLength * c) (length-hashes H p q f (siblings 0 (shape n) i))
+        length-joined (sized-hashes f (siblings 0 (shape n) i)) ∙ ap (λ c. hashLength * c) (length-hashes H f (siblings 0 (shape n) i))
 
-    hashesIn-sent : (n : ℕ) (f : ℕ → List ℕ) (i : ℕ) → hashesIn (carried n (suc i)) (sent H p q n f i) ≡ hashes H p q f (siblings 0 (shape n) i)
+    hashesIn-sent : (n : ℕ) (f : ℕ → List ℕ) (i : ℕ) → hashesIn (carried n (suc i)) (sent H n f i) ≡ hashes H f (siblings 0 (shape n) i)
     unfolding sent carried
     hashesIn-sent n f i =
-        ap (λ c. hashesIn c (joined (hashes H p q f (siblings 0 (shape n) i)))) (sym (length-hashes H p q f (siblings 0 (shape n) i)))
+        ap (λ c. hashesIn c (joined (hashes H f (siblings 0 (shape n) i)))) (sym (length-hashes H f (siblings 0 (shape n) i)))
         ∙ hashesIn-joined (sized-hashes f (siblings 0 (shape n) i))
 
     -- The image's hashes at the frontier are held.
     abbrev pub Holds : ℕ → (ℕ → List ℕ) → ℕ → List ℕ → Type 0
-    Holds n f i array = heldIn n i array ≡ hashes H p q f (frontier 0 (shape n) i)
+    Holds n f i array = heldIn n i array ≡ hashes H f (frontier 0 (shape n) i)
 
     -- One honest step: the sender's message fits, and afterwards the image's hashes at the next frontier are held.
     pub record Honest (n : ℕ) (f : ℕ → List ℕ) (i : ℕ) (array : List ℕ) : Type 0 where
-      pub accepted : fits H p q n i array (f i) (sent H p q n f i) ≡ true
-      pub holds : Holds n f (suc i) (advanced n i array (sent H p q n f i))
-      pub size : length (advanced n i array (sent H p q n f i)) ≡ heldBytes
+      pub accepted : fits H n i array (f i) (sent H n f i) ≡ true
+      pub holds : Holds n f (suc i) (advanced n i array (sent H n f i))
+      pub size : length (advanced n i array (sent H n f i)) ≡ heldBytes
 
     pub honest : (n : ℕ) (f : ℕ → List ℕ) (i : ℕ) (array : List ℕ) → i < n → n ≤ maxBlocks → length array ≡ heldBytes → Holds n f i array → Honest n f i array
     unfolding fits
     honest n f i array h le la holds =
-        let a : Advance n i array (sent H p q n f i) = advance n i array (sent H p q n f i) h le la (length-sent n f i) in
-        let k : Step H p q f (shape n) i = step H p q f (shape n) i (rw (size-shape n (omega arith)) h) in
+        let a : Advance n i array (sent H n f i) = advance n i array (sent H n f i) h le la (length-sent n f i) in
+        let k : Step H f (shape n) i = step H f (shape n) i (rw (size-shape n (omega arith)) h) in
         let both = sym (a .first) ∙ holds ∙ k .first in
         record {
           accepted = rw (hashesIn-sent n f i, head-eq-of-cons-eq both) (equal-self _);
@@ -71,16 +71,16 @@ module _ (H : List ℕ → List ℕ) (p q : List ℕ) where
 
     -- The whole honest run: all of the first j messages fit, each after those before it, and then the image's hashes are held.
     pub record HonestRun (n : ℕ) (f : ℕ → List ℕ) (j : ℕ) (array : List ℕ) : Type 0 where
-      pub accepted : (i : ℕ) → i < j → fits H p q n i (afterSent H p q n f i array) (f i) (sent H p q n f i) ≡ true
-      pub holds : Holds n f j (afterSent H p q n f j array)
-      pub size : length (afterSent H p q n f j array) ≡ heldBytes
+      pub accepted : (i : ℕ) → i < j → fits H n i (afterSent H n f i array) (f i) (sent H n f i) ≡ true
+      pub holds : Holds n f j (afterSent H n f j array)
+      pub size : length (afterSent H n f j array) ≡ heldBytes
 
     pub honest-run : (n : ℕ) (f : ℕ → List ℕ) (j : ℕ) (array : List ℕ) → j ≤ n → n ≤ maxBlocks → length array ≡ heldBytes → Holds n f 0 array → HonestRun n f j array
     unfolding afterSent
     honest-run n f zero array h le la holds = record { accepted = λ i g. absurd (omega arith); holds = holds; size = la }
     honest-run n f (suc j) array h le la holds =
         let k = honest-run n f j array (omega arith) le la holds in
-        let s = honest n f j (afterSent H p q n f j array) h le (k .size) (k .holds) in
+        let s = honest n f j (afterSent H n f j array) h le (k .size) (k .holds) in
         record {
           accepted = λ i g. ⊎-elim (λ (w : i < j). k .accepted i w) (λ (w : j ≤ i). let e : i ≡ j = omega arith in rw e (s .accepted)) (lt-or-le i j);
           holds = s .holds;

@@ -8,7 +8,7 @@ use lib.ListN.{length, take, drop, length-append, take-append-drop}
 use lib.Seq.{paste, length-paste, length-take-le, take-append-le, take-take, take-length, drop-at}
 use Rattle.merkle.specs.Limits.{hashLength}
 use Rattle.merkle.specs.Shape.{split, shape, Place}
-use Rattle.merkle.specs.Hash.{hash, hashes}
+use Rattle.merkle.specs.Hash.{Hashing, hash, hashes}
 use Rattle.merkle.specs.Frontier.{largest, rightSiblings, siblings, carried}
 use Rattle.merkle.specs.Held.{joined, sent}
 use Rattle.merkle.proofs.ShapeLaws.{shape-leaf, split-between, halves, size-left}
@@ -75,13 +75,13 @@ siblings-halves : (o m k : ℕ) → 1 < m → k ≡ split m → rightSiblings o 
 siblings-halves o m k big is =
     rw (halves m k big is) (unfold rightSiblings in (ap (λ x. rightSiblings o (shape k) ++ ((o + x, shape (m - k)) ∷ [])) (size-left m k big is)))
 
-module _ (H : List ℕ → List ℕ) (p q : List ℕ) (f : ℕ → List ℕ) (before many count : ℕ) (out : List ℕ) where
+module _ (H : Hashing) (f : ℕ → List ℕ) (before many count : ℕ) (out : List ℕ) where
   -- The hashes of the right siblings above the first m of `many` blocks are written; c are left.
   pub record Writing (now : List ℕ) (m c : ℕ) : Type 0 where
     pub done : List (List ℕ)
     pub some : 0 < m
     pub most : m ≤ many
-    pub all : hashes H p q f (rightSiblings before (shape many)) ≡ hashes H p q f (rightSiblings before (shape m)) ++ done
+    pub all : hashes H f (rightSiblings before (shape many)) ≡ hashes H f (rightSiblings before (shape m)) ++ done
     pub left : c ≡ length (rightSiblings before (shape m))
     pub room : hashLength * c ≤ length out
     pub stands : now ≡ take (hashLength * c) out ++ (joined done ++ drop (hashLength * count) out)
@@ -94,7 +94,7 @@ module _ (H : List ℕ → List ℕ) (p q : List ℕ) (f : ℕ → List ℕ) (be
         done = [];
         some = pos;
         most = omega arith;
-        all = sym (append-nil (hashes H p q f (rightSiblings before (shape many))));
+        all = sym (append-nil (hashes H f (rightSiblings before (shape many))));
         left = e;
         room = h;
         stands = sym (take-append-drop (hashLength * count) out);
@@ -113,7 +113,7 @@ module _ (H : List ℕ → List ℕ) (p q : List ℕ) (f : ℕ → List ℕ) (be
         let s = w .same in
         (omega arith, omega arith)
 
-    pub writing-one : (x : List ℕ) → length x ≡ hashLength → x ≡ hash H p q f (before + k) (shape (m - k))
+    pub writing-one : (x : List ℕ) → length x ≡ hashLength → x ≡ hash H f (before + k) (shape (m - k))
         → Writing (paste now (hashLength * (c - 1)) x (length x)) k (c - 1)
     unfolding joined
     writing-one x lx e =
@@ -124,14 +124,14 @@ module _ (H : List ℕ → List ℕ) (p q : List ℕ) (f : ℕ → List ℕ) (be
         let rest = joined (w .done) ++ drop (hashLength * count) out in
         let len : length (take (hashLength * c) out) ≡ hashLength * c = length-take-le (hashLength * c) out r in
         let end : hashLength * (c - 1) + length x ≡ hashLength * c = omega arith in
-        let xs = hashes H p q f (rightSiblings before (shape k)) in
+        let xs = hashes H f (rightSiblings before (shape k)) in
         record {
           done = x ∷ w .done;
           some = s .0;
           most = omega arith;
           all = w .all ∙ ap (λ (ys : List (List ℕ)). ys ++ w .done)
-              (ap (hashes H p q f) (siblings-halves before m k big is) ∙ hashes-last H p q f (rightSiblings before (shape k)) (before + k) (shape (m - k)))
-              ∙ append-assoc xs (hash H p q f (before + k) (shape (m - k)) ∷ []) (w .done) ∙ ap (λ (y : List ℕ). xs ++ (y ∷ w .done)) (sym e);
+              (ap (hashes H f) (siblings-halves before m k big is) ∙ hashes-last H f (rightSiblings before (shape k)) (before + k) (shape (m - k)))
+              ∙ append-assoc xs (hash H f (before + k) (shape (m - k)) ∷ []) (w .done) ∙ ap (λ (y : List ℕ). xs ++ (y ∷ w .done)) (sym e);
           left = omega arith;
           room = omega arith;
           stands = ap (λ (z : List ℕ). paste z (hashLength * (c - 1)) x (length x)) (w .stands)
@@ -146,19 +146,19 @@ module _ (H : List ℕ → List ℕ) (p q : List ℕ) (f : ℕ → List ℕ) (be
           same = length-paste now (hashLength * (c - 1)) x (length x) (let v = writing-room in omega arith) (omega arith) ∙ w .same;
         }
 
-  pub writing-all : (now : List ℕ) (m c : ℕ) → m ≤ 1 → Writing now m c → now ≡ joined (hashes H p q f (rightSiblings before (shape many))) ++ drop (hashLength * count) out
+  pub writing-all : (now : List ℕ) (m c : ℕ) → m ≤ 1 → Writing now m c → now ≡ joined (hashes H f (rightSiblings before (shape many))) ++ drop (hashLength * count) out
   writing-all now m c h w =
       let none : rightSiblings before (shape m) ≡ [] = ap (rightSiblings before) (shape-leaf m h) ∙ unfold rightSiblings in refl in
       let z : hashLength * c ≡ 0 = ap (λ x. hashLength * x) (w .left ∙ ap length none) in
-      let d : hashes H p q f (rightSiblings before (shape many)) ≡ w .done =
-      w .all ∙ ap (λ ps. hashes H p q f ps ++ w .done) none ∙ unfold hashes in refl in
+      let d : hashes H f (rightSiblings before (shape many)) ≡ w .done =
+      w .all ∙ ap (λ ps. hashes H f ps ++ w .done) none ∙ unfold hashes in refl in
       w .stands ∙ ap₂ {C = List ℕ} (λ x y. take x out ++ (joined y ++ drop (hashLength * count) out)) z (sym d)
 
 -- They are what the sender puts into the message.
-pub sent-is : (H : List ℕ → List ℕ) (p q : List ℕ) (n : ℕ) (f : ℕ → List ℕ) (before many : ℕ) → largest 0 (shape n) before ≡ (before, shape many)
-    → sent H p q n f before ≡ joined (hashes H p q f (rightSiblings before (shape many)))
+pub sent-is : (H : Hashing) (n : ℕ) (f : ℕ → List ℕ) (before many : ℕ) → largest 0 (shape n) before ≡ (before, shape many)
+    → sent H n f before ≡ joined (hashes H f (rightSiblings before (shape many)))
 unfolding sent siblings
-sent-is H p q n f before many e = ap (λ (x : Place). joined (hashes H p q f (rightSiblings (x .0) (x .1)))) e
+sent-is H n f before many e = ap (λ (x : Place). joined (hashes H f (rightSiblings (x .0) (x .1)))) e
 
 pub carried-is : (n before many : ℕ) → largest 0 (shape n) before ≡ (before, shape many) → carried n (before + 1) ≡ length (rightSiblings before (shape many))
 unfolding carried siblings

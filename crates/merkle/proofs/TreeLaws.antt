@@ -9,7 +9,7 @@ use lib.ListN.{length, take, drop, length-drop}
 use lib.Seq.{paste}
 use Rattle.merkle.specs.Blocks.{cut, overlay}
 use Rattle.merkle.specs.Shape.{Shape, size, split, shape}
-use Rattle.merkle.specs.Hash.{hash}
+use Rattle.merkle.specs.Hash.{Hashing, leafHash, nodeHash, hash}
 use Rattle.merkle.proofs.ShapeLaws.{shape-leaf, size-shape, split-between, halves, size-left}
 use Rattle.merkle.proofs.HashLaws.{hash-node, hash-same}
 use Rattle.merkle.proofs.BlockLaws.{overlay-same, overlay-other, cut-drop, written}
@@ -38,38 +38,38 @@ overlay-behind L a at b k n r is j h = go (ℕ-discrete j r)
         overlay-other (cut L (drop (k * L) a)) r b j d ∙ cut-drop L a k j ∙ sym (overlay-other (cut L a) at b (k + j) (λ e. d (is j h .1 e)))
 
 -- A subtree of m blocks from block k on has the hash of the tree over the flash from there on.
-pub hash-behind : (H : List ℕ → List ℕ) (p q : List ℕ) (L : ℕ) (a : List ℕ) (at : ℕ) (b : List ℕ) (k n r m : ℕ) (d : List ℕ) → Behind at k n r → 0 < m → k + m ≤ n
-    → d ≡ hash H p q (overlay (cut L (drop (k * L) a)) r b) 0 (shape m) → d ≡ hash H p q (overlay (cut L a) at b) k (shape m)
-hash-behind H p q L a at b k n r m d is pos le e =
-    e ∙ hash-same H p q (shape m)
+pub hash-behind : (H : Hashing) (L : ℕ) (a : List ℕ) (at : ℕ) (b : List ℕ) (k n r m : ℕ) (d : List ℕ) → Behind at k n r → 0 < m → k + m ≤ n
+    → d ≡ hash H (overlay (cut L (drop (k * L) a)) r b) 0 (shape m) → d ≡ hash H (overlay (cut L a) at b) k (shape m)
+hash-behind H L a at b k n r m d is pos le e =
+    e ∙ hash-same H (shape m)
     (record { block = λ j h. let z = size-shape m pos in rw (zero-add j) (overlay-behind L a at b k n r is j (omega arith)) })
 
 -- The tree over the flash, one block replaced: of one block, and from the two halves.
-module _ (H : List ℕ → List ℕ) (p q : List ℕ) (L : ℕ) (a : List ℕ) (at : ℕ) (b : List ℕ) (n : ℕ) (d : List ℕ) where
-  pub root-one : n ≡ 1 → d ≡ H (p ++ overlay (cut L a) at b 0) → d ≡ hash H p q (overlay (cut L a) at b) 0 (shape n)
+module _ (H : Hashing) (L : ℕ) (a : List ℕ) (at : ℕ) (b : List ℕ) (n : ℕ) (d : List ℕ) where
+  pub root-one : n ≡ 1 → d ≡ leafHash H (overlay (cut L a) at b 0) → d ≡ hash H (overlay (cut L a) at b) 0 (shape n)
   unfolding hash
   root-one e is = is ∙ rw (shape-leaf n (omega arith))
 
-  pub root-two : (k r : ℕ) (x y : List ℕ) → 1 < n → k ≡ split n → Behind at k n r → x ≡ hash H p q (overlay (cut L a) at b) 0 (shape k)
-      → y ≡ hash H p q (overlay (cut L (drop (k * L) a)) r b) 0 (shape (n - k)) → d ≡ H (q ++ (x ++ y)) → d ≡ hash H p q (overlay (cut L a) at b) 0 (shape n)
+  pub root-two : (k r : ℕ) (x y : List ℕ) → 1 < n → k ≡ split n → Behind at k n r → x ≡ hash H (overlay (cut L a) at b) 0 (shape k)
+      → y ≡ hash H (overlay (cut L (drop (k * L) a)) r b) 0 (shape (n - k)) → d ≡ nodeHash H x y → d ≡ hash H (overlay (cut L a) at b) 0 (shape n)
   root-two k r x y big is behind ex ey ed =
       let f = overlay (cut L a) at b in
       let m = split-between n k big is in
       let start : 0 + size (shape k) ≡ k = zero-add (size (shape k)) ∙ size-left n k big is in
-      ed ∙ ap₂ (λ u v. H (q ++ (u ++ v))) ex (hash-behind H p q L a at b k n r (n - k) y behind (omega arith) (omega arith) ey)
-      ∙ ap (λ o. H (q ++ (hash H p q f 0 (shape k) ++ hash H p q f o (shape (n - k))))) (sym start)
-      ∙ sym (ap (hash H p q f 0) (halves n k big is) ∙ hash-node H p q f 0 (shape k) (shape (n - k)))
+      ed ∙ ap₂ (λ u v. nodeHash H u v) ex (hash-behind H L a at b k n r (n - k) y behind (omega arith) (omega arith) ey)
+      ∙ ap (λ o. nodeHash H (hash H f 0 (shape k)) (hash H f o (shape (n - k)))) (sym start)
+      ∙ sym (ap (hash H f 0) (halves n k big is) ∙ hash-node H f 0 (shape k) (shape (n - k)))
 
 -- A block written into the flash, as long as the one it replaces: the tree is the one with this block replaced.
-pub hash-written : (H : List ℕ → List ℕ) (p q : List ℕ) (L : ℕ) (a x : List ℕ) (i : ℕ) → i * L ≤ length a → length x ≡ length (cut L a i) → (o : ℕ) (s : Shape)
-    → hash H p q (cut L (paste a (i * L) x (length x))) o s ≡ hash H p q (overlay (cut L a) i x) o s
-hash-written H p q L a x i room long o s = hash-same H p q s (record { block = λ j h. written L a x i room long (o + j) })
+pub hash-written : (H : Hashing) (L : ℕ) (a x : List ℕ) (i : ℕ) → i * L ≤ length a → length x ≡ length (cut L a i) → (o : ℕ) (s : Shape)
+    → hash H (cut L (paste a (i * L) x (length x))) o s ≡ hash H (overlay (cut L a) i x) o s
+hash-written H L a x i room long o s = hash-same H s (record { block = λ j h. written L a x i room long (o + j) })
 
 -- Block n is none of the n.
-pub root-whole : (H : List ℕ → List ℕ) (p q : List ℕ) (f : ℕ → List ℕ) (b : List ℕ) (n : ℕ) (d : List ℕ) → 0 < n
-    → d ≡ hash H p q (overlay f n b) 0 (shape n) → d ≡ hash H p q f 0 (shape n)
-root-whole H p q f b n d pos e =
-    e ∙ hash-same H p q (shape n) (record { block = λ j h. overlay-other f n b (0 + j) (λ e. let z = size-shape n pos in omega arith) })
+pub root-whole : (H : Hashing) (f : ℕ → List ℕ) (b : List ℕ) (n : ℕ) (d : List ℕ) → 0 < n
+    → d ≡ hash H (overlay f n b) 0 (shape n) → d ≡ hash H f 0 (shape n)
+root-whole H f b n d pos e =
+    e ∙ hash-same H (shape n) (record { block = λ j h. overlay-other f n b (0 + j) (λ e. let z = size-shape n pos in omega arith) })
 
 -- The flash is long enough for both halves.
 pub left-fits : (L A n k : ℕ) → k < n → (n - 1) * L ≤ A → k * L ≤ A

@@ -1,16 +1,42 @@
--- The hash (01: label) of each place of a tree over blocks. The hash function H and what goes before a block and before two hashes are general:
--- H is SHA-256, and both prefixes are empty.
+-- The hash (01: label) of each place of a tree over blocks.
 use mathlib.Core.Path.{_≡_}
 use mathlib.Core.Logic.{_≢_}
 use mathlib.Core.List.{List, [], _∷_, _++_, List·Memᴰ}
 use Prim.Native.Nat.{ℕ, _+_}
-use Rattle.merkle.specs.Shape.{Shape, leaf, node, size, Place, places}
+use Rattle.merkle.specs.Shape.{Shape, leaf, node, size, Place, places, shape}
 
-module _ (H : List ℕ → List ℕ) (leafPrefix nodePrefix : List ℕ) where
+-- How hashes are made: the hash function, and what goes before a block and before two hashes.
+pub record Hashing : Type 0 where
+  pub function : List ℕ → List ℕ
+  pub leafPrefix : List ℕ
+  pub nodePrefix : List ℕ
+
+-- As 01 makes them: the function is SHA-256, and nothing goes before.
+abbrev pub plain : (List ℕ → List ℕ) → Hashing
+plain function = record { function = function; leafPrefix = []; nodePrefix = [] }
+
+module _ (H : Hashing) where
+  -- What is digested for a single block, and for a left and a right hash; the hash of either.
+  abbrev pub leafInput : List ℕ → List ℕ
+  leafInput block = H .leafPrefix ++ block
+
+  abbrev pub nodeInput : List ℕ → List ℕ → List ℕ
+  nodeInput left right = H .nodePrefix ++ (left ++ right)
+
+  abbrev pub leafHash : List ℕ → List ℕ
+  leafHash block = H .function (leafInput block)
+
+  abbrev pub nodeHash : List ℕ → List ℕ → List ℕ
+  nodeHash left right = H .function (nodeInput left right)
+
   -- The hash of the tree that has o blocks before it: of a single block, or of left hash then right hash.
   unfoldable pub hash : (ℕ → List ℕ) → ℕ → Shape → List ℕ
-  hash blocks o leaf = H (leafPrefix ++ blocks o)
-  hash blocks o (node l r) = H (nodePrefix ++ (hash blocks o l ++ hash blocks (o + size l) r))
+  hash blocks o leaf = leafHash (blocks o)
+  hash blocks o (node l r) = nodeHash (hash blocks o l) (hash blocks (o + size l) r)
+
+  -- The root: the hash of the whole tree over n blocks.
+  abbrev pub rootOver : (ℕ → List ℕ) → ℕ → List ℕ
+  rootOver blocks n = hash blocks 0 (shape n)
 
   unfoldable pub hashes : (ℕ → List ℕ) → List Place → List (List ℕ)
   hashes blocks [] = []
@@ -18,21 +44,21 @@ module _ (H : List ℕ → List ℕ) (leafPrefix nodePrefix : List ℕ) where
 
   -- The hash input at a place: all that is digested there.
   unfoldable pub input : (ℕ → List ℕ) → ℕ → Shape → List ℕ
-  input blocks o leaf = leafPrefix ++ blocks o
-  input blocks o (node l r) = nodePrefix ++ (hash blocks o l ++ hash blocks (o + size l) r)
+  input blocks o leaf = leafInput (blocks o)
+  input blocks o (node l r) = nodeInput (hash blocks o l) (hash blocks (o + size l) r)
 
   -- From a hash up over right siblings, lowest first.
   unfoldable pub climbFrom : List ℕ → List (List ℕ) → List ℕ
   climbFrom x [] = x
-  climbFrom x (y ∷ siblings) = climbFrom (H (nodePrefix ++ (x ++ y))) siblings
+  climbFrom x (y ∷ siblings) = climbFrom (nodeHash x y) siblings
 
   -- The hash of a tree, worked out from its first block and the right siblings above that.
   unfoldable pub climb : List ℕ → List (List ℕ) → List ℕ
-  climb block siblings = climbFrom (H (leafPrefix ++ block)) siblings
+  climb block siblings = climbFrom (leafHash block) siblings
 
   -- At one place of the tree the two hash inputs differ and have the same hash.
   pub record Collision (f g : ℕ → List ℕ) (o : ℕ) (s : Shape) : Type 0 where
     pub place : Place
     pub within : List·Memᴰ place (places o s)
     pub differ : input f (place .0) (place .1) ≢ input g (place .0) (place .1)
-    pub agree : H (input f (place .0) (place .1)) ≡ H (input g (place .0) (place .1))
+    pub agree : H .function (input f (place .0) (place .1)) ≡ H .function (input g (place .0) (place .1))

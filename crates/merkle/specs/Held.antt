@@ -7,7 +7,7 @@ use lib.Seq.{paste}
 use Rattle.octets.specs.Octets.{equal}
 use Rattle.merkle.specs.Limits.{hashLength, heldBytes}
 use Rattle.merkle.specs.Shape.{shape}
-use Rattle.merkle.specs.Hash.{hashes, climb}
+use Rattle.merkle.specs.Hash.{Hashing, hashes, climb}
 use Rattle.merkle.specs.Frontier.{siblings, carried, held}
 
 -- Hashes one behind the other, and the first c hashes of a run of bytes.
@@ -37,14 +37,14 @@ begun root = replicate (heldBytes - hashLength) 0 ++ root
 unfoldable pub advanced : ℕ → ℕ → List ℕ → List ℕ → List ℕ
 advanced n i array message = paste array (heldStart n i + hashLength - length message) message (length message)
 
-module _ (H : List ℕ → List ℕ) (leafPrefix nodePrefix : List ℕ) where
+module _ (H : Hashing) where
   -- Whether the hash worked out from block and message, i blocks before them, is the held one.
   unfoldable pub fits : ℕ → ℕ → List ℕ → List ℕ → List ℕ → Bool
-  fits n i array block message = equal (nextHeld n i array) (climb H leafPrefix nodePrefix block (hashesIn (carried n (suc i)) message))
+  fits n i array block message = equal (nextHeld n i array) (climb H block (hashesIn (carried n (suc i)) message))
 
   -- The hashes that the sender puts into the message of the block with i blocks before it.
   unfoldable pub sent : ℕ → (ℕ → List ℕ) → ℕ → List ℕ
-  sent n blocks i = joined (hashes H leafPrefix nodePrefix blocks (siblings 0 (shape n) i))
+  sent n blocks i = joined (hashes H blocks (siblings 0 (shape n) i))
 
   -- The array after j messages of the sender.
   unfoldable pub afterSent : ℕ → (ℕ → List ℕ) → ℕ → List ℕ → List ℕ

@@ -6,7 +6,7 @@ use mathlib.Core.List.{List, [], _∷_, _++_, List·Memᴰ}
 use Prim.Native.Nat.{ℕ, _+_, _-_}
 use lib.Dec.{ltb}
 use Rattle.merkle.specs.Shape.{Shape, leaf, node, size, Place}
-use Rattle.merkle.specs.Hash.{input}
+use Rattle.merkle.specs.Hash.{Hashing, leafInput, nodeInput, leafHash, input}
 
 -- The siblings from a block's leaf to the root, lowest first. The block has i blocks of the tree before it.
 unfoldable pub pathSiblings : ℕ → Shape → ℕ → List Place
@@ -26,34 +26,34 @@ way o (node l r) i =
       | false ↦ way (o + size l) r (i - size l) ++ (((o, node l r), false) ∷ [])
     ]
 
-module _ (H : List ℕ → List ℕ) (leafPrefix nodePrefix : List ℕ) where
+module _ (H : Hashing) where
   -- What is digested above the hash x, y its sibling.
   unfoldable pub besideInput : List ℕ → Bool → List ℕ → List ℕ
-  besideInput x right y = nodePrefix ++ cond right (x ++ y) (y ++ x)
+  besideInput x right y = cond right (nodeInput H x y) (nodeInput H y x)
 
   -- From the hash x up the way over siblings: the hash at the top, and the hash input at each node.
   unfoldable pub ascend : List ℕ → List (Place × Bool) → List (List ℕ) → List ℕ
   ascend x [] ys = x
   ascend x (w ∷ ws) [] = x
-  ascend x (w ∷ ws) (y ∷ ys) = ascend (H (besideInput x (w .1) y)) ws ys
+  ascend x (w ∷ ws) (y ∷ ys) = ascend (H .function (besideInput x (w .1) y)) ws ys
 
   unfoldable pub ascendInputs : List ℕ → List (Place × Bool) → List (List ℕ) → List (Place × List ℕ)
   ascendInputs x [] ys = []
   ascendInputs x (w ∷ ws) [] = []
-  ascendInputs x (w ∷ ws) (y ∷ ys) = (w .0, besideInput x (w .1) y) ∷ ascendInputs (H (besideInput x (w .1) y)) ws ys
+  ascendInputs x (w ∷ ws) (y ∷ ys) = (w .0, besideInput x (w .1) y) ∷ ascendInputs (H .function (besideInput x (w .1) y)) ws ys
 
   -- The root worked out from a block and its siblings from leaf to root, and the hash inputs at the places on the way.
   unfoldable pub pathHash : ℕ → Shape → ℕ → List ℕ → List (List ℕ) → List ℕ
-  pathHash o s i block ys = ascend (H (leafPrefix ++ block)) (way o s i) ys
+  pathHash o s i block ys = ascend (leafHash H block) (way o s i) ys
 
   unfoldable pub pathInputs : ℕ → Shape → ℕ → List ℕ → List (List ℕ) → List (Place × List ℕ)
   pathInputs o s i block ys =
-      ((o + i, leaf), leafPrefix ++ block) ∷ ascendInputs (H (leafPrefix ++ block)) (way o s i) ys
+      ((o + i, leaf), leafInput H block) ∷ ascendInputs (leafHash H block) (way o s i) ys
 
   -- At one place on the way the tree's hash input and the path's differ and have the same hash.
   pub record PathCollision (f : ℕ → List ℕ) (o : ℕ) (s : Shape) (i : ℕ) (block : List ℕ) (ys : List (List ℕ)) : Type 0 where
     pub place : Place
     pub given : List ℕ
     pub within : List·Memᴰ (place, given) (pathInputs o s i block ys)
-    pub differ : input H leafPrefix nodePrefix f (place .0) (place .1) ≢ given
-    pub agree : H (input H leafPrefix nodePrefix f (place .0) (place .1)) ≡ H given
+    pub differ : input H f (place .0) (place .1) ≢ given
+    pub agree : H .function (input H f (place .0) (place .1)) ≡ H .function given

@@ -6,11 +6,11 @@ use crate::path::climb;
 use octets::copy;
 use octets::equal;
 ghost use mathlib.Core.Path.{_≡_};
-ghost use mathlib.Core.List.{[]};
 ghost use Prim.Native.Nat.{_+_, _*_, _≤_, _<_};
 ghost use lib.ListN.{length};
 ghost use Rattle.sha256.specs.Sha256 as sha;
 ghost use Rattle.merkle.specs.Limits.{maxBlocks, hashLength, heldBytes};
+ghost use Rattle.merkle.specs.Hash.{plain};
 ghost use Rattle.merkle.specs.Frontier.{carried};
 ghost use Rattle.merkle.specs.Held as spec;
 ghost use Rattle.merkle.specs.Held.{heldStart, begun, advanced};
@@ -37,7 +37,7 @@ fn next_at(n: usize, before: usize) -> usize
 // Whether the hash worked out from the block after `before` of n and its siblings is the next one held.
 pub fn fits(hashes: &[u8], n: usize, before: usize, block: &[u8], siblings: &[u8]) -> bool
     requires { ⌜ (length (now hashes) ≡ heldBytes) × (before < n) × (n ≤ maxBlocks) × (length (now siblings) ≡ hashLength * carried n (before + 1)) ⌝ }
-    ensures { λ r. ⌜ r ≡ spec.fits sha.digest [] [] n before (now (hashes .entry)) (now (block .entry)) (now (siblings .entry)) ⌝ }
+    ensures { λ r. ⌜ r ≡ spec.fits (plain sha.digest) n before (now (hashes .entry)) (now (block .entry)) (now (siblings .entry)) ⌝ }
 {
     let start = next_at(n, before);
     let end = start + HASH_LEN;

@@ -3,17 +3,17 @@ use crate::limits::HASH_LEN;
 use octets::copy;
 use sha256::digest;
 ghost use mathlib.Core.Path.{_≡_};
-ghost use mathlib.Core.List.{_++_};
 ghost use Prim.Native.Nat.{_<_};
 ghost use lib.ListN.{length};
 ghost use Rattle.sha256.specs.Sha256 as sha;
 ghost use Rattle.merkle.specs.Limits.{hashLength};
 ghost use Rattle.merkle.specs.Shape as spec;
+ghost use Rattle.merkle.specs.Hash.{plain, nodeHash};
 
 // The hash over a left and a right one.
 pub fn node(left: &[u8], right: &[u8]) -> [u8; 32]
     requires { ⌜ (length (now left) ≡ hashLength) × (length (now right) ≡ hashLength) ⌝ }
-    ensures { λ r. ⌜ r ≡ sha.digest (now (left .entry) ++ now (right .entry)) ⌝ }
+    ensures { λ r. ⌜ r ≡ nodeHash (plain sha.digest) (now (left .entry)) (now (right .entry)) ⌝ }
 {
     let mut both = [0u8; 2 * HASH_LEN];
     copy(&mut both, 0, left);

@@ -8,7 +8,7 @@ use crate::tree::root_with;
 use octets::copy;
 use sha256::digest;
 ghost use mathlib.Core.Path.{_≡_};
-ghost use mathlib.Core.List.{[], _++_};
+ghost use mathlib.Core.List.{_++_};
 ghost use Prim.Native.Nat.{_+_, _-_, _*_, _/_, _≤_, _<_};
 ghost use lib.ListN.{length, drop};
 ghost use Rattle.sha256.specs.Sha256 as sha;
@@ -16,12 +16,13 @@ ghost use Rattle.merkle.specs.Limits.{maxBlocks, hashLength};
 ghost use Rattle.merkle.specs.Blocks.{cut, overlay};
 ghost use Rattle.merkle.specs.Shape.{shape};
 ghost use Rattle.merkle.specs.Hash as spec;
+ghost use Rattle.merkle.specs.Hash.{plain};
 ghost use Rattle.merkle.specs.Frontier.{largest, carried};
 ghost use Rattle.merkle.specs.Held.{hashesIn, sent};
 
 // The hash worked out from a block and the right siblings above it, lowest first.
 pub fn climb(block: &[u8], siblings: &[u8]) -> [u8; 32]
-    ensures { λ r. ⌜ r ≡ spec.climb sha.digest [] [] (now (block .entry)) (hashesIn (length (now (siblings .entry)) / hashLength) (now (siblings .entry))) ⌝ }
+    ensures { λ r. ⌜ r ≡ spec.climb (plain sha.digest) (now (block .entry)) (hashesIn (length (now (siblings .entry)) / hashLength) (now (siblings .entry))) ⌝ }
 {
     let mut x = digest(block);
     let mut at: usize = 0;
@@ -64,7 +65,7 @@ pub fn write_siblings(
     block: &[u8],
 )
     requires { ⌜ (before < n) × (n ≤ maxBlocks) × ((n - 1) * len ≤ length (now flash)) × (hashLength * carried n (before + 1) ≤ length (now out)) ⌝ }
-    ensures { λ _. ⌜ now (out .exit) ≡ sent sha.digest [] [] n (overlay (cut len (now (flash .entry))) at (now (block .entry))) before ++ drop (hashLength * carried n (before + 1)) (now (out .entry)) ⌝ }
+    ensures { λ _. ⌜ now (out .exit) ≡ sent (plain sha.digest) n (overlay (cut len (now (flash .entry))) at (now (block .entry))) before ++ drop (hashLength * carried n (before + 1)) (now (out .entry)) ⌝ }
 {
     let mut m = subtree(n, before);
     let counts = count(n, before);

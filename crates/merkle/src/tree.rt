@@ -3,17 +3,15 @@ use crate::node::node;
 use crate::node::split;
 use sha256::digest;
 ghost use mathlib.Core.Path.{_≡_};
-ghost use mathlib.Core.List.{[]};
 ghost use Prim.Native.Nat.{ℕ, _+_, _-_, _*_, _≤_, _<_};
 ghost use lib.ListN.{length};
 ghost use Rattle.sha256.specs.Sha256 as sha;
 ghost use Rattle.merkle.specs.Blocks.{cut, overlay};
-ghost use Rattle.merkle.specs.Shape.{shape};
-ghost use Rattle.merkle.specs.Hash.{hash};
+ghost use Rattle.merkle.specs.Hash.{plain, leafHash, rootOver};
 
 // The hash of the first block. It is shorter than len where the flash ends within it.
 fn leaf(flash: &[u8], len: usize, at: usize, block: &[u8]) -> [u8; 32]
-    ensures { λ r. ⌜ r ≡ sha.digest (overlay (cut len (now (flash .entry))) at (now (block .entry)) 0) ⌝ }
+    ensures { λ r. ⌜ r ≡ leafHash (plain sha.digest) (overlay (cut len (now (flash .entry))) at (now (block .entry)) 0) ⌝ }
 {
     if at == 0 {
         return digest(block);
@@ -34,7 +32,7 @@ pub fn behind(at: usize, k: usize, n: usize) -> usize
 // The hash of the tree over n blocks of len bytes of the flash, with block `at` (blocks before it) replaced. Where `at` is not below n, none is replaced.
 pub fn root_with(flash: &[u8], len: usize, n: usize, at: usize, block: &[u8]) -> [u8; 32]
     requires { ⌜ (0 < n) × ((n - 1) * len ≤ length (now flash)) ⌝ }
-    ensures { λ r. ⌜ r ≡ hash sha.digest [] [] (overlay (cut len (now (flash .entry))) at (now (block .entry))) 0 (shape n) ⌝ }
+    ensures { λ r. ⌜ r ≡ rootOver (plain sha.digest) (overlay (cut len (now (flash .entry))) at (now (block .entry))) n ⌝ }
 {
     if n == 1 {
         return leaf(flash, len, at, block);
@@ -49,7 +47,7 @@ pub fn root_with(flash: &[u8], len: usize, n: usize, at: usize, block: &[u8]) ->
 // The hash of the tree over n blocks of len bytes of the flash.
 pub fn root(flash: &[u8], len: usize, n: usize) -> [u8; 32]
     requires { ⌜ (0 < n) × ((n - 1) * len ≤ length (now flash)) ⌝ }
-    ensures { λ r. ⌜ r ≡ hash sha.digest [] [] (cut len (now (flash .entry))) 0 (shape n) ⌝ }
+    ensures { λ r. ⌜ r ≡ rootOver (plain sha.digest) (cut len (now (flash .entry))) n ⌝ }
 {
     root_with(flash, len, n, n, flash)
 }

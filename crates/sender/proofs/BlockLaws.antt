@@ -2,7 +2,7 @@
 use mathlib.Core.Path.{_≡_, refl, sym, ap, ap₂, subst, _∙_}
 use mathlib.Core.Logic.{_⊎_, inl, inr}
 use mathlib.Core.Bool.{Bool, false}
-use mathlib.Core.List.{List, [], _++_, append-assoc}
+use mathlib.Core.List.{List, _++_, append-assoc}
 use Prim.Native.Nat.{ℕ, suc, _+_, _-_, _*_, _≤_, _<_}
 use native.Mathlib.Nat.{mul-le-mul-right, zero-add}
 use native.Mathlib.Omega.{arith}
@@ -13,7 +13,7 @@ use Rattle.sha256.specs.Sha256.{digest}
 use Rattle.merkle.specs.Limits.{maxBlocks}
 use Rattle.merkle.specs.Blocks.{blockCount, cut, overlay}
 use Rattle.merkle.specs.Shape.{shape}
-use Rattle.merkle.specs.Hash.{hash}
+use Rattle.merkle.specs.Hash.{plain, rootOver}
 use Rattle.merkle.specs.Frontier.{carried, messageLength}
 use Rattle.merkle.specs.Held.{joined, sent}
 use Rattle.merkle.proofs.ShapeLaws.{lt-or-le, size-shape}
@@ -79,12 +79,12 @@ module _ (L : ℕ) (image : List ℕ) (n : ℕ) (z : Sized L (length image)) (c 
           rw z0 (overlay-same (cut L image) (n - 1) b ∙ e)
 
   module _ (H : List ℕ → List ℕ) (b : List ℕ) (e : b ≡ imageBlocks L image (n - 1)) where
-    pub same-root : hash H [] [] (overlay (cut L image) (n - 1) b) 0 (shape n) ≡ hash H [] [] (imageBlocks L image) 0 (shape n)
-    same-root = hash-same H [] [] (shape n) (same-blocks b e)
+    pub same-root : rootOver (plain H) (overlay (cut L image) (n - 1) b) n ≡ rootOver (plain H) (imageBlocks L image) n
+    same-root = hash-same (plain H) (shape n) (same-blocks b e)
 
-    pub same-sent : (i : ℕ) → sent H [] [] n (overlay (cut L image) (n - 1) b) i ≡ sent H [] [] n (imageBlocks L image) i
+    pub same-sent : (i : ℕ) → sent (plain H) n (overlay (cut L image) (n - 1) b) i ≡ sent (plain H) n (imageBlocks L image) i
     unfolding sent
-    same-sent i = ap joined (siblings-same H [] [] 0 (shape n) i (same-blocks b e))
+    same-sent i = ap joined (siblings-same (plain H) 0 (shape n) i (same-blocks b e))
 
 -- What the tests of size and number leave: n blocks, and a number among them.
 module _ (image : List ℕ) (len number n : ℕ) where

@@ -1,6 +1,6 @@
 -- The lengths of what the sender writes: manifest and messages are as long as 01 says.
 use mathlib.Core.Path.{_≡_, refl, ap, _∙_}
-use mathlib.Core.List.{List, [], _∷_, _++_}
+use mathlib.Core.List.{List, _∷_, _++_}
 use Prim.Native.Nat.{ℕ, suc, pred, _+_, _-_, _≤_, _<_}
 use native.Mathlib.Omega.{arith}
 use lib.ListN.{length, length-append}
@@ -11,6 +11,7 @@ use Rattle.octets.proofs.NumberLaws.{length-bytes}
 use Rattle.merkle.specs.Frontier.{carried, messageLength}
 use Rattle.merkle.specs.Held.{sent}
 use Rattle.merkle.specs.Shape.{shape}
+use Rattle.merkle.specs.Hash.{plain}
 use Rattle.merkle.proofs.HashLaws.{length-hash}
 use Rattle.merkle.proofs.RunLaws.{length-sent}
 use Rattle.wire.specs.Manifest.{written}
@@ -24,7 +25,7 @@ use Rattle.sender.specs.Job.{Job, job, count, blocks, rootOf, manifestFo
 module _ (j : Job) where
   pub length-root : length (rootOf digest j) ≡ 32
   unfolding rootOf
-  length-root = length-hash digest [] [] length-digest (blocks j) 0 (shape (count j))
+  length-root = length-hash (plain digest) length-digest (blocks j) 0 (shape (count j))
 
   pub length-manifest : length (written (manifestFor digest j)) ≡ 48
   unfolding manifestFor
@@ -43,11 +44,11 @@ module _ (j : Job) where
     pub length-block : length (blockFor digest j i) ≡ messageLength (j .block) (count j) i
     unfolding blockFor blockMessage messageLength
     length-block =
-        let s = sent digest [] [] (count j) (blocks j) (pred i) in
+        let s = sent (plain digest) (count j) (blocks j) (pred i) in
         let e : suc (pred i) ≡ i = omega arith in
         ap suc
         (length-append (bytes 2 i ++ blocks j (pred i)) s ∙ ap (λ (x : ℕ). x + length s) (length-append (bytes 2 i) (blocks j (pred i))))
-        ∙ omega (arith, length-bytes 2 i, length-one, length-sent digest [] [] length-digest (count j) (blocks j) (pred i), ap (carried (count j)) e)
+        ∙ omega (arith, length-bytes 2 i, length-one, length-sent (plain digest) length-digest (count j) (blocks j) (pred i), ap (carried (count j)) e)
 
     pub length-update : (signature : List ℕ) → length (updateFor digest j i signature) ≡ 51 + j .block + length signature
     unfolding updateFor updateMessage
@@ -60,7 +61,7 @@ module _ (j : Job) where
 
 -- a block's message, from the parts that the code writes
 pub block-is : (j : Job) (n i : ℕ) (block hashes : List ℕ) → n ≡ count j → block ≡ imageBlocks (j .block) (j .image) (i - 1)
-    → hashes ≡ sent digest [] [] n (imageBlocks (j .block) (j .image)) (i - 1) → 2 ∷ (bytes 2 i ++ block ++ hashes) ≡ blockFor digest j i
+    → hashes ≡ sent (plain digest) n (imageBlocks (j .block) (j .image)) (i - 1) → 2 ∷ (bytes 2 i ++ block ++ hashes) ≡ blockFor digest j i
 unfolding blockFor blockMessage blocks
 block-is j n i block hashes e f g = let p : pred i ≡ i - 1 = omega arith in rw p (cc)
 

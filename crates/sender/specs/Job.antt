@@ -1,10 +1,9 @@
 -- What the sender is given, and the manifest and messages for it (01, 'Slip, messages, state').
-use mathlib.Core.List.{List, []}
+use mathlib.Core.List.{List}
 use Prim.Native.Nat.{ℕ, pred}
 use lib.ListN.{length}
 use Rattle.merkle.specs.Blocks.{blockCount}
-use Rattle.merkle.specs.Shape.{shape}
-use Rattle.merkle.specs.Hash.{hash}
+use Rattle.merkle.specs.Hash.{plain, rootOver}
 use Rattle.merkle.specs.Held.{sent}
 use Rattle.wire.specs.declared.manifest.Manifest.{Manifest}
 use Rattle.wire.specs.Image.{imageBlocks}
@@ -32,7 +31,7 @@ blocks j = imageBlocks (j .block) (j .image)
 module _ (H : List ℕ → List ℕ) where
   -- the root of the tree over them
   unfoldable pub rootOf : Job → List ℕ
-  rootOf j = hash H [] [] (blocks j) 0 (shape (count j))
+  rootOf j = rootOver (plain H) (blocks j) (count j)
 
   unfoldable pub manifestFor : Job → Manifest
   manifestFor j = record { version = 1; «block_len» = j .block; model = j .model; serial = j .serial; «image_len» = length (j .image); root = rootOf j }
@@ -42,7 +41,7 @@ module _ (H : List ℕ → List ℕ) where
 
   -- message i, from 1
   unfoldable pub blockFor : Job → ℕ → List ℕ
-  blockFor j i = blockMessage i (blocks j (pred i)) (sent H [] [] (count j) (blocks j) (pred i))
+  blockFor j i = blockMessage i (blocks j (pred i)) (sent (plain H) (count j) (blocks j) (pred i))
 
   -- the update to this image of block i, from 1
   unfoldable pub updateFor : Job → ℕ → List ℕ → List ℕ

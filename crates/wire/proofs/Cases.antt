@@ -6,7 +6,7 @@ use mathlib.Core.List.{List, [], _∷_, _++_}
 use Prim.Native.Nat.{ℕ, zero, suc}
 use Rattle.merkle.specs.Blocks.{blockCount}
 use Rattle.merkle.specs.Shape.{size, leastFrom, depth, split, build, shape}
-use Rattle.merkle.specs.Hash.{hash}
+use Rattle.merkle.specs.Hash.{plain, rootOver, hash}
 use Rattle.merkle.specs.Frontier.{largest, rightSiblings, siblings, carried, messageLength, frontier, held}
 use Rattle.wire.specs.declared.refusal.Refusal.the-variants.{Size}
 use Rattle.wire.specs.Refusal.{number}
@@ -36,6 +36,6 @@ unfolding values size leastFrom depth split build shape largest rightSiblings si
 starred = (refl, refl, refl, refl, refl, refl, refl, refl, refl, refl, refl, refl, refl, refl)
 
 -- "For n = 3 this is source document 000's figure 2": blocks 1 and 2 under one node, block 3 beside it.
-pub three : (H : List ℕ → List ℕ) (f : ℕ → List ℕ) → hash H [] [] f 0 (shape 3) ≡ H (H (H (f 0) ++ H (f 1)) ++ H (f 2))
+pub three : (H : List ℕ → List ℕ) (f : ℕ → List ℕ) → rootOver (plain H) f 3 ≡ H (H (H (f 0) ++ H (f 1)) ++ H (f 2))
 unfolding size leastFrom depth split build shape hash
 three H f = refl

@@ -2,6 +2,7 @@
 use mathlib.Core.List.{[]}
 use borrow.Author.Needs.{needs}
 use Rattle.sha256.specs.Sha256.{digest}
+use Rattle.merkle.specs.Hash.{plain}
 use Rattle.merkle.proofs.HeldLaws.{fits-is}
 use Rattle.merkle.proofs.frontier.fits.Statement.{statement}
 use Rattle.merkle.proofs.frontier.fits.Tie as tie
@@ -35,7 +36,7 @@ returns c =
     let climbed = c .before .before .before in
     let found = climbed .before in
     let s = found .before .before .before .before in
-    fits-is digest [] [] (s .args .n) (s .args .before) (found .next-at .result) (s .args .hashes .now) (s .args .block .now) (s .args .siblings .now)
+    fits-is (plain digest) (s .args .n) (s .args .before) (found .next-at .result) (s .args .hashes .now) (s .args .block .now) (s .args .siblings .now)
     (climbed .climb .result) _ (found .next-at .ensures .0) (s .pre .3) (climbed .climb .ensures) (c .equal .ensures)
 
 pub fits-spec : {M : Type 1} → statement M

@@ -8,14 +8,14 @@ use borrow.Author.Needs.{needs}
 use Rattle.octets.proofs.CopyLaws.{length-part, part-between}
 use Rattle.sha256.specs.Sha256.{digest}
 use Rattle.merkle.specs.Limits.{hashLength}
-use Rattle.merkle.specs.Hash.{climb}
+use Rattle.merkle.specs.Hash.{plain, climb}
 use Rattle.merkle.proofs.ClimbLaws.{rest, climb-more, climb-done, climb-all}
 use Rattle.sha256.proofs.DigestLaws.{length-digest}
 use Rattle.merkle.proofs.path.climb.Statement.{statement}
 use Rattle.merkle.proofs.path.climb.Tie as tie
 
 abbrev Inv-loop : tie.InvT-loop
-Inv-loop block siblings x₀ at₀ x at = (at ≤ length siblings) × (rest digest [] [] siblings x at ≡ rest digest [] [] siblings x₀ 0) × (length x ≡ hashLength)
+Inv-loop block siblings x₀ at₀ x at = (at ≤ length siblings) × (rest (plain digest) siblings x at ≡ rest (plain digest) siblings x₀ 0) × (length x ≡ hashLength)
 
 abbrev μ-loop : tie.MeasureT-loop
 μ-loop block siblings x₀ at₀ x at = length siblings - at
@@ -59,7 +59,7 @@ loop-again c =
     let all = s .before .before .before .before .args .siblings .now in
     let x = c .node .ensures ∙ ap (λ y. digest (s .loop .x ++ y)) (part-between all (s .loop .at) hashLength) in (
       omega arith,
-      ap (λ y. rest digest [] [] all y (s .loop .at + hashLength)) x ∙ sym (climb-more digest [] [] all (s .loop .x) (s .loop .at) (omega arith)) ∙ s .loop .inv .1,
+      ap (λ y. rest (plain digest) all y (s .loop .at + hashLength)) x ∙ sym (climb-more (plain digest) all (s .loop .x) (s .loop .at) (omega arith)) ∙ s .loop .inv .1,
       ap length (c .node .ensures) ∙ length-digest _,
     )
 
@@ -68,8 +68,8 @@ unfolding climb
 returns c =
     let s = c .before in
     let a = s .before .before .before .before .args in
-    sym (climb-done digest [] [] (a .siblings .now) (s .loop .x) (s .loop .at) (omega arith)) ∙ s .loop .inv .1
-    ∙ ap (λ x. rest digest [] [] (a .siblings .now) x 0) (s .before .digest .ensures) ∙ climb-all digest [] [] (a .siblings .now) (digest (a .block .now))
+    sym (climb-done (plain digest) (a .siblings .now) (s .loop .x) (s .loop .at) (omega arith)) ∙ s .loop .inv .1
+    ∙ ap (λ x. rest (plain digest) (a .siblings .now) x 0) (s .before .digest .ensures) ∙ climb-all (plain digest) (a .siblings .now) (digest (a .block .now))
 
 pub climb-spec : {M : Type 1} → statement M
 climb-spec =

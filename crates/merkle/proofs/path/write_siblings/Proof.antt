@@ -22,10 +22,11 @@ use Rattle.merkle.proofs.path.subtree.Reads as subtree-reads
 use Rattle.merkle.proofs.tree.behind.Reads as behind-reads
 use Rattle.merkle.proofs.tree.root_with.Reads as root-with-reads
 use Rattle.octets.proofs.copy.Reads as copy-reads
+use Rattle.merkle.specs.Hash.{plain}
 
 abbrev Inv-loop : tie.InvT-loop
 Inv-loop out₀ flash len n before at block m₀ c₀ out m c =
-    Writing digest [] [] (overlay (cut len flash) at block) before m₀ c₀ out₀ out m c
+    Writing (plain digest) (overlay (cut len flash) at block) before m₀ c₀ out₀ out m c
 
 abbrev μ-loop : tie.MeasureT-loop
 μ-loop out₀ flash len n before at block m₀ c₀ out m c = m
@@ -66,7 +67,7 @@ room : (c : lts.After-split claims reads.Pre reads.Post Inv-loop μ-loop)
     (0 < l .c) × (hashLength * (l .c - 1) + hashLength ≤ length (l .out)) × (length (l .out) ≡ length (c .before .before .before .before .before .before .before .before .args .out .now))
 room c =
     let l = c .before .before .loop in
-    let w = writing-room digest [] [] _ _ _ _ _ (l .out) (l .m) (l .c) (c .split .result) (l .inv) (omega arith) (c .split .ensures) in
+    let w = writing-room (plain digest) _ _ _ _ _ (l .out) (l .m) (l .c) (c .split .result) (l .inv) (omega arith) (c .split .ensures) in
     (w .0, w .1, l .inv .same)
 
 subtree-requires : tie.Need-subtree-requires Inv-loop μ-loop
@@ -79,7 +80,7 @@ loop-holds : tie.Need-loop-holds Inv-loop μ-loop
 loop-holds c =
     let found = c .before .subtree .ensures in
     let s = c .before .before .before .before .before in
-    writing-none digest [] [] _ (s .args .before) (c .before .subtree .result) (c .count .result .carried) (s .args .out .now) (found .0)
+    writing-none (plain digest) _ (s .args .before) (c .before .subtree .result) (c .count .result .carried) (s .args .out .now) (found .0)
     (c .count .ensures .1 ∙ carried-is (s .args .n) (s .args .before) (c .before .subtree .result) (found .2)) (omega (arith, c .count .ensures .1))
 
 split-requires : tie.Need-split-requires Inv-loop μ-loop
@@ -148,8 +149,8 @@ loop-again c =
     let a = s .args in
     let r : length (right .root-with .result) ≡ hashLength = search needs in
     rw (c .before .before .copy .ensures)
-    (writing-one digest [] [] _ _ _ _ _ (l .out) (l .m) (l .c) i (l .inv) (omega arith) (x .split .ensures) (right .root-with .result) r
-    (hash-behind digest [] [] (a .len) (a .flash .now) (a .at) (a .block .now) (a .before + i) (a .n) (behind .behind .result) (l .m - i) (right .root-with .result)
+    (writing-one (plain digest) _ _ _ _ _ (l .out) (l .m) (l .c) i (l .inv) (omega arith) (x .split .ensures) (right .root-with .result) r
+    (hash-behind (plain digest) (a .len) (a .flash .now) (a .at) (a .block .now) (a .before + i) (a .n) (behind .behind .result) (l .m - i) (right .root-with .result)
     (behind .behind .ensures) (omega arith) (omega arith) (rw (part-from (a .flash .now) ((a .before + i) * a .len)) at (right .root-with .ensures))))
 
 same-length : tie.Need-same-length Inv-loop μ-loop
@@ -161,8 +162,8 @@ returns c =
     let count = c .before .before in
     let found = count .before .subtree .ensures in
     let a = count .before .before .before .before .before .args in
-    writing-all digest [] [] _ _ _ _ _ (l .out) (l .m) (l .c) (omega arith) (l .inv)
-    ∙ ap₂ (λ x k. x ++ drop (hashLength * k) (a .out .now)) (sym (sent-is digest [] [] (a .n) _ (a .before) (count .before .subtree .result) (found .2))) (count .count .ensures .1)
+    writing-all (plain digest) _ _ _ _ _ (l .out) (l .m) (l .c) (omega arith) (l .inv)
+    ∙ ap₂ (λ x k. x ++ drop (hashLength * k) (a .out .now)) (sym (sent-is (plain digest) (a .n) _ (a .before) (count .before .subtree .result) (found .2))) (count .count .ensures .1)
 
 pub write-siblings-spec : {M : Type 1} → statement M
 write-siblings-spec =

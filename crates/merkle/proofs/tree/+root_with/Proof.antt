@@ -9,6 +9,7 @@ use borrow.Fn.PlainCycle.{Measures, is, falls, and}
 use Rattle.sha256.specs.Sha256.{digest}
 use Rattle.merkle.proofs.ShapeLaws.{split-between}
 use Rattle.octets.proofs.CopyLaws.{part-from}
+use Rattle.merkle.specs.Hash.{plain}
 use Rattle.merkle.proofs.TreeLaws.{root-one, root-two, left-fits, right-fits}
 use Rattle.merkle.proofs.tree.root_with.Reads as root-with
 use Rattle.merkle.proofs.tree.root_with.Kinds as kinds
@@ -49,7 +50,7 @@ module _ (t : ℕ) where
   returns : lts.Need-returns (claims t) (here t) root-with.Post
   returns c =
       let a = c .before .before .before .before .args in
-      root-one digest [] [] (a .len) (a .flash .now) (a .at) (a .block .now) (a .n) _ (c .before .if1 .taken) (c .leaf .ensures)
+      root-one (plain digest) (a .len) (a .flash .now) (a .at) (a .block .now) (a .n) _ (c .before .if1 .taken) (c .leaf .ensures)
 
   split-requires : lts.Need-split-requires (claims t) (here t) root-with.Post
   split-requires c κs = omega arith
@@ -102,7 +103,7 @@ module _ (t : ℕ) where
       let split = left .before in
       let s = split .before .before .before .before in
       let i = split .split .result in
-      root-two digest [] [] (s .args .len) (s .args .flash .now) (s .args .at) (s .args .block .now) (s .args .n) _ i (behind .behind .result)
+      root-two (plain digest) (s .args .len) (s .args .flash .now) (s .args .at) (s .args .block .now) (s .args .n) _ i (behind .behind .result)
       (left .root-with .result) (right .root-with2 .result) (omega arith) (split .split .ensures) (behind .behind .ensures) (left .root-with .ensures)
       (rw (part-from (s .args .flash .now) (i * s .args .len)) at (right .root-with2 .ensures)) (c .node .ensures)
 

@@ -1,5 +1,5 @@
 use mathlib.Core.Path.{_≡_, sym, ap, ap₂, _∙_}
-use mathlib.Core.List.{List, [], _++_}
+use mathlib.Core.List.{List, _++_}
 use Prim.Native.Nat.{ℕ, _+_, _-_, _*_}
 use native.Mathlib.Omega.{arith}
 use native.Mathlib.Numerals.{add-one}
@@ -9,6 +9,7 @@ use Rattle.sha256.proofs.DigestLaws.{length-digest}
 use Rattle.merkle.specs.Blocks.{cut, overlay}
 use Rattle.merkle.specs.Frontier.{carried}
 use Rattle.merkle.specs.Held.{sent}
+use Rattle.merkle.specs.Hash.{plain}
 use Rattle.merkle.proofs.RunLaws.{length-sent}
 use Rattle.wire.proofs.SizeLaws.{sized}
 use Rattle.wire.proofs.ImageLaws as image
@@ -145,8 +146,8 @@ returns-4 c =
     let q = block-head (a .out .now) (c .before .before .before .before .before .before .before .put-block .last .1 .1 .0) (b .result .now) (a .number) (3 + a .len) (omega (arith, l)) (c .before .before .before .before .before .before .before .put-block .ensures) in
     let last = take (a .len) (c .before .before .before .before .before .before .before .before .before .before .before .last-block .result) in
     let blocks = overlay (cut (a .len) (a .image .now)) (n - 1) last in
-    let hs = sent digest [] [] n blocks (a .number - 1) in
-    let m = length-sent digest [] [] length-digest n blocks (a .number - 1) in
+    let hs = sent (plain digest) n blocks (a .number - 1) in
+    let m = length-sent (plain digest) length-digest n blocks (a .number - 1) in
     let h : 32 * carried n (a .number - 1 + 1) ≡ length hs = ap (λ (x : ℕ). 32 * carried n x) (add-one (a .number - 1)) ∙ sym m in
     let same = same-sent (a .len) (a .image .now) n (t .sized) (t .count) digest last (c .before .before .before .before .before .before .before .before .before .before .before .last-block .ensures .1) (a .number - 1) in
     let is = lengths.block-is j n (a .number) (b .result .now) hs (t .count) (b .ensures) same in
