@@ -1,6 +1,6 @@
 -- The example of document 01: "Given a bundle.bin of four zero bytes and any key.bin of 60 bytes, the whole output is".
 use mathlib.Core.Path.{_≡_, ap}
-use mathlib.Core.List.{List, [], _∷_, _++_}
+use mathlib.Core.List.{List, [], _∷_}
 use Prim.Native.Nat.{ℕ}
 use native.Mathlib.Omega.{arith}
 use lib.ListN.{length}

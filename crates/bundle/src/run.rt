@@ -3,7 +3,6 @@ use crate::parts::Start;
 use crate::parts::cut;
 use crate::parts::start_of;
 use crate::text::put_message;
-use crate::text::put_state;
 use machine::Answer;
 use machine::Device;
 ghost use mathlib.Core.Path.{_≡_};

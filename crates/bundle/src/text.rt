@@ -6,6 +6,7 @@ ghost use lib.ListN.{length};
 ghost use Rattle.bundle.specs.Text.{decimal, line, messageLine, stateLine};
 ghost use Rattle.bundle.specs.Steps.{Written};
 
+// The bytes as they are.
 pub fn put(out: &mut [u8], at: usize, bytes: &[u8]) -> usize
     requires { ⌜ at + length (now bytes) ≤ length (now out) ⌝ }
     ensures { λ r. ⌜ Written (now (out .entry)) at (now (out .exit)) r (now (bytes .entry)) ⌝ }
@@ -27,6 +28,7 @@ fn put_decimal(out: &mut [u8], at: usize, number: usize) -> usize
     put(out, next, &digit)
 }
 
+// Words and a number.
 pub fn put_line(out: &mut [u8], at: usize, words: &[u8], number: usize) -> usize
     requires { ⌜ at + length (line (now words) number) ≤ length (now out) ⌝ }
     ensures { λ r. ⌜ Written (now (out .entry)) at (now (out .exit)) r (line (now (words .entry)) number) ⌝ }

@@ -15,6 +15,7 @@ ghost use Rattle.machine.specs.Device.{freshWith};
 ghost use Rattle.capi.specs.State.{encode};
 ghost use Rattle.capi.specs.Call.{verdict, sentNumber, sentLength, Sends, receive};
 
+// SHA-256 of the message.
 #[no_mangle]
 pub extern "C" fn lertxuno_digest(message: &[u8], out: &mut [u8; 32])
     ensures { λ _. ⌜ now (out .exit) ≡ digest (now (message .entry)) ⌝ }

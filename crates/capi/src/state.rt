@@ -8,6 +8,7 @@ ghost use Rattle.capi.specs.Found.{found};
 
 pub const STATE_LEN: usize = 112 + merkle::HELD_LEN;
 
+// The number that stands for a stage.
 pub fn stage_number(stage: Stage) -> u16
     ensures { λ r. ⌜ r ≡ stageNumber stage ⌝ }
 {
@@ -18,6 +19,7 @@ pub fn stage_number(stage: Stage) -> u16
     }
 }
 
+// The state's bytes.
 pub fn to_bytes(device: Device) -> [u8; STATE_LEN]
     ensures { λ r. ⌜ r ≡ encode device ⌝ }
 {
@@ -44,6 +46,7 @@ pub enum Found {
     Nothing,
 }
 
+// Found where the length is right and the stage's number known.
 pub fn stage_in(s: &[u8]) -> Found
     ensures { λ r. ⌜ r ≡ found (stageIn (now (s .entry))) ⌝ }
 {

@@ -1,12 +1,8 @@
--- RFC 8554's own examples of a string's digits (section 3.1.3), of the string 0x1234.
-use mathlib.Core.Path.{_≡_, refl}
-use mathlib.Core.List.{[], _∷_}
+-- RFC 8554's own examples of a string's digits, by computation.
+use mathlib.Core.Path.{refl}
 use Rattle.lms.specs.Notation.{coef}
+use Rattle.lms.specs.Claims.{Digits}
 
-pub a-bit : coef (0x12 ∷ 0x34 ∷ []) 7 1 ≡ 0
+pub digits : Digits
 unfolding coef
-a-bit = refl
-
-pub four-bits : coef (0x12 ∷ 0x34 ∷ []) 0 4 ≡ 1
-unfolding coef
-four-bits = refl
+digits = (refl, refl)

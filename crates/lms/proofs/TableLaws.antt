@@ -6,16 +6,17 @@ use Prim.Native.Nat.{ℕ, zero, suc, _+_, _-_, _*_, _≤_, _<_}
 use native.Mathlib.Omega.{arith}
 use lib.Dec.{eqb, lit<, lit≤}
 use borrow.Author.Tests.{ne-eqb}
-use Rattle.lms.specs.Ots.{Row, table1}
+use Rattle.lms.specs.Ots.{table1}
 use Rattle.lms.specs.Tree.{table2}
 use Rattle.lms.specs.Types.{Sound}
+use Rattle.lms.specs.Claims.{Rows}
 
 -- what holds of the first row and of all later ones holds of every row
 every : {A : Type 0} (P : A → Type 0) (b : Bool) {x : A} {rest : Option A} → P x → ((y : A) → rest ≡ some y → P y) → (y : A) → cond b (some x) rest ≡ some y → P y
 every P true {x} h k y e = subst P (Option·some-injective x y e) h
 every P false h k y e = k y e
 
-pub table1-sound : (type : ℕ) (t : Row) → table1 type ≡ some t → Sound t
+pub table1-sound : Rows
 unfolding table1
 table1-sound type =
     every Sound (eqb type 3) (record { some-bits = lit≤ tt; a-byte = lit≤ tt; within = lit≤ tt; shift = lit< tt; two-bytes = lit< tt })

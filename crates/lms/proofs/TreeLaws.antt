@@ -1,5 +1,5 @@
 -- The way from a leaf to the top: one turn, and how many there are.
-use mathlib.Core.Path.{_≡_, ap, _∙_}
+use mathlib.Core.Path.{_≡_, refl, ap, _∙_}
 use mathlib.Core.List.{List}
 use mathlib.Core.Logic.{⊎-elim}
 use Prim.Native.Nat.{ℕ, suc, _+_, _*_, _/_, _^_, _≤_, _<_}
@@ -10,6 +10,7 @@ use lib.Arith.{lt-of-le-ne}
 use lib.Pow.{pow-mono, pow-pos, shr-shr}
 use Rattle.octets.specs.Octets.{part}
 use Rattle.lms.specs.Tree.{parent, climb}
+use Rattle.lms.specs.Claims.{Turns}
 
 pub node-halved : (leaf i : ℕ) {node : ℕ} → node ≡ leaf / 2 ^ i → node / 2 ≡ leaf / 2 ^ (i + 1)
 node-halved leaf i e = ap (λ (n : ℕ). n / 2) e ∙ shr-shr leaf i 1
@@ -35,3 +36,6 @@ module _ (h q : ℕ) (inside : q < 2 ^ h) where
 
     pub ends : node ≤ 1 → i ≡ h
     ends l = ⊎-elim (λ e. e) (λ b. absurd (omega (arith, below-top i b))) (eq-or-lt-of-le turns)
+
+pub turns : Turns
+turns h q inside i l = (goes-on h q inside i l refl, ends h q inside i l refl)

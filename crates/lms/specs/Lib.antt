@@ -3,3 +3,4 @@ pub mod Ots
 pub mod Tree
 pub mod Lms
 pub mod Types
+pub mod Claims

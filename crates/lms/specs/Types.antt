@@ -1,4 +1,4 @@
--- What the code's types stand for in tables 1 and 2.
+-- For the code alone: what its types stand for in tables 1 and 2, and what its functions ask of a row.
 use mathlib.Core.Option.{Option, none, some}
 use Prim.Native.Nat.{ℕ, _-_, _*_, _/_, _^_, _≤_, _<_}
 use Rattle.lms.specs.declared.parameters.Chains.{Chains}

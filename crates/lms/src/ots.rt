@@ -61,6 +61,7 @@ fn checked(digest: &[u8], t: Chains) -> [u8; 34]
     s
 }
 
+// The hash of the message, with the signature's random bytes c before it.
 fn message_hash(id: &[u8], q: u32, c: &[u8], message: &[u8]) -> [u8; 32]
     requires { ⌜ length (now id) ≡ 16 ⌝ }
     ensures { λ r. ⌜ r ≡ spec.messageHash (now (id .entry)) q (now (c .entry)) (now (message .entry)) ⌝ }

@@ -21,6 +21,7 @@ pub enum TreeType {
     Unsigned,
 }
 
+// The row of table 1 for a one-time signature type.
 pub fn ots_type(number: u32) -> OtsType
     ensures { λ r. ⌜ rowOf r ≡ table1 number ⌝ }
 {
@@ -31,6 +32,7 @@ pub fn ots_type(number: u32) -> OtsType
     }
 }
 
+// The height of a tree type, by table 2.
 pub fn tree_type(number: u32) -> TreeType
     ensures { λ r. ⌜ heightOf r ≡ table2 number ⌝ }
 {

@@ -8,6 +8,7 @@ ghost use Prim.Native.Nat.{_*_, _^_, _≤_, _<_};
 ghost use lib.ListN.{length};
 ghost use Rattle.lms.specs.Tree as spec;
 
+// The hash of a leaf, from its one-time key; node is its number in the tree.
 fn leaf(id: &[u8], node: u32, key: &[u8]) -> [u8; 32]
     requires { ⌜ length (now id) ≡ 16 ⌝ }
     ensures { λ r. ⌜ r ≡ spec.leafHash (now (id .entry)) node (now (key .entry)) ⌝ }

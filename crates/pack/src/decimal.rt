@@ -7,6 +7,7 @@ pub enum Parsed {
     Wrong,
 }
 
+// The number that a text of digits stands for, if it has 32 bits.
 pub fn parse(text: &[u8]) -> Parsed
     ensures { λ r. ⌜ r ≡ parsed (now (text .entry)) ⌝ }
 {

@@ -111,6 +111,7 @@ fn commit(name: &[u8], path: &[u8]) -> bool {
     true
 }
 
+// The manifest alone, as slip.bin.
 pub fn save_manifest(manifest: &[u8]) -> bool {
     let mut name = *b"slip.bin.XXXXXX";
     if !stage(b"slip.bin", manifest, &mut name) {

@@ -60,6 +60,7 @@ pub fn manifest(image: &[u8], len: u32, model: u32, serial: u32, out: &mut [u8])
     outcome(sender::manifest(image, len, model, serial, out))
 }
 
+// The bundle, without filler.
 pub fn bundle(
     image: &[u8],
     len: u32,

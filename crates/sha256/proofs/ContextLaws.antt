@@ -9,7 +9,7 @@ use Rattle.octets.specs.Octets.{bytes}
 use Rattle.octets.proofs.NumberLaws.{length-bytes}
 use Rattle.octets.proofs.CopyLaws.{paste-front}
 use Rattle.sha256.specs.Sha256.{hashValue, block, compress}
-use Rattle.sha256.specs.Context.{Pending, Held, waiting}
+use Rattle.sha256.specs.Context.{Pending, AbsorbedIn, waiting}
 use Rattle.sha256.proofs.HashLaws.{grown}
 
 -- the same bytes and length, written in another way
@@ -17,7 +17,7 @@ pub same : {h r r′ : List ℕ} {t t′ : ℕ} {m : List ℕ} → Pending h r t
 same p e f = record { state = p .state; bytes = e ∙ p .bytes; count = f ∙ p .count }
 
 -- a tail with no bytes, whatever number stands in it
-pub none : {h : List ℕ} (b : List ℕ) (g t : ℕ) {m : List ℕ} → t % 8 ≡ 0 → Held h b g t m → Held h b g 0 m
+pub none : {h : List ℕ} (b : List ℕ) (g t : ℕ) {m : List ℕ} → t % 8 ≡ 0 → AbsorbedIn h b g t m → AbsorbedIn h b g 0 m
 unfolding bytes
 none b g t z p = same p (ap (λ (k : ℕ). take (8 * (g % 8)) b ++ bytes k (t / 8)) (sym z)) (omega arith)
 
@@ -33,10 +33,10 @@ length-left b g t s l =
 total : (g y a a′ s : ℕ) {g′ : ℕ} → y % 8 ≡ 0 → y + a′ ≡ a + s → g′ ≡ (g + y / 8) % 2 ^ 64 → (8 * g′ + a′) % 2 ^ 64 ≡ ((8 * g + a) % 2 ^ 64 + s) % 2 ^ 64
 total g y a a′ s w n f = omega arith
 
-module _ {h : List ℕ} (b : List ℕ) (g t : ℕ) {m : List ℕ} (l : length b ≡ 56) (p : Held h b g t m) (s y : List ℕ) where
+module _ {h : List ℕ} (b : List ℕ) (g t : ℕ) {m : List ℕ} (l : length b ≡ 56) (p : AbsorbedIn h b g t m) (s y : List ℕ) where
   -- what waited and s are y, whole groups that go into the buffer behind the others, and the new tail
   pub stored : {b′ : List ℕ} {g′ : ℕ} (t′ : ℕ) → 8 * (g % 8) + length y ≤ 56 → length y % 8 ≡ 0 → b′ ≡ paste b (8 * (g % 8)) y (length y)
-      → g′ ≡ (g + length y / 8) % 2 ^ 64 → y ++ waiting t′ ≡ waiting t ++ s → Held h b′ g′ t′ (m ++ s)
+      → g′ ≡ (g + length y / 8) % 2 ^ 64 → y ++ waiting t′ ≡ waiting t ++ s → AbsorbedIn h b′ g′ t′ (m ++ s)
   unfolding hashValue
   stored {b′} {g′} t′ i w e f d =
       let x = take (8 * (g % 8)) b in
@@ -52,7 +52,7 @@ module _ {h : List ℕ} (b : List ℕ) (g t : ℕ) {m : List ℕ} (l : length b 
 
   -- what waited and s are y, which completes blocks
   pub filled : {h′ : List ℕ} {g′ : ℕ} (b′ : List ℕ) → (8 * (g % 8) + length y) % 64 ≡ 0 → y ≡ waiting t ++ s
-      → h′ ≡ hashValue h ((8 * (g % 8) + length y) / 64) (take (8 * (g % 8)) b ++ y) → g′ ≡ (g + length y / 8) % 2 ^ 64 → Held h′ b′ g′ 0 (m ++ s)
+      → h′ ≡ hashValue h ((8 * (g % 8) + length y) / 64) (take (8 * (g % 8)) b ++ y) → g′ ≡ (g + length y / 8) % 2 ^ 64 → AbsorbedIn h′ b′ g′ 0 (m ++ s)
   unfolding bytes
   filled {h′} {g′} b′ w d e f =
       let x = take (8 * (g % 8)) b in

@@ -10,6 +10,7 @@ use Rattle.octets.specs.Octets.{bytes, joined}
 use Rattle.octets.proofs.NumberLaws.{length-bytes}
 use Rattle.octets.proofs.JoinedLaws.{joined-last}
 use Rattle.sha256.specs.Sha256.{H0, compress, sums, hashValue, pad, concatenated, digest}
+use Rattle.sha256.specs.Claims.{DigestLength}
 
 snoc : (ws : List ℕ) (x : ℕ) → concatenated (ws ++ (x ∷ [])) ≡ concatenated ws ++ bytes 4 x
 unfolding concatenated
@@ -41,7 +42,6 @@ unfolding hashValue compress sums
 length-hash H zero m e = e
 length-hash H (suc n) m e = refl
 
--- a digest has 32 bytes
-pub length-digest : (m : List ℕ) → length (digest m) ≡ 32
+pub length-digest : DigestLength
 unfolding digest H0
 length-digest m = length-concatenated (hashValue H0 (length (pad m) / 64) (pad m)) ∙ ap (λ (k : ℕ). 4 * k) (length-hash H0 (length (pad m) / 64) (pad m) refl)

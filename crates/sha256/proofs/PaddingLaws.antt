@@ -8,11 +8,11 @@ use lib.Seq.{paste, take-length, take-all, take-at, drop-at, set-at}
 use Rattle.octets.specs.Octets.{bytes}
 use Rattle.octets.proofs.NumberLaws.{length-bytes, bytes-mod}
 use Rattle.sha256.specs.Sha256.{zeroBits, padding, pad, hashValue, block, compress, digest, concatenated}
+use Rattle.sha256.specs.Claims.{ZeroBits, PadLength}
 use Rattle.sha256.specs.Context.{Pending}
 use Rattle.sha256.proofs.HashLaws.{digest-pending, length-rest}
 
--- the standard's words: the smallest non-negative solution k of l + 1 + k ≡ 448 modulo 512
-pub zero-bits : (l : ℕ) → ((l + 1 + zeroBits l) % 512 ≡ 448) × ((k : ℕ) → (l + 1 + k) % 512 ≡ 448 → zeroBits l ≤ k)
+pub zero-bits : ZeroBits
 unfolding zeroBits
 zero-bits l = (omega arith, λ k e. omega arith)
 
@@ -20,8 +20,7 @@ zero-bytes : (n : ℕ) → zeroBits (8 * n) / 8 ≡ (119 - n % 64) % 64
 unfolding zeroBits
 zero-bytes n = omega arith
 
--- a padded message has (length + 9) / 64 blocks, rounded up
-pub length-pad : (m : List ℕ) → length (pad m) ≡ 64 * ((length m + 9 + 63) / 64)
+pub length-pad : PadLength
 unfolding pad padding
 length-pad m =
     let z = zeroBits (8 * length m) / 8 in

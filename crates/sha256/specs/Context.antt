@@ -1,4 +1,4 @@
--- What a context stands for: a message in progress.
+-- For the code alone: what a context stands for, a message in progress. A caller needs of `Absorbed` no more than the contracts of `new`, `update` and `finish` say.
 use mathlib.Core.Path.{_≡_}
 use mathlib.Core.List.{List, _++_}
 use Prim.Native.Nat.{ℕ, _+_, _*_, _/_, _%_, _^_}
@@ -18,9 +18,9 @@ abbrev pub waiting : ℕ → List ℕ
 waiting t = bytes (t % 8) (t / 8)
 
 -- the same of m by a context's fields: the bytes after the whole blocks are those groups of eight that the buffer begins with, and the tail's bytes
-abbrev pub Held : List ℕ → List ℕ → ℕ → ℕ → List ℕ → Type 0
-Held h buffer groups tail m = Pending h (take (8 * (groups % 8)) buffer ++ waiting tail) ((8 * groups + tail % 8) % 2 ^ 64) m
+abbrev pub AbsorbedIn : List ℕ → List ℕ → ℕ → ℕ → List ℕ → Type 0
+AbsorbedIn h buffer groups tail m = Pending h (take (8 * (groups % 8)) buffer ++ waiting tail) ((8 * groups + tail % 8) % 2 ^ 64) m
 
 -- the context c has absorbed the message m
 abbrev pub Absorbed : Context → List ℕ → Type 0
-Absorbed c m = Held (c .h) (c .buffer) (c .groups) (c .tail) m
+Absorbed c m = AbsorbedIn (c .h) (c .buffer) (c .groups) (c .tail) m

@@ -1,3 +1,4 @@
 pub mod Sha256
+pub mod Claims
 pub mod Working
 pub mod Context

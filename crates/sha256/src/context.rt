@@ -11,7 +11,7 @@ ghost use lib.ListN.{length, take};
 ghost use lib.Seq.{paste};
 ghost use Rattle.octets.specs.Octets.{bytes};
 ghost use Rattle.sha256.specs.Sha256 as spec;
-ghost use Rattle.sha256.specs.Context.{waiting, Held, Absorbed};
+ghost use Rattle.sha256.specs.Context.{waiting, AbsorbedIn, Absorbed};
 
 // A message in progress: the hash value after its whole blocks, a buffer that begins with the whole groups of eight bytes after them, how many groups
 // the message has in all, and its last bytes, up to seven, in a number: a short piece changes nothing but that number.
@@ -63,6 +63,7 @@ fn joined(buffer: &[u8; 56], used: usize, s: &[u8]) -> [u8; 64]
 }
 
 impl Context {
+    // The empty message.
     pub fn new() -> Context
         ensures { λ r. ⌜ Absorbed r List.[] ⌝ }
     {
@@ -88,6 +89,7 @@ impl Context {
         more(h, b, self.groups, self.tail, piece)
     }
 
+    // The digest of the message.
     pub fn finish(self) -> [u8; 32]
         ensures { λ r. ⌜ ((m : List ℕ) → Absorbed self m → r ≡ spec.digest m) ⌝ }
     {
@@ -99,15 +101,15 @@ impl Context {
         let from = 8 - inside;
         let block = joined(&b, at, &t[from..]);
         let used = at + inside;
-        let length = self.groups % 0x2000000000000000 * 8 + self.tail % 8;
-        last(h, &block[..used], length)
+        let total = self.groups % 0x2000000000000000 * 8 + self.tail % 8;
+        last(h, &block[..used], total)
     }
 }
 
 // The piece completes the group in the tail, if there is one, and then the block in the buffer, if it is long enough.
 fn more(h: [u32; 8], buffer: [u8; 56], groups: u64, tail: u64, piece: &[u8]) -> Context
     requires { ⌜ (0 < tail % 8 → 8 ≤ tail % 8 + length (now piece)) ⌝ }
-    ensures { λ r. ⌜ ((m : List ℕ) → Held h buffer groups tail m → Absorbed r (m ++ now (piece .entry))) ⌝ }
+    ensures { λ r. ⌜ ((m : List ℕ) → AbsorbedIn h buffer groups tail m → Absorbed r (m ++ now (piece .entry))) ⌝ }
 {
     let inside = (tail % 8) as usize;
     if 0 < inside {
@@ -143,7 +145,7 @@ fn more(h: [u32; 8], buffer: [u8; 56], groups: u64, tail: u64, piece: &[u8]) -> 
 // s completes the group in the tail.
 fn group(h: [u32; 8], buffer: [u8; 56], groups: u64, tail: u64, s: &[u8]) -> Context
     requires { ⌜ tail % 8 + length (now s) ≡ 8 ⌝ }
-    ensures { λ r. ⌜ (r .tail ≡ 0) × ((m : List ℕ) → Held h buffer groups tail m → Absorbed r (m ++ now (s .entry))) ⌝ }
+    ensures { λ r. ⌜ (r .tail ≡ 0) × ((m : List ℕ) → AbsorbedIn h buffer groups tail m → Absorbed r (m ++ now (s .entry))) ⌝ }
 {
     let g = octets::be64(append(tail / 8, s));
     let at = (8 * (groups % 8)) as usize;
@@ -171,7 +173,7 @@ fn group(h: [u32; 8], buffer: [u8; 56], groups: u64, tail: u64, s: &[u8]) -> Con
 // The piece starts a block: its whole blocks are compressed where they lie.
 fn whole(h: [u32; 8], buffer: [u8; 56], groups: u64, piece: &[u8]) -> Context
     requires { ⌜ groups % 8 ≡ 0 ⌝ }
-    ensures { λ r. ⌜ ((m : List ℕ) → Held h buffer groups 0 m → Absorbed r (m ++ now (piece .entry))) ⌝ }
+    ensures { λ r. ⌜ ((m : List ℕ) → AbsorbedIn h buffer groups 0 m → Absorbed r (m ++ now (piece .entry))) ⌝ }
 {
     let end = piece.len() / 64 * 64;
     let g = compress_all(h, &piece[..end]);
@@ -186,7 +188,7 @@ fn whole(h: [u32; 8], buffer: [u8; 56], groups: u64, piece: &[u8]) -> Context
 // The piece ends within the block: its whole groups go into the buffer, and the bytes after them into the tail.
 fn keep(h: [u32; 8], buffer: [u8; 56], groups: u64, piece: &[u8]) -> Context
     requires { ⌜ 8 * (groups % 8) + length (now piece) < 64 ⌝ }
-    ensures { λ r. ⌜ ((m : List ℕ) → Held h buffer groups 0 m → Absorbed r (m ++ now (piece .entry))) ⌝ }
+    ensures { λ r. ⌜ ((m : List ℕ) → AbsorbedIn h buffer groups 0 m → Absorbed r (m ++ now (piece .entry))) ⌝ }
 {
     let at = (8 * (groups % 8)) as usize;
     let end = piece.len() / 8 * 8;

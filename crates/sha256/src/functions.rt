@@ -3,18 +3,21 @@ ghost use mathlib.Core.Path.{_≡_};
 ghost use Prim.Native.Nat.{_+_};
 ghost use Rattle.sha256.specs.Sha256.{word, Ch, Maj, Σ0, Σ1, σ0, σ1};
 
+// The sum, without the carry out of the top.
 pub fn add(x: u32, y: u32) -> u32
     ensures { λ r. ⌜ r ≡ word (x + y) ⌝ }
 {
     std::num::wrapping_add_u32(x, y)
 }
 
+// Ch.
 pub fn ch(x: u32, y: u32, z: u32) -> u32
     ensures { λ r. ⌜ r ≡ Ch x y z ⌝ }
 {
     (x & y) ^ (!x & z)
 }
 
+// Maj.
 pub fn maj(x: u32, y: u32, z: u32) -> u32
     ensures { λ r. ⌜ r ≡ Maj x y z ⌝ }
 {

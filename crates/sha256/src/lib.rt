@@ -14,6 +14,7 @@ use padding::last;
 ghost use mathlib.Core.Path.{_≡_};
 ghost use Rattle.sha256.specs.Sha256 as spec;
 
+// The digest of a message. Its whole blocks are compressed where they lie.
 pub fn digest(message: &[u8]) -> [u8; 32]
     ensures { λ r. ⌜ r ≡ spec.digest (now (message .entry)) ⌝ }
 {

@@ -23,28 +23,28 @@ fn concatenated(h: [u32; 8]) -> [u8; 32]
 }
 
 // The digest after the last block, whose last eight bytes are the message's length in bits.
-fn close(h: [u32; 8], block: [u8; 64], length: u64) -> [u8; 32]
-    ensures { λ r. ⌜ r ≡ spec.concatenated (spec.compress h (take 56 block ++ bytes 8 (8 * length))) ⌝ }
+fn close(h: [u32; 8], block: [u8; 64], total: u64) -> [u8; 32]
+    ensures { λ r. ⌜ r ≡ spec.concatenated (spec.compress h (take 56 block ++ bytes 8 (8 * total))) ⌝ }
 {
-    let bits = octets::be64(length << 3);
+    let bits = octets::be64(total << 3);
     let mut b = block;
     octets::copy(&mut b, 56, &bits);
     let last = compress(h, &b);
     concatenated(last)
 }
 
-// The digest of a message of `length` bytes, from the hash value after its whole blocks and the bytes after them.
-pub fn last(h: [u32; 8], rest: &[u8], length: u64) -> [u8; 32]
-    requires { ⌜ lib.ListN.length (now rest) < 64 ⌝ }
-    ensures { λ r. ⌜ ((m : List ℕ) → Pending h (now (rest .entry)) length m → r ≡ spec.digest m) ⌝ }
+// The digest of a message of `total` bytes, from the hash value after its whole blocks and the bytes after them.
+pub fn last(h: [u32; 8], rest: &[u8], total: u64) -> [u8; 32]
+    requires { ⌜ length (now rest) < 64 ⌝ }
+    ensures { λ r. ⌜ ((m : List ℕ) → Pending h (now (rest .entry)) total m → r ≡ spec.digest m) ⌝ }
 {
     let used = rest.len();
     let mut b = [0u8; 64];
     octets::copy(&mut b, 0, rest);
     b[used] = 0x80;
     if used < 56 {
-        return close(h, b, length);
+        return close(h, b, total);
     }
     let next = compress(h, &b);
-    close(next, [0u8; 64], length)
+    close(next, [0u8; 64], total)
 }

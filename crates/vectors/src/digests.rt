@@ -5,6 +5,7 @@ ghost use mathlib.Core.Path.{_≡_};
 ghost use Prim.Native.Nat.{_≤_};
 ghost use lib.ListN.{length};
 
+// Every line on digests.
 pub fn run() {
     show(b"empty", b"");
     show(b"abc", b"abc");

@@ -2,6 +2,7 @@
 use libc::STDOUT_FILENO;
 use sender::Sent;
 
+// The line on block messages.
 pub fn run() {
     io::write_all(STDOUT_FILENO, b"block messages, 2048 bytes by 256:");
     let image = [0x5Au8; 2048];

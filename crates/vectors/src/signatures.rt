@@ -1,6 +1,7 @@
 // The four LMS signatures inside the test cases of RFC 8554, appendix F: each is accepted, and rejected after any change.
 use libc::STDOUT_FILENO;
 
+// Every line on signatures.
 pub fn run() {
     tried(b"case1_top", 34, 5);
     tried(b"case1_second", 34, 5);

@@ -8,12 +8,6 @@ use Rattle.sha256.specs.Sha256.{digest}
 use borrow.Author.Needs.{needs}
 use Rattle.bench_exports.proofs.bench_pieces.Statement.{statement}
 use Rattle.bench_exports.proofs.bench_pieces.Tie as tie
-use Rattle.bench_exports.proofs.bench_pieces.Reads as reads
-use Rattle.bench_exports.proofs.bench_pieces.Lts as lts
-use Rattle.bench_exports.proofs.end_of.Reads as end-of-reads
-use Rattle.sha256.proofs.context.Context.finish.Reads as finish-reads
-use Rattle.sha256.proofs.context.Context.new.Reads as new-reads
-use Rattle.sha256.proofs.context.Context.update.Reads as update-reads
 
 abbrev Inv-loop : tie.InvT-loop
 Inv-loop message piece out context₀ from₀ context from = (from ≤ length message) × Absorbed context (take from message)
@@ -21,39 +15,30 @@ Inv-loop message piece out context₀ from₀ context from = (from ≤ length me
 abbrev μ-loop : tie.MeasureT-loop
 μ-loop message piece out context₀ from₀ context from = length message - from
 
--- src/lib.rt:20:9
 new-requires : tie.Need-new-requires Inv-loop μ-loop
 new-requires c κs = search needs
 
--- src/lib.rt:22:5
 loop-holds : tie.Need-loop-holds Inv-loop μ-loop
 loop-holds c = (search needs, c .new .ensures)
 
--- src/lib.rt:23:13
 end-of-requires : tie.Need-end-of-requires Inv-loop μ-loop
 end-of-requires c κs = search needs
 
--- src/lib.rt:24:35
 sub-update : tie.Need-sub-update Inv-loop μ-loop
 sub-update c = search needs
 
--- src/lib.rt:24:35
 part-update-start : tie.Need-part-update-start Inv-loop μ-loop
 part-update-start c = search needs
 
--- src/lib.rt:24:35
 part-update-end : tie.Need-part-update-end Inv-loop μ-loop
 part-update-end c = search needs
 
--- src/lib.rt:24:13
 update-requires : tie.Need-update-requires Inv-loop μ-loop
 update-requires c κs = search needs
 
--- src/lib.rt:22:5
 loop-less : tie.Need-loop-less Inv-loop μ-loop
 loop-less c = search needs
 
--- src/lib.rt:22:5
 loop-again : tie.Need-loop-again Inv-loop μ-loop
 loop-again c =
     let l = c .before .before .before .before .loop in
@@ -62,11 +47,9 @@ loop-again c =
     let k : l .from + (e - l .from) ≡ e = omega arith in
     (search needs, subst (Absorbed (c .update .result)) (sym (take-add (l .from) (e - l .from) m) ∙ ap (λ (n : ℕ). take n m) k) (c .update .ensures _ (l .inv .1)))
 
--- src/lib.rt:28:9
 finish-requires : tie.Need-finish-requires Inv-loop μ-loop
 finish-requires c κs = search needs
 
--- src/lib.rt:16:1
 returns : tie.Need-returns Inv-loop μ-loop
 returns c =
     let l = c .before .before .loop in

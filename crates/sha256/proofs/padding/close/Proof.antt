@@ -31,7 +31,7 @@ returns c =
     let a = c .before .before .before .before .before .before .before .before .args in
     let l : length (a .block) ≡ 64 = search needs in
     let d = c .before .before .before .before .before .before .before .be64 in
-    cc (closed (a .block) (d .result) (a .length) l (d .ensures))
+    cc (closed (a .block) (d .result) (a .total) l (d .ensures))
 
 pub close-spec : {M : Type 1} → statement M
 close-spec =

@@ -34,11 +34,11 @@ joined-requires c κs = search needs
 add-used : tie.Need-add-used
 add-used c = search needs
 
-mul-length : tie.Need-mul-length
-mul-length c = search needs
+mul-total : tie.Need-mul-total
+mul-total c = search needs
 
-add-length : tie.Need-add-length
-add-length c = search needs
+add-total : tie.Need-add-total
+add-total c = search needs
 
 array-share-prefix-block : tie.Need-array-share-prefix-block
 array-share-prefix-block c = search needs
@@ -73,8 +73,8 @@ finish-spec =
     part-joined-end
     joined-requires
     add-used
-    mul-length
-    add-length
+    mul-total
+    add-total
     array-share-prefix-block
     slice-aggregate-last
     last-requires
