@@ -1,5 +1,7 @@
 pub mod ImageLaws
+pub mod GeometryLaws
 pub mod ManifestLaws
 pub mod MessageLaws
+pub mod PutLaws
 pub mod SizeLaws
 pub mod Cases

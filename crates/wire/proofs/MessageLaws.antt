@@ -1,18 +1,23 @@
 -- The kind of a message, and the parts of a message that was written.
-use mathlib.Core.Path.{_≡_, refl, ap, _∙_}
+use mathlib.Core.Path.{_≡_, refl, sym, ap, _∙_}
 use mathlib.Core.Bool.{cond}
-use mathlib.Core.List.{List, [], _∷_, _++_, append-assoc}
-use Prim.Native.Nat.{ℕ, suc, _+_, _^_, _<_}
+use mathlib.Core.List.{List, [], _∷_, _++_, append-assoc, append-nil}
+use Prim.Native.Nat.{ℕ, suc, _+_, _-_, _*_, _^_, _≤_, _<_}
 use native.Mathlib.Omega.{arith}
 use lib.Dec.{eqb}
-use lib.ListN.{length, take, drop, getD, length-append}
+use lib.ListN.{length, take, drop, getD, length-append, length-drop}
 use lib.Seq.{take-at, drop-at}
 use Rattle.octets.specs.Octets.{bytes, number}
+use Rattle.octets.proofs.CopyLaws.{length-part}
 use Rattle.octets.proofs.NumberLaws.{length-bytes, number-back}
+use Rattle.merkle.specs.Limits.{hashLength}
+use Rattle.merkle.specs.Blocks.{blockCount}
+use Rattle.merkle.specs.Frontier.{carried}
 use Rattle.wire.specs.declared.kind.Kind.the-variants.{Program, Block, Update, Unknown}
 use Rattle.wire.specs.declared.manifest.Manifest.{Manifest}
-use Rattle.wire.specs.Manifest.{written}
-use Rattle.wire.specs.Message.{kind, programMessage, blockMessage, updateMessage, manifestBytes, programSignature, numberIn, blockIn, hashesAfter, updateNumber, updateBlock, updateSignature}
+use Rattle.wire.specs.Manifest.{manifestLength, written}
+use Rattle.wire.specs.Geometry.{blockLength}
+use Rattle.wire.specs.Message.{kind, kindLength, numberLength, leastLength, programMessage, blockMessage, updateMessage, manifestBytes, programSignature, numberIn, blockIn, hashesAfter, updateNumber, updateBlock, updateSignature, dueLength}
 use Rattle.wire.proofs.ManifestLaws.{length-written}
 
 pub kind-none : (m : List ℕ) → length m ≡ 0 → Unknown ≡ kind m
@@ -24,6 +29,24 @@ pub kind-first : (m : List ℕ) → (length m ≡ 0 → ⊥) → kind m ≡ cond
 unfolding kind
 kind-first [] n = absurd (n refl)
 kind-first (x ∷ m) n = refl
+
+-- the parts of a message that is long enough for them
+pub length-manifest : (m : List ℕ) → leastLength Program ≤ length m → length (manifestBytes m) ≡ manifestLength
+unfolding manifestBytes
+length-manifest m h = length-part m kindLength manifestLength h
+
+module _ (k : ℕ) (m : List ℕ) where
+  pub length-block : leastLength Block + k ≤ length m → length (blockIn k m) ≡ k
+  unfolding blockIn
+  length-block h = length-part m (leastLength Block) k h
+
+  pub length-hashes : length (hashesAfter k m) ≡ length m - (leastLength Block + k)
+  unfolding hashesAfter
+  length-hashes = length-drop (leastLength Block + k) m
+
+  pub length-update-block : leastLength Update + k ≤ length m → length (updateBlock k m) ≡ k
+  unfolding updateBlock
+  length-update-block h = length-part m (leastLength Update) k h
 
 module _ (s : Manifest) (root : length (s .root) ≡ 32) (signature : List ℕ) where
   pub record OfProgram (m : List ℕ) : Type 0 where
@@ -97,3 +120,19 @@ module _ (i : ℕ) (few : i < 256 ^ 2) (block hashes : List ℕ) where
         after = rw end (drop-at (bytes 2 i ++ block) hashes (2 + length block) most);
         size = ap suc (length-append (bytes 2 i ++ block) hashes) ∙ omega arith;
       }
+
+-- the due length, from the count of the hashes as the code finds it
+pub due-length : (L T i c : ℕ) → 0 < i → c ≡ carried (blockCount L T) (i - 1 + 1) → leastLength Block + blockLength L T i + hashLength * c ≡ dueLength L T i
+unfolding dueLength
+due-length L T i c pos e =
+    let z : i - 1 + 1 ≡ i = omega arith in
+    ap (λ (x : ℕ). leastLength Block + blockLength L T i + hashLength * x) (e ∙ ap (carried (blockCount L T)) z)
+
+-- a block message up to its hashes, and with them
+pub block-start : (i : ℕ) (block : List ℕ) → 2 ∷ (bytes numberLength i ++ block) ≡ blockMessage i block []
+unfolding blockMessage
+block-start i block = ap (λ (x : List ℕ). 2 ∷ x) (sym (append-nil (bytes numberLength i ++ block)))
+
+pub block-whole : (i : ℕ) (block hashes : List ℕ) → blockMessage i block [] ++ hashes ≡ blockMessage i block hashes
+unfolding blockMessage
+block-whole i block hashes = ap (λ (x : List ℕ). 2 ∷ (x ++ hashes)) (append-nil (bytes numberLength i ++ block))

@@ -6,9 +6,10 @@ use Prim.Native.Nat.{ℕ, _+_, _-_, _*_, _/_, _≤_, _<_}
 use native.Mathlib.Nat.{le-trans, mul-le-mul-left, mul-le-mul-right, add-div-right}
 use native.Mathlib.Omega.{arith}
 use lib.Dec.{eqb, ltb}
-use borrow.Author.Tests.{eqb-true, eqb-false, ne-eqb, eq-eqb, le-ltb, ltb-false, not-false}
+use borrow.Author.Tests.{eqb-true, eqb-false, ne-eqb, eq-eqb, lt-ltb, le-ltb, ltb-false, not-false}
 use Rattle.merkle.specs.Limits.{maxBlocks}
 use Rattle.merkle.specs.Blocks.{blockCount}
+use Rattle.merkle.proofs.ShapeLaws.{lt-or-le}
 use Rattle.merkle.proofs.BlockLaws.{block-count}
 use Rattle.wire.specs.Size.{allowedLength, wrongSize, outside}
 
@@ -132,3 +133,11 @@ module _ (L T : ℕ) where
 pub outside-not : (n i : ℕ) → (i ≡ 0 → ⊥) → i ≤ n → outside n i ≡ false
 unfolding outside
 outside-not n i z h = rw (ne-eqb i 0 z, le-ltb n i h)
+
+-- room for the first bytes: what is left of it is compared with the others
+pub too-short-rest : (room least more : ℕ) → least ≤ room → ltb (room - least) more ≡ ltb room (least + more)
+too-short-rest room least more h = go (lt-or-le (room - least) more)
+  where
+    go : (room - least < more) ⊎ (more ≤ room - least) → ltb (room - least) more ≡ ltb room (least + more)
+    go (inl p) = rw (lt-ltb (room - least) more p, lt-ltb room (least + more) (omega arith))
+    go (inr p) = rw (le-ltb (room - least) more p, le-ltb room (least + more) (omega arith))

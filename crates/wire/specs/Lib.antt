@@ -2,4 +2,5 @@ pub mod Refusal
 pub mod Size
 pub mod Manifest
 pub mod Image
+pub mod Geometry
 pub mod Message

@@ -1,59 +1,92 @@
--- The messages: what each kind consists of, and where each part of a received one stands.
-use mathlib.Core.Bool.{cond}
+-- The messages (01, 'Slip, messages, state'): what each kind consists of, where each part of a received one stands, and how long a message must be.
+use mathlib.Core.Bool.{Bool, cond}
 use mathlib.Core.List.{List, [], _∷_, _++_}
-use Prim.Native.Nat.{ℕ, _+_}
-use lib.Dec.{eqb}
-use lib.ListN.{drop}
+use Prim.Native.Nat.{ℕ, _+_, _*_}
+use lib.Dec.{eqb, ltb}
+use lib.ListN.{length, drop}
 use Rattle.octets.specs.Octets.{bytes, number, part}
+use Rattle.merkle.specs.Limits.{hashLength}
+use Rattle.merkle.specs.Blocks.{blockCount}
+use Rattle.merkle.specs.Frontier.{carried}
 use Rattle.wire.specs.declared.kind.Kind.{Kind}
 use Rattle.wire.specs.declared.kind.Kind.the-variants.{Program, Block, Update, Unknown}
 use Rattle.wire.specs.declared.manifest.Manifest.{Manifest}
 use Rattle.wire.specs.Manifest.{manifestLength, read, written}
+use Rattle.wire.specs.Geometry.{blockLength}
 
 -- "The first byte of a message is its kind."
 unfoldable pub kind : List ℕ → Kind
 kind [] = Unknown
 kind (k ∷ m) = cond (eqb k 1) Program (cond (eqb k 2) Block (cond (eqb k 3) Update Unknown))
 
--- kind 1: kind, manifest, signature over its 48 bytes
+-- "number i (2 bytes ..)"
+abbrev pub kindLength : ℕ
+kindLength = 1
+
+abbrev pub numberLength : ℕ
+numberLength = 2
+
+-- kind 1: kind, manifest, signature over its bytes
 unfoldable pub programMessage : Manifest → List ℕ → List ℕ
 programMessage s signature = 1 ∷ (written s ++ signature)
 
 -- kind 2: kind, number i, block, c(i) hashes
 unfoldable pub blockMessage : ℕ → List ℕ → List ℕ → List ℕ
-blockMessage i block hashes = 2 ∷ (bytes 2 i ++ block ++ hashes)
+blockMessage i block hashes = 2 ∷ (bytes numberLength i ++ block ++ hashes)
 
 -- kind 3: kind, new manifest, number, new block, signature over the new manifest
 unfoldable pub updateMessage : Manifest → ℕ → List ℕ → List ℕ → List ℕ
-updateMessage s i block signature = 3 ∷ (written s ++ bytes 2 i ++ block ++ signature)
+updateMessage s i block signature = 3 ∷ (written s ++ bytes numberLength i ++ block ++ signature)
+
+-- The parts before the signature of kind 1, and before the block of kinds 2 and 3: 49, 3 and 51 bytes. A message has at least these; with fewer it is refused 3.
+abbrev pub leastLength : Kind → ℕ
+leastLength Program = kindLength + manifestLength
+leastLength Block = kindLength + numberLength
+leastLength Update = kindLength + manifestLength + numberLength
+leastLength Unknown = 0
+
+unfoldable pub short : Kind → List ℕ → Bool
+short k m = ltb (length m) (leastLength k)
 
 -- Kinds 1 and 3: the manifest's bytes, and the manifest that they stand for.
 unfoldable pub manifestBytes : List ℕ → List ℕ
-manifestBytes m = part 1 manifestLength m
+manifestBytes m = part kindLength manifestLength m
 
 unfoldable pub manifestIn : List ℕ → Manifest
 manifestIn m = read (manifestBytes m)
 
--- Kind 2: the number; after it a block of L bytes, and the rest is hashes.
-unfoldable pub numberIn : List ℕ → ℕ
-numberIn m = number (part 1 2 m)
-
-unfoldable pub blockIn : ℕ → List ℕ → List ℕ
-blockIn L m = part 3 L m
-
-unfoldable pub hashesAfter : ℕ → List ℕ → List ℕ
-hashesAfter L m = drop (3 + L) m
-
 -- Kind 1: what follows the manifest is the signature.
 unfoldable pub programSignature : List ℕ → List ℕ
-programSignature m = drop (1 + manifestLength) m
+programSignature m = drop (leastLength Program) m
 
--- Kind 3: number, block and signature.
+-- Kind 2: the number; after it a block of k bytes, and the rest is hashes.
+unfoldable pub numberIn : List ℕ → ℕ
+numberIn m = number (part kindLength numberLength m)
+
+unfoldable pub blockIn : ℕ → List ℕ → List ℕ
+blockIn k m = part (leastLength Block) k m
+
+unfoldable pub hashesAfter : ℕ → List ℕ → List ℕ
+hashesAfter k m = drop (leastLength Block + k) m
+
+-- Kind 3: the number, a block of k bytes, and the rest is the signature.
 unfoldable pub updateNumber : List ℕ → ℕ
-updateNumber m = number (part (1 + manifestLength) 2 m)
+updateNumber m = number (part (kindLength + manifestLength) numberLength m)
 
 unfoldable pub updateBlock : ℕ → List ℕ → List ℕ
-updateBlock L m = part (3 + manifestLength) L m
+updateBlock k m = part (leastLength Update) k m
 
 unfoldable pub updateSignature : ℕ → List ℕ → List ℕ
-updateSignature L m = drop (3 + manifestLength + L) m
+updateSignature k m = drop (leastLength Update + k) m
+
+-- Refusal 12. Kind 2: message i has exactly "3 + L + 32 × c(i) bytes"; with L = 256 and n = 8, message 1 has 355.
+unfoldable pub dueLength : (L T i : ℕ) → ℕ
+dueLength L T i = leastLength Block + blockLength L T i + hashLength * carried (blockCount L T) i
+
+-- Kind 3: an update of block i has at least "51 + L" bytes.
+unfoldable pub leastUpdate : (L T i : ℕ) → ℕ
+leastUpdate L T i = leastLength Update + blockLength L T i
+
+-- A buffer after bytes were written to its start: what stands behind them stays.
+abbrev pub atStart : (bytes buffer : List ℕ) → List ℕ
+atStart bytes buffer = bytes ++ drop (length bytes) buffer

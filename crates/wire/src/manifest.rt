@@ -1,10 +1,13 @@
-// The manifest and its 48 bytes.
+// The manifest and its bytes.
 ghost use mathlib.Core.Path.{_≡_};
 ghost use Prim.Native.Nat.{_+_, _≤_};
 ghost use lib.ListN.{length};
 ghost use Rattle.octets.specs.Octets.{part};
 ghost use Rattle.wire.specs.Manifest as spec;
-ghost use Rattle.wire.specs.Manifest.{written};
+ghost use Rattle.wire.specs.Manifest.{manifestLength, written};
+
+// version (2), L (2), model (4), serial (4), T (4), root (32)
+pub const MANIFEST_LEN: usize = 48;
 
 // 01: the slip.
 pub struct Manifest {
@@ -20,8 +23,8 @@ pub struct Manifest {
 
 // The manifest whose bytes stand in s from index at on.
 pub fn read(s: &[u8], at: usize) -> Manifest
-    requires { ⌜ at + 48 ≤ length (now s) ⌝ }
-    ensures { λ r. ⌜ r ≡ spec.read (part at 48 (now (s .entry))) ⌝ }
+    requires { ⌜ at + manifestLength ≤ length (now s) ⌝ }
+    ensures { λ r. ⌜ r ≡ spec.read (part at manifestLength (now (s .entry))) ⌝ }
 {
     Manifest {
         version: octets::u16_at(s, at),
@@ -33,7 +36,8 @@ pub fn read(s: &[u8], at: usize) -> Manifest
     }
 }
 
-pub fn to_bytes(manifest: Manifest) -> [u8; 48]
+// The bytes of a manifest.
+pub fn to_bytes(manifest: Manifest) -> [u8; MANIFEST_LEN]
     ensures { λ r. ⌜ r ≡ written manifest ⌝ }
 {
     let version = octets::be16(manifest.version);
@@ -42,7 +46,7 @@ pub fn to_bytes(manifest: Manifest) -> [u8; 48]
     let serial = octets::be32(manifest.serial);
     let image_len = octets::be32(manifest.image_len);
     let root = manifest.root;
-    let mut s = [0u8; 48];
+    let mut s = [0u8; MANIFEST_LEN];
     octets::copy(&mut s, 0, &version);
     octets::copy(&mut s, 2, &block_len);
     octets::copy(&mut s, 4, &model);

@@ -1,36 +1,45 @@
-// Which block lengths, image lengths and block numbers are allowed.
+// Which block lengths, image lengths and block numbers are allowed, and what follows from them.
 ghost use mathlib.Core.Path.{_≡_};
-ghost use Prim.Native.Nat.{_<_};
+ghost use Prim.Native.Nat.{_+_, _<_};
+ghost use lib.Dec.{ltb};
 ghost use Rattle.merkle.specs.Blocks.{blockCount};
 ghost use Rattle.wire.specs.Size as spec;
-ghost use Rattle.wire.specs.Size.{allowedLength};
+ghost use Rattle.wire.specs.Size.{allowedLength, wrongSize};
+ghost use Rattle.wire.specs.Geometry.{blockLength};
 
-fn allowed(block: usize) -> bool
-    ensures { λ r. ⌜ r ≡ allowedLength block ⌝ }
+fn allowed(block_len: usize) -> bool
+    ensures { λ r. ⌜ r ≡ allowedLength «block_len» ⌝ }
 {
-    match block {
+    match block_len {
         64 | 128 | 256 | 512 | 1024 => true,
         _ => false,
     }
 }
 
-// The number of blocks of `block` bytes in an image of `image` bytes.
-pub fn block_count(block: usize, image: usize) -> usize
-    requires { ⌜ (0 < block) × (0 < image) ⌝ }
-    ensures { λ r. ⌜ r ≡ blockCount block image ⌝ }
+// The number of blocks of an image (01: n).
+pub fn block_count(block_len: usize, image_len: usize) -> usize
+    requires { ⌜ (0 < «block_len») × (0 < «image_len») ⌝ }
+    ensures { λ r. ⌜ r ≡ blockCount «block_len» «image_len» ⌝ }
 {
-    (image - 1) / block + 1
+    (image_len - 1) / block_len + 1
+}
+
+// The bytes of block `number`, from 1: the sender fills the last one, so that it is as long as the others.
+pub fn block_length(block_len: usize, image_len: usize, number: usize) -> usize
+    ensures { λ r. ⌜ r ≡ blockLength «block_len» «image_len» number ⌝ }
+{
+    block_len
 }
 
 // Refusal 5.
-pub fn wrong_size(block: usize, image: usize) -> bool
-    ensures { λ r. ⌜ r ≡ spec.wrongSize block image ⌝ }
+pub fn wrong_size(block_len: usize, image_len: usize) -> bool
+    ensures { λ r. ⌜ r ≡ wrongSize «block_len» «image_len» ⌝ }
 {
-    if image == 0 {
+    if image_len == 0 {
         return true;
     }
-    if allowed(block) {
-        return merkle::MAX_BLOCKS < block_count(block, image);
+    if allowed(block_len) {
+        return merkle::MAX_BLOCKS < block_count(block_len, image_len);
     }
     true
 }
@@ -43,4 +52,14 @@ pub fn outside(n: usize, number: usize) -> bool
         return true;
     }
     n < number
+}
+
+// Refusal 8 for the sender: a buffer of `room` bytes for `least` bytes and `more`, whose sum need not fit a number.
+pub fn too_short(room: usize, least: usize, more: usize) -> bool
+    ensures { λ r. ⌜ r ≡ ltb room (least + more) ⌝ }
+{
+    if room < least {
+        return true;
+    }
+    room - least < more
 }

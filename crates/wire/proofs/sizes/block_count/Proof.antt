@@ -13,7 +13,7 @@ div-result : tie.Need-div-result
 div-result c = search needs
 
 add-result : tie.Need-add-result
-add-result c = omega (arith, div-le-self (c .args .image - 1) (c .args .block))
+add-result c = omega (arith, div-le-self (c .args .image-len - 1) (c .args .block-len))
 
 returns : tie.Need-returns
 returns c = count-is _ _ (c .pre .0) (c .pre .1)

@@ -1,0 +1,75 @@
+-- A program's blocks in the flash: where they end, and a block written to its place.
+use mathlib.Core.Path.{_≡_, sym, ap, ap₂, _∙_}
+use mathlib.Core.Bool.{false}
+use mathlib.Core.List.{List, _++_}
+use Prim.Native.Nat.{ℕ, suc, pred, _+_, _*_, _≤_, _<_}
+use native.Mathlib.Nat.{le-refl, mul-le-mul-right}
+use native.Mathlib.Omega.{arith}
+use lib.ListN.{length, take, drop, length-drop}
+use lib.Seq.{paste, length-paste, length-take-le, take-at, drop-at, take-length, drop-drop}
+use Rattle.merkle.specs.Blocks.{cut, overlay}
+use Rattle.merkle.proofs.BlockLaws.{overlay-same, overlay-other, take-blocks, written}
+use Rattle.wire.specs.declared.manifest.Manifest.{Manifest}
+use Rattle.wire.specs.Size.{wrongSize}
+use Rattle.wire.specs.Geometry.{countOf, blockLength, programLength, blocksOf, withBlock}
+use Rattle.wire.proofs.SizeLaws.{sized}
+
+-- no block is longer than L
+pub block-length-most : (L T i : ℕ) → blockLength L T i ≤ L
+unfolding blockLength
+block-length-most L T i = le-refl L
+
+pub block-length-few : (L T i : ℕ) → wrongSize L T ≡ false → blockLength L T i ≤ 1024
+block-length-few L T i e = omega (arith, block-length-most L T i, sized L T e .most)
+
+-- a block written to its place is a copy to there
+pub with-copied : (L : ℕ) (flash : List ℕ) (i : ℕ) (x : List ℕ) → paste flash (pred i * L) x (length x) ≡ withBlock L flash i x
+unfolding withBlock
+with-copied L flash i x = let at = pred i * L in ap (λ (y : List ℕ). take at flash ++ y ++ drop (at + length x) flash) (take-length x)
+
+-- the block with i blocks before it, in a flash that has room for the program
+module _ (s : Manifest) (i : ℕ) (flash : List ℕ) (below : i < countOf s) (room : programLength s ≤ length flash) where
+  abbrev L : ℕ
+  L = s .«block_len»
+
+  abbrev long : ℕ
+  long = blockLength L (s .«image_len») (suc i)
+
+  pub block-end : i * L + long ≤ length flash
+  unfolding blockLength programLength
+  block-end = let m : suc i * L ≤ countOf s * L = mul-le-mul-right L below in omega arith
+
+  pub length-in : length (blocksOf s flash i) ≡ long
+  unfolding blocksOf cut blockLength
+  length-in = length-take-le L (drop (i * L) flash) (rw (length-drop (i * L) flash) (omega (arith, block-end)))
+
+  module _ (x : List ℕ) (size : length x ≡ long) where
+    pub length-with : length (withBlock L flash (suc i) x) ≡ length flash
+    length-with = ap length (sym (with-copied L flash (suc i) x)) ∙ length-paste flash (i * L) x (length x) (omega (arith, block-end)) (omega arith)
+
+    -- the blocks are those before with this one replaced
+    pub with-blocks : (j : ℕ) → blocksOf s (withBlock L flash (suc i) x) j ≡ overlay (blocksOf s flash) i x j
+    unfolding blocksOf
+    with-blocks j =
+        ap (λ (y : List ℕ). cut L y j) (sym (with-copied L flash (suc i) x)) ∙ written L flash x i (omega (arith, block-end)) (size ∙ sym length-in) j
+
+    pub with-here : blocksOf s (withBlock L flash (suc i) x) i ≡ x
+    with-here = with-blocks i ∙ overlay-same (blocksOf s flash) i x
+
+    pub with-before : (j : ℕ) → j < i → blocksOf s (withBlock L flash (suc i) x) j ≡ blocksOf s flash j
+    with-before j h = with-blocks j ∙ overlay-other (blocksOf s flash) i x j (λ e. omega arith)
+
+-- the first j blocks of w over an old flash, and one block more
+pub more-blocks : (L j : ℕ) (w old : List ℕ) → j * L ≤ length w → length (cut L w j) ≡ L
+    → withBlock L (take (j * L) w ++ drop (j * L) old) (suc j) (cut L w j) ≡ take (suc j * L) w ++ drop (suc j * L) old
+unfolding withBlock
+more-blocks L j w old fits long =
+    let b : List ℕ = cut L w j in
+    let front : List ℕ = take (j * L) w in
+    let lf : length front ≡ j * L = length-take-le (j * L) w fits in
+    let all : List ℕ = front ++ drop (j * L) old in
+    let e : suc j * L ≡ j * L + length b = omega arith in
+    ap₂ {C = List ℕ} (λ u v. u ++ v)
+    (ap (λ u. u ++ b) (take-at front (drop (j * L) old) (j * L) lf) ∙ sym (take-blocks L w j))
+    (sym (drop-drop (length b) (j * L) all) ∙ ap (drop (length b)) (drop-at front (drop (j * L) old) (j * L) lf) ∙ drop-drop (length b) (j * L) old
+    ∙ ap (λ k. drop k old) (sym e))
