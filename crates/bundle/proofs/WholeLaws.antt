@@ -25,14 +25,15 @@ use Rattle.wire.proofs.MessageLaws.{OfProgram}
 use Rattle.sender.specs.Job.{Job, count, manifestFor, programFor, blockFor}
 use Rattle.machine.specs.declared.state.Device.{Device}
 use Rattle.machine.specs.declared.state.Answer.the-variants.{Accepted}
-use Rattle.machine.specs.Device.{countOf, Fresh, freshWith, Situation}
+use Rattle.machine.specs.Device.{countOf, Fresh, freshWith, serialOf, Situation}
 use Rattle.machine.specs.Step.{accept, outcome, refusalOf, step}
 use Rattle.machine.specs.Readers.{acceptedBlocks}
 use Rattle.guarantee.specs.Demand3.{Sendable}
 use Rattle.machine.proofs.RefusalLaws.{program-passed}
 use Rattle.guarantee.proofs.SentLaws.{root-long, block-sent}
 use Rattle.guarantee.proofs.HonestLaws.{Here, next-accepted, next-here, first-here, is-complete, flash-is}
-use Rattle.guarantee.proofs.Reached.{is-program, program-accepted}
+use Rattle.machine.proofs.SenseLaws.{sense-idle}
+use Rattle.guarantee.proofs.ProgramLaws.{is-program, program-accepted}
 use Rattle.bundle.specs.Text.{ascii, bundleLine, slipLine, blockLine, line, stateWords, stateLine}
 use Rattle.bundle.specs.Parts.{trailerAt, distance, nowhere, programAt, programIn, beforeProgram}
 use Rattle.bundle.specs.Load.{keyFileLength, maxBundle, Printed, _before_, ifAccepted, blocksFrom, blocks, messages, withState, deviceFor, loaded}
@@ -153,11 +154,15 @@ module _ (key flash : List ℕ) (job : Job) (ok : Sendable job) (filler signatur
   unfolding deviceFor freshWith
   signed-is = signed
 
+  newer : serialOf d < job .serial
+  unfolding deviceFor freshWith serialOf
+  newer = serial
+
   none-applies : refusalOf digest valid d flash program ≡ none
-  none-applies = program-accepted digest length-digest valid d fresh flash job ok signature model-is serial room signed-is
+  none-applies = program-accepted digest length-digest valid job ok signature d flash (sense-idle d (fresh .idle)) model-is newer room signed-is
 
   is-sent : OfProgram (manifestFor digest job) (root-long digest length-digest job ok) signature program
-  is-sent = is-program digest length-digest valid d fresh flash job ok signature model-is serial room signed-is
+  is-sent = is-program digest length-digest valid job ok signature
 
   here : Here digest length-digest valid job ok flash 0 begun
   here = first-here digest length-digest valid job ok d flash program (is-sent .manifest) (program-passed digest valid d flash program (is-sent .is) none-applies)

@@ -35,19 +35,20 @@ use Rattle.machine.specs.Refusals.{wrongVersion, badSize, senseless, notLoading
 use Rattle.machine.specs.Step.{acceptProgram, stageAfter, acceptBlock, acceptUpdate, accept}
 use Rattle.guarantee.specs.Run.{Messages, _▷_, lastProgram, blocksSince, lastCarrier, signatureIn}
 use Rattle.machine.proofs.RefusalLaws.{ProgramPassed, BlockPassed, UpdatePassed, Passed, took-program, took-block, took-update}
+use Rattle.machine.proofs.SenseLaws.{sense-idle, sense-loading, sense-complete}
 use Rattle.machine.proofs.FlashLaws.{length-with, with-here, with-before}
 
 -- what an accepted message of each kind adds to the list of those accepted
 module _ (ms : Messages) (m : List ℕ) where
-  with-program : kind m ≡ Program → (lastProgram (ms ▷ m) ≡ some (manifestIn m)) × (blocksSince (ms ▷ m) ≡ 0) × (lastCarrier (ms ▷ m) ≡ some m) × (signatureIn m ≡ programSignature m)
+  pub with-program : kind m ≡ Program → (lastProgram (ms ▷ m) ≡ some (manifestIn m)) × (blocksSince (ms ▷ m) ≡ 0) × (lastCarrier (ms ▷ m) ≡ some m) × (signatureIn m ≡ programSignature m)
   unfolding lastProgram blocksSince lastCarrier signatureIn
   with-program e = (rw (e, lastProgram), rw (e, blocksSince), rw (e, lastCarrier), rw (e, signatureIn))
 
-  with-block : kind m ≡ Block → (lastProgram (ms ▷ m) ≡ lastProgram ms) × (blocksSince (ms ▷ m) ≡ suc (blocksSince ms)) × (lastCarrier (ms ▷ m) ≡ lastCarrier ms)
+  pub with-block : kind m ≡ Block → (lastProgram (ms ▷ m) ≡ lastProgram ms) × (blocksSince (ms ▷ m) ≡ suc (blocksSince ms)) × (lastCarrier (ms ▷ m) ≡ lastCarrier ms)
   unfolding lastProgram blocksSince lastCarrier
   with-block e = (rw (e, lastProgram), rw (e, blocksSince), rw (e, lastCarrier))
 
-  with-update : kind m ≡ Update
+  pub with-update : kind m ≡ Update
       → (lastProgram (ms ▷ m) ≡ lastProgram ms) × (blocksSince (ms ▷ m) ≡ blocksSince ms) × (lastCarrier (ms ▷ m) ≡ some m) × (signatureIn m ≡ updateSignature (manifestIn m .«block_len») m)
   unfolding lastProgram blocksSince lastCarrier signatureIn
   with-update e = (rw (e, lastProgram), rw (e, blocksSince), rw (e, lastCarrier), rw (e, signatureIn))
@@ -57,10 +58,6 @@ unfolding manifestIn read manifestBytes
 root-length m e =
     let a : length (part 1 48 m) ≡ 48 = length-take-le 48 (drop 1 m) (rw (length-drop 1 m) (omega arith)) in
     length-take-le 32 (drop 16 (part 1 48 m)) (rw (length-drop 16 (part 1 48 m)) (omega arith))
-
-not-wrong : (L T : ℕ) → Sized L T → wrongSize L T ≡ false
-unfolding wrongSize
-not-wrong L T z = rw (z .allowed, ne-eqb T 0 (λ e. omega (arith, z .some)), le-ltb maxBlocks (blockCount L T) (z .count))
 
 module _ (H : List ℕ → List ℕ) (valid : (key message signature : List ℕ) → Bool) (key : List ℕ) where
   -- the last accepted message that carries a manifest has this one, and it was signed
@@ -280,14 +277,10 @@ module _ (H : List ℕ → List ℕ) (valid : (key message signature : List ℕ)
 
   -- A device that has the invariant makes sense: refusal 1 never applies.
   pub makes-sense : (total : ℕ) (d : Device) (flash : List ℕ) (taken : Messages) → Invariant total d flash taken → senseless d ≡ false
-  unfolding senseless badSize
   makes-sense total d flash taken v = go (d .stage) refl (v .holds)
     where
-      whole : wrongVersion (d .manifest) ≡ false → Sized (d .manifest .«block_len») (d .manifest .«image_len») → wrongVersion (d .manifest) || badSize (d .manifest) ≡ false
-      whole e z = rw (e, not-wrong (d .manifest .«block_len») (d .manifest .«image_len») z)
-
       go : (t : Stage) → d .stage ≡ t → Holds t (d .manifest) (d .hashes) flash taken → senseless d ≡ false
-      go Idle q w = rw (q, senseless)
+      go Idle q w = sense-idle d q
       go (Loading zero) q w = absurd w
-      go (Loading (suc k)) q w = rw (q, senseless, whole (w .version) (w .size), outside-not (countOf (d .manifest)) (suc k) (λ e. omega arith) (w .below))
-      go Complete q w = rw (q, senseless, whole (w .version) (w .size))
+      go (Loading (suc k)) q w = sense-loading d (w .version) (w .size) k q (w .below)
+      go Complete q w = sense-complete d (w .version) (w .size) q

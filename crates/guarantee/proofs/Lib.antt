@@ -2,8 +2,9 @@ pub mod InvariantLaws
 pub mod RunLaws
 pub mod FirstHalf
 pub mod SentLaws
+pub mod ProgramLaws
 pub mod HonestLaws
 pub mod SecondHalf
 pub mod Demand3Holds
-pub mod Reached
+pub mod RecoveryHolds
 pub mod Wrong

@@ -17,7 +17,7 @@ use Rattle.guarantee.specs.Run.{Messages, empty, _▷_, after, answerTo,
 use Rattle.machine.specs.Answers.{answerOf}
 use Rattle.guarantee.specs.Demand3.{Calls}
 
-answer-none : (r : Option Refusal) → answerOf r ≡ Accepted → r ≡ none
+pub answer-none : (r : Option Refusal) → answerOf r ≡ Accepted → r ≡ none
 unfolding answerOf
 answer-none none e = refl
 answer-none (some x) e = absurd (let z : _≡_ {A = ℕ} 0 1 = cc in omega arith)

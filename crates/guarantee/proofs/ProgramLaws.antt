@@ -1,0 +1,52 @@
+-- The sender's new program is accepted by every device that makes sense and has its model, an older serial, room and the key.
+use mathlib.Core.Path.{_≡_, refl, ap, sym, subst}
+use mathlib.Core.Bool.{Bool, true, false, not}
+use mathlib.Core.List.{List}
+use mathlib.Core.Option.{none}
+use Prim.Native.Nat.{ℕ, _*_, _≤_, _<_}
+use native.Mathlib.Omega.{arith}
+use lib.ListN.{length}
+use borrow.Author.Tests.{lt-ltb, le-ltb, eq-eqb}
+use Rattle.merkle.specs.Limits.{hashLength}
+use Rattle.wire.specs.declared.kind.Kind.the-variants.{Program}
+use Rattle.wire.specs.Refusal.{firstThatApplies}
+use Rattle.wire.specs.Manifest.{written}
+use Rattle.wire.specs.Message.{manifestIn}
+use Rattle.wire.proofs.MessageLaws.{OfProgram, of-program}
+use Rattle.sender.specs.Job.{Job, count, manifestFor, programFor}
+use Rattle.machine.specs.declared.state.Device.{Device}
+use Rattle.machine.specs.Device.{countOf, serialOf}
+use Rattle.machine.specs.Refusals.{ofManifest, wrongVersion, badSize, senseless, noKind, short, leastLength, otherModel, notNewer, tooSmall, unsigned, always, ofProgram, ofKind, refusals}
+use Rattle.machine.specs.Step.{refusalOf}
+use Rattle.machine.proofs.RefusalLaws.{NoneApplies, _then_, applies-none}
+use Rattle.guarantee.specs.Demand3.{Sendable}
+use Rattle.guarantee.proofs.SentLaws.{root-long, manifest-is}
+
+module _ (H : List ℕ → List ℕ) (hash-long : (x : List ℕ) → length (H x) ≡ hashLength) (valid : (key message signature : List ℕ) → Bool)
+    (job : Job) (ok : Sendable job) (signature : List ℕ) where
+  abbrev m : List ℕ
+  m = programFor H job signature
+
+  pub is-program : OfProgram (manifestFor H job) (root-long H hash-long job ok) signature m
+  unfolding programFor
+  is-program = of-program (manifestFor H job) (root-long H hash-long job ok) signature
+
+  module _ (d : Device) (flash : List ℕ) (sense : senseless d ≡ false) (model : job .model ≡ d .model) (newer : serialOf d < job .serial)
+      (room : count job * job .block ≤ length flash) (signed : valid (d .key) (written (manifestFor H job)) signature ≡ true) where
+    pub program-accepted : refusalOf H valid d flash m ≡ none
+    unfolding refusalOf refusals always ofKind ofManifest ofProgram noKind short leastLength wrongVersion badSize otherModel notNewer tooSmall unsigned countOf count manifestFor NoneApplies
+    program-accepted =
+        let p = is-program in
+        let e : manifestIn m ≡ manifestFor H job = manifest-is H hash-long job ok m (p .manifest) in
+        subst (λ k. firstThatApplies (refusals H valid k d flash m) ≡ none) (sym (p .is))
+        (applies-none (refusals H valid Program d flash m)
+        (sense
+        then refl
+        then le-ltb (length m) 49 (omega (arith, p .size))
+        then rw e refl
+        then rw e (ok .size)
+        then rw e (ap not (eq-eqb (job .model) (d .model) model))
+        then rw e (ap not (lt-ltb (serialOf d) (job .serial) newer))
+        then rw e (le-ltb (length flash) _ room)
+        then rw (p .manifest, p .signed, signed) refl
+        then tt))

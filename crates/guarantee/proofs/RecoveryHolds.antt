@@ -1,0 +1,154 @@
+-- Recovery follows from demand 3, for any step that meets it. For our own step it holds from every state that makes sense, reached or not.
+use mathlib.Core.Path.{_≡_, refl, sym, ap, _∙_, subst}
+use mathlib.Core.Logic.{_⊎_, inl, inr}
+use mathlib.Core.Bool.{Bool, false, true≢false}
+use mathlib.Core.List.{List}
+use mathlib.Core.Option.{Option, none, some}
+use Prim.Native.Nat.{ℕ, zero, suc, _≤_, _<_}
+use native.Mathlib.Omega.{arith}
+use lib.ListN.{length}
+use Rattle.merkle.specs.Limits.{hashLength}
+use Rattle.merkle.proofs.ShapeLaws.{lt-or-le}
+use Rattle.wire.specs.declared.manifest.Manifest.{Manifest}
+use Rattle.wire.specs.Message.{kind, manifestIn}
+use Rattle.wire.proofs.SizeLaws.{Sized}
+use Rattle.sender.specs.Job.{Job, count, programFor}
+use Rattle.machine.specs.declared.state.Stage.{Stage}
+use Rattle.machine.specs.declared.state.Stage.the-variants.{Idle, Loading, Complete}
+use Rattle.machine.specs.declared.state.Device.{Device}
+use Rattle.machine.specs.declared.state.Answer.{Answer}
+use Rattle.machine.specs.declared.state.Answer.the-variants.{Accepted, Refused}
+use Rattle.machine.specs.Device.{countOf, Fresh, Situation, Outcome}
+use Rattle.machine.specs.Refusals.{wrongVersion, senseless, notLoading, notComplete}
+use Rattle.machine.specs.Step.{refusalOf, step}
+use Rattle.machine.specs.Answers.{answerOf}
+use Rattle.machine.proofs.RefusalLaws.{Passed, took-program, took-block, took-update, passed}
+use Rattle.machine.proofs.SenseLaws.{sense-idle, sense-loading, sense-complete}
+use Rattle.guarantee.specs.Run.{Messages, empty, _▷_, after, answerTo, accepted, lastProgram, blocksSince, lastCarrier, Completed}
+use Rattle.guarantee.specs.Demand3.{thenBlocks, Calls, Begun, Honest, begin, next, Loaded, Claim, SecondHalf, Demand3}
+use Rattle.guarantee.specs.Recovery.{Offered, Recovers, Recovery, RecoveryFrom}
+use Rattle.guarantee.proofs.InvariantLaws.{with-program, with-block, with-update}
+use Rattle.guarantee.proofs.RunLaws.{answer-none, calls}
+use Rattle.guarantee.proofs.SecondHalf.{second-half}
+use Rattle.guarantee.proofs.ProgramLaws.{is-program, program-accepted}
+
+-- What the accepted messages say of a device's manifest and next number.
+data Standing (taken : Messages) : Type 0 where
+  nothing : lastProgram taken ≡ none → Standing taken
+  loading : (s : Manifest) (m : List ℕ) → lastProgram taken ≡ some s → lastCarrier taken ≡ some m → manifestIn m ≡ s → wrongVersion (manifestIn m) ≡ false
+      → Sized (manifestIn m .«block_len») (manifestIn m .«image_len») → blocksSince taken < countOf s → Standing taken
+  complete : (s : Manifest) (m : List ℕ) → lastProgram taken ≡ some s → lastCarrier taken ≡ some m → wrongVersion (manifestIn m) ≡ false
+      → Sized (manifestIn m .«block_len») (manifestIn m .«image_len») → blocksSince taken ≡ countOf s → Standing taken
+
+-- a stage that the tests of kinds 2 and 3 let pass
+not-idle : (t : Stage) → notLoading t ≡ false → t ≡ Idle → ⊥
+unfolding notLoading
+not-idle t e q = true≢false (rw q at e)
+
+not-done : (t : Stage) → notLoading t ≡ false → t ≡ Complete → ⊥
+unfolding notLoading
+not-done t e q = true≢false (rw q at e)
+
+not-complete : (t : Stage) → notComplete t ≡ false → t ≡ Complete
+unfolding notComplete
+not-complete Idle e = absurd (true≢false e)
+not-complete (Loading i) e = absurd (true≢false e)
+not-complete Complete e = refl
+
+module _ (H : List ℕ → List ℕ) (valid : (key message signature : List ℕ) → Bool) (any : Device → List ℕ → List ℕ → Outcome) (d : Device) (flash : List ℕ)
+    (claim : (ms : Messages) → Claim H valid any d flash ms) where
+  abbrev at : Messages → Situation
+  at ms = after any d flash ms
+
+  abbrev taken : Messages → Messages
+  taken ms = accepted any d flash ms
+
+  unrefused : (ms : Messages) (m : List ℕ) → answerTo any d flash ms m ≡ Accepted → refusalOf H valid (at ms .device) (at ms .flash) m ≡ none
+  unrefused ms m e = answer-none _ (sym (claim ms .calls .answers m) ∙ e)
+
+  sense-of : (ms : Messages) → Standing (taken ms) → senseless (at ms .device) ≡ false
+  sense-of ms (nothing e) = sense-idle (at ms .device) (claim ms .first .idle e)
+  sense-of ms (loading s m e c i v z h) =
+      let k = claim ms .first .manifest m c in
+      sense-loading (at ms .device) (rw k v) (rw k z) (blocksSince (taken ms)) (claim ms .first .loading s e h) (rw (k, i) h)
+  sense-of ms (complete s m e c v z h) =
+      let k = claim ms .first .manifest m c in
+      sense-complete (at ms .device) (rw k v) (rw k z) (claim ms .first .exactly .1 (record { manifest = s; last = e; all = h }))
+
+  abbrev is-complete : (ms : Messages) (s : Manifest) → lastProgram (taken ms) ≡ some s → blocksSince (taken ms) ≡ countOf s → at ms .device .stage ≡ Complete
+  is-complete ms s e h = claim ms .first .exactly .1 (record { manifest = s; last = e; all = h })
+
+  more : (ms : Messages) (m : List ℕ) → Passed H valid (at ms .device) (at ms .flash) m → Standing (taken ms) → Standing (taken ms ▷ m)
+  more ms m (took-program k p) t =
+      let a = with-program (taken ms) m k in
+      loading (manifestIn m) m (a .0) (a .2) refl (p .version) (p .size) (rw (a .1) (unfold countOf in p .size .first))
+  more ms m (took-block k p) (nothing e) = absurd (not-idle (at ms .device .stage) (p .loading) (claim ms .first .idle e))
+  more ms m (took-block k p) (loading s c e f i v z h) = go (lt-or-le (suc (blocksSince (taken ms))) (countOf s))
+    where
+      a : (lastProgram (taken ms ▷ m) ≡ lastProgram (taken ms)) × (blocksSince (taken ms ▷ m) ≡ suc (blocksSince (taken ms))) × (lastCarrier (taken ms ▷ m) ≡ lastCarrier (taken ms))
+      a = with-block (taken ms) m k
+
+      go : (suc (blocksSince (taken ms)) < countOf s) ⊎ (countOf s ≤ suc (blocksSince (taken ms))) → Standing (taken ms ▷ m)
+      go (inl l) = loading s c (a .0 ∙ e) (a .2 ∙ f) i v z (rw (a .1) l)
+      go (inr l) = complete s c (a .0 ∙ e) (a .2 ∙ f) v z (a .1 ∙ omega arith)
+  more ms m (took-block k p) (complete s c e f v z h) = absurd (not-done (at ms .device .stage) (p .loading) (is-complete ms s e h))
+  more ms m (took-update k p) t =
+      let a = with-update (taken ms) m k in
+      let c : Completed (taken ms) = claim ms .first .exactly .0 (not-complete (at ms .device .stage) (p .complete)) in
+      complete (c .manifest) m (a .0 ∙ c .last) (a .2) (p .version) (p .size) (a .1 ∙ c .all)
+
+  standing : (ms : Messages) → Standing (taken ms)
+  unfolding accepted lastProgram
+  standing empty = nothing refl
+  standing (ms ▷ m) = go (answerTo any d flash ms m) refl (standing ms)
+    where
+      go : (a : Answer) → answerTo any d flash ms m ≡ a → Standing (taken ms) → Standing (taken (ms ▷ m))
+      go Accepted e t = rw (e, accepted) (more ms m (passed H valid (at ms .device) (at ms .flash) m (unrefused ms m e)) t)
+      go (Refused r) e t = rw (e, accepted) t
+
+  -- Where demand 3 holds refusal 1 never applies.
+  pub sense : (ms : Messages) → senseless (at ms .device) ≡ false
+  sense ms = sense-of ms (standing ms)
+
+-- A device that makes sense takes the program that it is offered, and then its blocks.
+module _ (H : List ℕ → List ℕ) (hash-long : (x : List ℕ) → length (H x) ≡ hashLength) (valid : (key message signature : List ℕ) → Bool)
+    (any : Device → List ℕ → List ℕ → Outcome) (d : Device) (flash : List ℕ) (ms : Messages) (job : Job) (signature : List ℕ) where
+  -- the list with nothing between
+  plain : (j : ℕ) → j ≤ count job → Honest H valid any d flash job ms (programFor H job signature) j (thenBlocks H job (ms ▷ programFor H job signature) j)
+  unfolding thenBlocks
+  plain zero h = begin
+  plain (suc j) h = next h (plain j (omega arith))
+
+  recovers : Calls H valid any d flash ms → length (after any d flash ms .flash) ≡ length flash → ((list : Messages) → SecondHalf H valid any d flash list)
+      → senseless (after any d flash ms .device) ≡ false → Offered H valid any d flash ms job signature → Recovers H valid any d flash ms job signature
+  recovers calls long second sense o =
+      record { taken = accepts; loaded = loads; none-between = loads (thenBlocks H job (ms ▷ programFor H job signature) (count job)) (plain (count job) (omega arith)) }
+    where
+      at : Situation
+      at = after any d flash ms
+
+      accepts : answerTo any d flash ms (programFor H job signature) ≡ Accepted
+      accepts =
+          unfold answerOf in
+          (calls .answers (programFor H job signature)
+          ∙ ap answerOf
+          (program-accepted H hash-long valid job (o .sendable) signature (at .device) (at .flash) sense (o .model ∙ sym (calls .model)) (o .newer) (rw long (o .room)) (rw (calls .key) (o .signed))))
+
+      begun : Begun H valid any d flash job ms (programFor H job signature)
+      begun =
+          let p = is-program H hash-long valid job (o .sendable) signature in
+          record { sendable = o .sendable; program = p .is; carries = p .manifest; taken = accepts }
+
+      loads : (list : Messages) → Honest H valid any d flash job ms (programFor H job signature) (count job) list → Loaded H valid any d flash job ms list
+      loads list h = second list .loads job ms (programFor H job signature) (count job) begun h .done refl
+
+pub recovery : (H : List ℕ → List ℕ) → ((x : List ℕ) → length (H x) ≡ hashLength) → (valid : (key message signature : List ℕ) → Bool)
+    (any : Device → List ℕ → List ℕ → Outcome) → Demand3 H valid any → Recovery H valid any
+recovery H hash-long valid any meets d fresh flash ms job signature =
+    let claim : (ms : Messages) → Claim H valid any d flash ms = meets d fresh flash in
+    recovers H hash-long valid any d flash ms job signature (claim ms .calls) (claim ms .first .one) (λ list. claim list .second) (sense H valid any d flash claim ms)
+
+pub recovery-from : (H : List ℕ → List ℕ) → ((x : List ℕ) → length (H x) ≡ hashLength) → (valid : (key message signature : List ℕ) → Bool) → RecoveryFrom H valid
+unfolding after
+recovery-from H hash-long valid d sense flash job signature =
+    recovers H hash-long valid (step H valid) d flash empty job signature (calls H valid d flash empty) refl (λ list. second-half H hash-long valid d flash list) sense
