@@ -1,11 +1,10 @@
 -- A program's blocks in the flash (01, 'Tree and labels' and 'Slip, messages, state'): how many there are, how long each is, where it stands, how much flash they
 -- need, and the root of the tree over them. All of it follows from L and T.
-use mathlib.Core.List.{List, [], _++_}
+use mathlib.Core.List.{List, _++_}
 use Prim.Native.Nat.{ℕ, pred, _+_, _*_}
 use lib.ListN.{length, take, drop}
 use Rattle.merkle.specs.Blocks.{blockCount, cut}
-use Rattle.merkle.specs.Shape.{shape}
-use Rattle.merkle.specs.Hash.{hash}
+use Rattle.merkle.specs.Hash.{plain, rootOver}
 use Rattle.wire.specs.declared.manifest.Manifest.{Manifest}
 
 -- n: "The count is stored nowhere; it follows from T and L."
@@ -30,4 +29,4 @@ withBlock L flash i block = let at = pred i * L in take at flash ++ block ++ dro
 
 -- "The tree over an area is that over its first n blocks": its root
 unfoldable pub treeOver : (List ℕ → List ℕ) → Manifest → List ℕ → List ℕ
-treeOver H s flash = hash H [] [] (blocksOf s flash) 0 (shape (countOf s))
+treeOver H s flash = rootOver (plain H) (blocksOf s flash) (countOf s)
