@@ -30,6 +30,7 @@ use Rattle.sender.specs.Send.{lengthOf, Does, send, badSize, tooShort, unnumber
 use Rattle.sender.proofs.JobLaws.{length-block, length-program}
 use Rattle.sender.proofs.PutLaws.{Put, put-more, length-put, put-part}
 use Rattle.bundle.specs.Bundle.{blockMessages, bundleFor}
+use Rattle.bundle.specs.Claims.{MessagesLength}
 
 -- a block message has neither model nor serial
 same-messages : (image : List ℕ) (L model serial i : ℕ) → blockMessages digest (job image L 0 0) i ≡ blockMessages digest (job image L model serial) i
@@ -65,11 +66,15 @@ module _ (j : Job) where
         omega (arith, more-messages i, length-some i (omega arith), length-block j z (suc i) (omega arith) h, held-next (count j) i h)
 
     -- so all n together carry n - 1
-    pub length-messages : length (blockMessages digest j (count j)) ≡ count j * (3 + j .block) + 32 * (count j - 1)
-    length-messages =
+    length-all : length (blockMessages digest j (count j)) ≡ count j * (3 + j .block) + 32 * (count j - 1)
+    length-all =
         let some : 0 < count j = unfold count in z .first in
         let e : count j * (35 + j .block) ≡ count j * (3 + j .block) + 32 * count j = omega arith in
         omega (arith, length-some (count j) (omega arith), held-all (count j) some)
+
+pub length-messages : MessagesLength
+unfolding badSize
+length-messages j e = length-all j (sized (j .block) (length (j .image)) e)
 
 -- A call of the sender that has nothing to refuse writes the bytes to the start of the buffer, and answers their length.
 abbrev Wrote : (bytes buffer : List ℕ) → Sent → List ℕ → Type 0
@@ -147,7 +152,7 @@ ready image L {n} z e =
       some = omega (arith, s .first);
       few = few;
       small = le-trans (mul-le-mul-right (3 + L) few) (mul-le-mul-left maxBlocks short);
-      blocks = rw e (length-messages (job image L 0 0) s);
+      blocks = rw e (length-all (job image L 0 0) s);
     }
 
 module _ {image : List ℕ} {L n : ℕ} (y : Ready image L n) (model serial : ℕ) (signature : List ℕ) where

@@ -1,9 +1,9 @@
 -- The bundle that the showroom makes for an image loads to complete.
 use mathlib.Core.Path.{_≡_, refl, sym, ap, ap₂, _∙_, subst}
-use mathlib.Core.Bool.{true, false}
+use mathlib.Core.Bool.{false}
 use mathlib.Core.List.{List, [], _++_, append-assoc, append-nil}
 use mathlib.Core.Option.{none}
-use Prim.Native.Nat.{ℕ, zero, suc, _+_, _-_, _*_, _≤_, _<_}
+use Prim.Native.Nat.{ℕ, zero, suc, _+_, _-_, _≤_, _<_}
 use native.Mathlib.Nat.{zero-add, mod-eq-of-lt}
 use native.Mathlib.Omega.{arith}
 use lib.ListN.{length, take, drop, length-append, length-replicate}
@@ -16,10 +16,9 @@ use Rattle.sha256.specs.Sha256.{digest}
 use Rattle.sha256.proofs.DigestLaws.{length-digest}
 use Rattle.merkle.specs.Limits.{heldBytes}
 use Rattle.merkle.specs.Frontier.{messageLength}
-use Rattle.lms.specs.Lms.{keyLength, valid}
+use Rattle.lms.specs.Lms.{valid}
 use Rattle.wire.specs.declared.manifest.Manifest.{Manifest}
 use Rattle.wire.specs.declared.kind.Kind.the-variants.{Program, Block}
-use Rattle.wire.specs.Manifest.{written}
 use Rattle.wire.specs.Message.{kind}
 use Rattle.wire.proofs.MessageLaws.{OfProgram}
 use Rattle.sender.specs.Job.{Job, count, manifestFor, programFor, blockFor}
@@ -36,8 +35,9 @@ use Rattle.machine.proofs.SenseLaws.{sense-idle}
 use Rattle.guarantee.proofs.ProgramLaws.{is-program, program-accepted}
 use Rattle.bundle.specs.Text.{ascii, bundleLine, slipLine, blockLine, line, stateWords, stateLine}
 use Rattle.bundle.specs.Parts.{trailerAt, distance, nowhere, programAt, programIn, beforeProgram}
-use Rattle.bundle.specs.Load.{keyFileLength, maxBundle, Printed, _before_, ifAccepted, blocksFrom, blocks, messages, withState, deviceFor, loaded}
-use Rattle.bundle.specs.Bundle.{blockMessages, bundleFor, acceptedFrom, Whole}
+use Rattle.bundle.specs.Load.{maxBundle, Printed, _before_, ifAccepted, blocksFrom, blocks, messages, withState, deviceFor, loaded}
+use Rattle.bundle.specs.Bundle.{blockMessages, bundleFor}
+use Rattle.bundle.specs.Claims.{Loadable, acceptedFrom, Whole, LoadsWhole}
 use Rattle.bundle.proofs.LoadLaws.{all-printed}
 
 -- what an accepted message does
@@ -126,9 +126,10 @@ module _ (front program : List ℕ) where
         front-is = ap (λ i. take i bundle) start ∙ ap (take (length front)) split ∙ take-at front (program ++ t) (length front) refl;
       }
 
-module _ (key flash : List ℕ) (job : Job) (ok : Sendable job) (filler signature : List ℕ) (key-long : length key ≡ keyFileLength) (model : job .model ≡ number (part keyLength 4 key)) (serial : 0 < job .serial)
-    (room : count job * job .block ≤ length flash) (signed : valid (take keyLength key) (written (manifestFor digest job)) signature ≡ true)
-    (fits : length (bundleFor digest job filler signature) ≤ maxBundle) where
+module _ (key flash : List ℕ) (job : Job) (filler signature : List ℕ) (h : Loadable key flash job filler signature) where
+  abbrev ok : Sendable job
+  ok = h .sendable
+
   abbrev d : Device
   d = deviceFor key
 
@@ -146,20 +147,12 @@ module _ (key flash : List ℕ) (job : Job) (ok : Sendable job) (filler signatur
   unfolding deviceFor freshWith
   fresh = record { idle = refl; array = length-replicate {A = ℕ} heldBytes 0 }
 
-  model-is : job .model ≡ d .model
-  unfolding deviceFor freshWith
-  model-is = model
-
-  signed-is : valid (d .key) (written (manifestFor digest job)) signature ≡ true
-  unfolding deviceFor freshWith
-  signed-is = signed
-
   newer : serialOf d < job .serial
   unfolding deviceFor freshWith serialOf
-  newer = serial
+  newer = h .serial
 
   none-applies : refusalOf digest valid d flash program ≡ none
-  none-applies = program-accepted digest length-digest valid job ok signature d flash (sense-idle d (fresh .idle)) model-is newer room signed-is
+  none-applies = program-accepted digest length-digest valid job ok signature d flash (sense-idle d (fresh .idle)) (h .model) newer (h .room) (h .signed)
 
   is-sent : OfProgram (manifestFor digest job) (root-long digest length-digest job ok) signature program
   is-sent = is-program digest length-digest valid job ok signature
@@ -184,7 +177,7 @@ module _ (key flash : List ℕ) (job : Job) (ok : Sendable job) (filler signatur
   taken : messages d flash (bundle front program) ≡ slipLine 0 before blocks (begun .device) (begun .flash) front
   unfolding messages ifAccepted
   taken =
-      let f = found front program (unfold bundleFor in fits) in
+      let f = found front program (unfold bundleFor in h .fits) in
       let o : step digest valid d flash program ≡ record { answer = Accepted; device = begun .device; flash = begun .flash } =
       accepted-step d flash program none-applies ∙ ap (λ k. let t = accept k d flash program in record { answer = Accepted; device = t .device; flash = t .flash }) (is-sent .is) in
       rw (f .somewhere, f .program-is, f .front-is, o, messages) refl
@@ -196,16 +189,15 @@ module _ (key flash : List ℕ) (job : Job) (ok : Sendable job) (filler signatur
       let c = is-complete digest length-digest valid job ok flash (count job) s (r .here) refl in
       rw (c, r .here .manifest) (unfold countOf manifestFor count in refl)
 
-  -- The bundle made of the sender's messages for a job, with any filler, whose signature is valid under the key, loads to complete, where it and the image fit.
-  pub loads-whole : Whole job (bundleFor digest job filler signature) flash (loaded key (bundleFor digest job filler signature) flash)
+  whole : Whole job (bundleFor digest job filler signature) flash (loaded key (bundleFor digest job filler signature) flash)
   unfolding bundleFor _before_ withState
-  loads-whole =
+  whole =
       let b : List ℕ = bundle front program in
       let p : Printed = blocks (begun .device) (begun .flash) front in
       let s : Situation = record { device = p .device; flash = p .flash } in
       let first : List ℕ = bundleLine (length b) in
       let second : List ℕ = slipLine 0 in
-      let is : loaded key b flash ≡ first before withState (second before p) = all-printed key b flash key-long fits ∙ ap (λ (q : Printed). first before withState q) taken in
+      let is : loaded key b flash ≡ first before withState (second before p) = all-printed key b flash (h .key-long) (h .fits) ∙ ap (λ (q : Printed). first before withState q) taken in
       let text : first ++ (second ++ p .text ++ stateLine (p .device)) ≡ first ++ second ++ acceptedFrom (count job) 1 ++ line (ascii "state complete ") (count job) =
       ap₂ (λ x y. first ++ (second ++ x ++ y)) (ran .text) (state-is p ran)
       ∙ sym (append-assoc first (second ++ acceptedFrom (count job) 1) (line (ascii "state complete ") (count job)))
@@ -217,3 +209,6 @@ module _ (key flash : List ℕ) (job : Job) (ok : Sendable job) (filler signatur
         manifest = ran .here .manifest;
         image = flash-is digest length-digest valid job ok flash (count job) s (ran .here) refl;
       })
+
+pub loads-whole : LoadsWhole
+loads-whole = whole

@@ -1,6 +1,6 @@
--- What the contracts of the inner functions say besides.
+-- For the code alone: what the contracts of its inner functions say besides, and what helps the proof of a caller.
 use mathlib.Core.Path.{_≡_}
-use mathlib.Core.Bool.{true, false}
+use mathlib.Core.Bool.{cond}
 use mathlib.Core.List.{List}
 use Prim.Native.Nat.{ℕ, _+_, _-_, _≤_}
 use lib.ListN.{length, take, drop}
@@ -12,7 +12,7 @@ use Rattle.bundle.specs.Parts.{nowhere, programAt}
 use Rattle.bundle.specs.Load.{Printed}
 
 unfoldable pub startOf : List ℕ → Start
-startOf b = elim (nowhere b) [ true ↦ Nowhere | false ↦ At (programAt b) ]
+startOf b = cond (nowhere b) Nowhere (At (programAt b))
 
 -- A message of len bytes that starts at index from, or what is left of it, ends at index to.
 pub record Cut (bytes : List ℕ) (from len to : ℕ) : Type 0 where

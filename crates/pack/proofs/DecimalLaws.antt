@@ -14,6 +14,7 @@ use Rattle.bundle.specs.Text.{decimal}
 use Rattle.bundle.proofs.TextLaws.{decimal-small, decimal-large}
 use Rattle.pack.specs.declared.decimal.Parsed.the-variants.{Number, Wrong}
 use Rattle.pack.specs.Decimal.{digits, value, wrong, parsed}
+use Rattle.pack.specs.Claims.{ReadsPrinted}
 
 -- more digits make no number smaller
 value-grows : (v : ℕ) (ds : List ℕ) → v ≤ value v ds
@@ -131,9 +132,9 @@ same-decimal (suc k) n h = go (decLt n 10) (λ g. same-decimal k (n / 10) (omega
     go (yes g) ih = rw (decimal-small n g) (same-last n [] (unfold digits in refl) (unfold value in omega arith))
     go (no g) ih = let i = ih (omega arith) in rw (decimal-large n (omega arith)) (same-last n (decimal (n / 10)) (i .all) (i .whole))
 
-pub parsed-decimal : (n : ℕ) → n ≤ 4294967295 → parsed (decimal n) ≡ Number n
+pub reads-printed : ReadsPrinted
 unfolding wrong
-parsed-decimal n h =
+reads-printed n h =
     let s = same-decimal (suc n) n (omega arith) in
     let some : length (decimal n) ≡ 0 → ⊥ = λ e. omega (arith, s .some) in
     sym (ap Number (sym (s .whole)) ∙ parsed-right (decimal n) (rw (ne-eqb (length (decimal n)) 0 some, s .all, s .whole, le-ltb 4294967295 n h)))

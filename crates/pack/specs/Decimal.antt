@@ -1,5 +1,5 @@
 -- A number in base ten, as an argument has it.
-use mathlib.Core.Bool.{Bool, true, false, not, _&&_, _||_}
+use mathlib.Core.Bool.{Bool, true, cond, not, _&&_, _||_}
 use mathlib.Core.List.{List, [], _∷_}
 use Prim.Native.Nat.{ℕ, _+_, _-_, _*_}
 use lib.Dec.{eqb, ltb}
@@ -22,4 +22,4 @@ unfoldable pub wrong : List ℕ → Bool
 wrong text = eqb (length text) 0 || (not (digits text) || ltb 4294967295 (value 0 text))
 
 unfoldable pub parsed : List ℕ → Parsed
-parsed text = elim (wrong text) [ true ↦ Wrong | false ↦ Number (value 0 text) ]
+parsed text = cond (wrong text) Wrong (Number (value 0 text))

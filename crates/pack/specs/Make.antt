@@ -1,4 +1,4 @@
--- What the tool learns from the sender's answer.
+-- For the code alone: what it learns from the sender's answer.
 use mathlib.Core.Path.{_≡_}
 use mathlib.Core.Bool.{Bool, true, false}
 use mathlib.Core.List.{List}
