@@ -1,14 +1,14 @@
 -- A state's bytes, written and read back.
 use mathlib.Core.Path.{_≡_, refl, sym, ap, _∙_}
-use mathlib.Core.List.{List}
+use mathlib.Core.List.{List, [], _∷_, map}
 use mathlib.Core.Option.{none, some}
 use Prim.Native.Nat.{ℕ, _^_, _<_}
 use native.Mathlib.Omega.{arith}
-use lib.ListN.{length}
+use lib.ListN.{length, take, getD}
 use borrow.Author.Tests.{ne-eqb}
 use Rattle.octets.specs.Octets.{bytes, number, part}
 use Rattle.merkle.specs.Limits.{heldBytes}
-use Rattle.octets.proofs.SixLaws as six
+use Rattle.octets.proofs.JoinedLaws.{total, joined-length, stands}
 use Rattle.octets.proofs.NumberLaws.{length-bytes, number-back}
 use Rattle.wire.specs.Manifest.{written, read}
 use Rattle.wire.proofs.ManifestLaws as manifest
@@ -55,38 +55,40 @@ small Idle = omega arith
 small (Loading i) = omega arith
 small Complete = omega arith
 
+-- the lengths of the fields
+abbrev pub lengths : List ℕ
+lengths = 4 ∷ 56 ∷ 2 ∷ 2 ∷ 48 ∷ heldBytes ∷ []
+
 module _ (d : Device) (f : Fits d) where
+  abbrev fields : List (List ℕ)
+  fields = bytes 4 (d .model) ∷ d .key ∷ bytes 2 (stageNumber (d .stage)) ∷ bytes 2 (nextOf (d .stage)) ∷ written (d .manifest) ∷ d .hashes ∷ []
+
+  fields-long : map length fields ≡ lengths
+  fields-long = simp (length-bytes, f .key, manifest.length-written (d .manifest) (f .manifest .root), f .hashes)
+
   pub length-encode : length (encode d) ≡ stateLength
   unfolding encode
-  length-encode =
-      six.length-six (bytes 4 (d .model)) (d .key) (bytes 2 (stageNumber (d .stage))) (bytes 2 (nextOf (d .stage))) (written (d .manifest)) (d .hashes)
-      (length-bytes 4 (d .model)) (f .key) (length-bytes 2 (stageNumber (d .stage))) (length-bytes 2 (nextOf (d .stage)))
-      (manifest.length-written (d .manifest) (f .manifest .root)) (f .hashes)
+  length-encode = joined-length lengths fields fields-long
 
-  fields : (part 0 4 (encode d) ≡ bytes 4 (d .model)) × (part 4 56 (encode d) ≡ d .key) × (part 60 2 (encode d) ≡ bytes 2 (stageNumber (d .stage)))
-      × (part 62 2 (encode d) ≡ bytes 2 (nextOf (d .stage))) × (part 64 48 (encode d) ≡ written (d .manifest)) × (part 112 heldBytes (encode d) ≡ d .hashes)
+  field : (i : ℕ) → part (total (take i lengths)) (getD lengths i 0) (encode d) ≡ getD fields i []
   unfolding encode
-  fields =
-      six.places (bytes 4 (d .model)) (d .key) (bytes 2 (stageNumber (d .stage))) (bytes 2 (nextOf (d .stage))) (written (d .manifest)) (d .hashes)
-      (length-bytes 4 (d .model)) (f .key) (length-bytes 2 (stageNumber (d .stage))) (length-bytes 2 (nextOf (d .stage)))
-      (manifest.length-written (d .manifest) (f .manifest .root)) (f .hashes)
+  field = stands lengths fields fields-long
 
   stage-encode : stageIn (encode d) ≡ some (d .stage)
   stage-encode =
-      right-length (encode d) length-encode (sym (number-back 2 (stageNumber (d .stage)) (fields .2) (small (d .stage)))) (sym (number-back 2 (nextOf (d .stage)) (fields .3) (f .next)))
+      right-length (encode d) length-encode (sym (number-back 2 (stageNumber (d .stage)) (field 2) (small (d .stage)))) (sym (number-back 2 (nextOf (d .stage)) (field 3) (f .next)))
       ∙ stage-back (d .stage)
 
   device-encode : deviceIn (encode d) (d .stage) ≡ d
   unfolding deviceIn
   device-encode =
-      let p = fields in
       λ i.
       record {
-        model = number-back 4 (d .model) (p .0) (f .model) i;
-        key = p .1 i;
+        model = number-back 4 (d .model) (field 0) (f .model) i;
+        key = field 1 i;
         stage = d .stage;
-        manifest = (ap read (p .4) ∙ manifest.read-written (d .manifest) (f .manifest)) i;
-        hashes = p .5 i;
+        manifest = (ap read (field 4) ∙ manifest.read-written (d .manifest) (f .manifest)) i;
+        hashes = field 5 i;
       }
 
   -- every state whose fields fit comes back

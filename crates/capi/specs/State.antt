@@ -1,11 +1,11 @@
 -- A device's state as bytes, which the caller keeps. Numbers are big-endian.
 use mathlib.Core.Bool.{cond}
-use mathlib.Core.List.{List, _++_}
+use mathlib.Core.List.{List, [], _∷_}
 use mathlib.Core.Option.{Option, none, some}
 use Prim.Native.Nat.{ℕ, _+_}
 use lib.Dec.{eqb}
 use lib.ListN.{length}
-use Rattle.octets.specs.Octets.{bytes, number, part}
+use Rattle.octets.specs.Octets.{bytes, number, part, joined}
 use Rattle.merkle.specs.Limits.{heldBytes}
 use Rattle.wire.specs.Manifest.{written, read}
 use Rattle.machine.specs.declared.state.Stage.{Stage}
@@ -22,7 +22,7 @@ stageNumber t = elim t [ Idle ↦ 0 | Loading i ↦ 1 | Complete ↦ 2 ]
 -- model (4), key (56), stage (2), next number (2), which is 0 unless the device is loading, manifest (48), held hashes (384)
 unfoldable pub encode : Device → List ℕ
 encode d =
-    bytes 4 (d .model) ++ d .key ++ bytes 2 (stageNumber (d .stage)) ++ bytes 2 (nextOf (d .stage)) ++ written (d .manifest) ++ d .hashes
+    joined (bytes 4 (d .model) ∷ d .key ∷ bytes 2 (stageNumber (d .stage)) ∷ bytes 2 (nextOf (d .stage)) ∷ written (d .manifest) ∷ d .hashes ∷ [])
 
 -- the stage with this number, and with this next number if it is loading; there are no others
 unfoldable pub stageFrom : ℕ → ℕ → Option Stage

@@ -8,14 +8,14 @@ use native.Mathlib.Omega.{arith}
 use lib.Dec.{ltb, lit<}
 use lib.ListN.{length, take, drop, replicate, length-append, length-replicate}
 use lib.Seq.{length-take-le}
-use Rattle.octets.specs.Octets.{bytes, number, equal}
+use Rattle.octets.specs.Octets.{bytes, number, joined, equal}
 use Rattle.octets.proofs.EqualLaws.{equal-self}
 use Rattle.merkle.specs.Limits.{hashLength, heldBytes}
 use Rattle.merkle.specs.Blocks.{blockCount, cut}
 use Rattle.merkle.specs.Shape.{size, leastFrom, depth, split, build, shape}
 use Rattle.merkle.specs.Hash.{hash, hashes, climbFrom, climb}
 use Rattle.merkle.specs.Frontier.{largest, rightSiblings, siblings, carried, messageLength, frontier, held}
-use Rattle.merkle.specs.Held.{joined, hashesIn, heldStart, heldIn, nextHeld, begun, advanced, fits, sent}
+use Rattle.merkle.specs.Held.{hashesIn, heldStart, heldIn, nextHeld, begun, advanced, fits, sent}
 use Rattle.wire.specs.declared.kind.Kind.the-variants.{Program, Block, Update, Unknown}
 use Rattle.wire.specs.declared.manifest.Manifest.{Manifest}
 use Rattle.wire.specs.declared.refusal.Refusal.the-variants as refusal

@@ -1,7 +1,7 @@
 -- Binding: one hash of two block sequences of one shape. Constructive: the place of the collision is given.
 use mathlib.Core.Path.{_≡_, sym, _∙_}
 use mathlib.Core.Logic.{_⊎_, inl, inr, ⊎-elim, _≢_}
-use mathlib.Core.List.{List, _++_, append-cancel-left, List-discrete}
+use mathlib.Core.List.{List, append-cancel-left, List-discrete}
 use Prim.Native.Nat.{ℕ, _+_, _-_, _≤_, _<_}
 use native.Mathlib.Omega.{arith}
 use native.Mathlib.Decide.{ℕ-discrete}

@@ -6,11 +6,11 @@ use Prim.Native.Nat.{ℕ, zero, suc, _+_, _-_, _*_, _/_, _≤_, _<_}
 use native.Mathlib.Omega.{arith}
 use lib.ListN.{length, take, drop, replicate, length-drop, length-append, length-replicate}
 use lib.Seq.{paste, length-paste, drop-drop, take-append-le, drop-append-le, take-at, drop-at, take-all}
-use Rattle.octets.specs.Octets.{equal}
+use Rattle.octets.specs.Octets.{joined, equal}
 use Rattle.merkle.specs.Limits.{hashLength, maxBlocks, heldBytes}
 use Rattle.merkle.specs.Hash.{Hashing, climb}
 use Rattle.merkle.specs.Frontier.{carried, held}
-use Rattle.merkle.specs.Held.{joined, hashesIn, heldStart, heldIn, nextHeld, begun, advanced, fits}
+use Rattle.merkle.specs.Held.{hashesIn, heldStart, heldIn, nextHeld, begun, advanced, fits}
 use Rattle.octets.proofs.CopyLaws.{paste-from}
 use Rattle.merkle.proofs.CountLaws.{held-zero, held-all, held-next, room, Counted, counted-most}
 

@@ -7,13 +7,14 @@ use Prim.Native.Nat.{ℕ, zero, suc, _*_, _≤_, _<_}
 use native.Mathlib.Omega.{arith}
 use lib.ListN.{length}
 use Rattle.octets.proofs.EqualLaws.{equal-self, equal-true}
+use Rattle.octets.specs.Octets.{joined}
 use Rattle.merkle.specs.Limits.{hashLength, maxBlocks, heldBytes}
 use Rattle.merkle.specs.Shape.{Place, shape, size}
 use Rattle.merkle.specs.Hash.{Hashing, hashes, climb}
 use Rattle.merkle.specs.Frontier.{siblings, frontier, carried}
-use Rattle.merkle.specs.Held.{joined, hashesIn, heldIn, nextHeld, advanced, fits, sent, afterSent}
+use Rattle.merkle.specs.Held.{hashesIn, heldIn, nextHeld, advanced, fits, sent, afterSent}
 use Rattle.merkle.proofs.ShapeLaws.{lt-or-le, size-shape}
-use Rattle.merkle.proofs.HashLaws.{length-hashes, length-hash}
+use Rattle.merkle.proofs.HashLaws.{Same, length-hashes, siblings-same, length-hash}
 use Rattle.merkle.proofs.LoadingLaws.{Step, step, Loaded, loaded-step}
 use Rattle.merkle.proofs.HeldLaws.{length-hashesIn, Sized, none, more, length-joined, hashesIn-joined, Advance, advance}
 
@@ -29,6 +30,11 @@ module _ (H : Hashing) where
       rw (a .then)
       (loaded-step H (shape n) root i before after (a .others) (hashesIn (carried n (suc i)) message) (rw (size-shape n (omega arith)) h) same
       (length-hashesIn (carried n (suc i)) message) (rw (sym e) (rw (a .first) at loaded)))
+
+  -- What the sender sends depends on the blocks alone.
+  pub sent-same : (n : ℕ) {f g : ℕ → List ℕ} (i : ℕ) → Same f 0 g 0 (shape n) → sent H n f i ≡ sent H n g i
+  unfolding sent
+  sent-same n i e = ap joined (siblings-same H 0 (shape n) i e)
 
   module _ (sized : (x : List ℕ) → length (H .function x) ≡ hashLength) where
     pub sized-hashes : (f : ℕ → List ℕ) (ps : List Place) → Sized (hashes H f ps)

@@ -6,11 +6,12 @@ use native.Mathlib.Nat.{zero-add}
 use native.Mathlib.Omega.{arith}
 use lib.ListN.{length, take, drop, length-append, take-append-drop}
 use lib.Seq.{paste, length-paste, length-take-le, take-append-le, take-take, take-length, drop-at}
+use Rattle.octets.specs.Octets.{joined}
 use Rattle.merkle.specs.Limits.{hashLength}
 use Rattle.merkle.specs.Shape.{split, shape, Place}
 use Rattle.merkle.specs.Hash.{Hashing, hash, hashes}
 use Rattle.merkle.specs.Frontier.{largest, rightSiblings, siblings, carried}
-use Rattle.merkle.specs.Held.{joined, sent}
+use Rattle.merkle.specs.Held.{sent}
 use Rattle.merkle.proofs.ShapeLaws.{shape-leaf, split-between, halves, size-left}
 use Rattle.merkle.proofs.FrontierLaws.{largest-zero, largest-left, largest-right}
 use Rattle.merkle.proofs.HashLaws.{hashes-last}

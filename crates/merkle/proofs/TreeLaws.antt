@@ -1,6 +1,6 @@
 -- The tree over the flash by halves: what the proofs of `leaf`, `root_with` and `root` cite.
 use mathlib.Core.Path.{_≡_, sym, ap, ap₂, _∙_}
-use mathlib.Core.List.{List, _++_}
+use mathlib.Core.List.{List}
 use Prim.Native.Nat.{ℕ, _+_, _-_, _*_, _≤_, _<_}
 use native.Mathlib.Nat.{mul-le-mul-right, add-mul, zero-mul, zero-add}
 use native.Mathlib.Omega.{arith}

@@ -4,17 +4,13 @@ use mathlib.Core.List.{List, [], _∷_, _++_}
 use Prim.Native.Nat.{ℕ, zero, suc, _+_, _-_, _*_}
 use lib.ListN.{length, take, drop, replicate}
 use lib.Seq.{paste}
-use Rattle.octets.specs.Octets.{equal}
+use Rattle.octets.specs.Octets.{joined, equal}
 use Rattle.merkle.specs.Limits.{hashLength, heldBytes}
 use Rattle.merkle.specs.Shape.{shape}
 use Rattle.merkle.specs.Hash.{Hashing, hashes, climb}
 use Rattle.merkle.specs.Frontier.{siblings, carried, held}
 
--- Hashes one behind the other, and the first c hashes of a run of bytes.
-unfoldable pub joined : List (List ℕ) → List ℕ
-joined [] = []
-joined (x ∷ xs) = x ++ joined xs
-
+-- The first c hashes of a run of bytes.
 unfoldable pub hashesIn : ℕ → List ℕ → List (List ℕ)
 hashesIn zero bytes = []
 hashesIn (suc c) bytes = take hashLength bytes ∷ hashesIn c (drop hashLength bytes)

@@ -4,8 +4,8 @@ use mathlib.Core.List.{List, [], _∷_, _++_, append-assoc, append-nil}
 use Prim.Native.Nat.{ℕ, zero, suc, _+_, _-_, _≤_, _<_}
 use native.Mathlib.Nat.{zero-add}
 use native.Mathlib.Omega.{arith}
-use lib.ListN.{length, take, drop, set, length-append, length-drop, drop-of-length-le}
-use lib.Seq.{paste, take-length, take-all, take-at, take-take, drop-at, drop-drop, length-take-le, take-append-le, drop-append-le}
+use lib.ListN.{length, take, drop, set, length-drop, drop-of-length-le}
+use lib.Seq.{paste, take-length, take-all, take-at, take-take, drop-at, drop-drop, length-take-le}
 use Rattle.octets.specs.Octets.{part}
 
 pub length-part : (s : List ℕ) (i k : ℕ) → i + k ≤ length s → length (part i k s) ≡ k
@@ -28,10 +28,7 @@ inner (x ∷ s) (suc j) n (suc k) h = inner s j n k (omega arith)
 pub part-part : (s : List ℕ) (i k j n : ℕ) → j + n ≤ k → part j n (part i k s) ≡ part (i + j) n s
 part-part s i k j n h = inner (drop i s) j n k h ∙ ap (take n) (drop-drop j i s)
 
--- a part of x ++ y: within x, or y itself
-pub part-first : (x y : List ℕ) (i k : ℕ) → i + k ≤ length x → part i k (x ++ y) ≡ part i k x
-part-first x y i k h = ap (take k) (drop-append-le i x y (omega arith)) ∙ take-append-le k (drop i x) y (rw (length-drop i x) (omega arith))
-
+-- the second part of x ++ y
 pub part-second : (x y : List ℕ) (i k : ℕ) → length x ≡ i → length y ≡ k → part i k (x ++ y) ≡ y
 part-second x y i k e f = ap (take k) (drop-at x y i e) ∙ take-all k y (omega arith)
 
@@ -54,13 +51,6 @@ paste-whole d s e = paste-end d s 0 (zero-add (length s) ∙ sym e)
 -- a copy to the start
 pub paste-front : (d s : List ℕ) (k : ℕ) → length s ≡ k → paste d 0 s (length s) ≡ s ++ drop k d
 paste-front d s k e = ap₂ {C = List ℕ} (λ (x : List ℕ) (n : ℕ). x ++ drop n d) (take-length s) (zero-add (length s) ∙ e)
-
--- two copies, one behind the other, that fill the whole
-pub paste-two : (d s t : List ℕ) (at : ℕ) → length s ≡ at → at + length t ≡ length d → paste (paste d 0 s (length s)) at t (length t) ≡ s ++ t
-paste-two d s t at e f =
-    ap (λ (x : List ℕ). paste x at t (length t)) (paste-front d s at e)
-    ∙ paste-end (s ++ drop at d) t at (f ∙ sym (length-append s (drop at d) ∙ omega (arith, e, length-drop at d)))
-    ∙ ap (λ (x : List ℕ). x ++ t) (take-at s (drop at d) at e)
 
 -- A buffer d that is written from its start, piece by piece: the first byte, and a copy to just behind what is there.
 pub set-first : (d : List ℕ) (x : ℕ) → 0 < length d → set d 0 x ≡ (x ∷ []) ++ drop 1 d

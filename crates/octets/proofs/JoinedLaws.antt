@@ -1,11 +1,11 @@
 -- Strings one behind the other: their length, where each stands, copies that make them, and a string cut into them.
 use mathlib.Core.Path.{_≡_, refl, sym, ap, ap₂, _∙_}
-use mathlib.Core.List.{List, [], _∷_, _++_, map, append-assoc, append-nil}
-use Prim.Native.Nat.{ℕ, zero, suc, _+_, _≤_}
-use native.Mathlib.Nat.{zero-add, add-assoc}
+use mathlib.Core.List.{List, [], _∷_, _++_, map, append-assoc, append-nil, head-eq-of-cons-eq, tail-eq-of-cons-eq}
+use Prim.Native.Nat.{ℕ, zero, suc, _+_}
+use native.Mathlib.Nat.{zero-add}
 use native.Mathlib.Omega.{arith}
-use lib.ListN.{length, take, drop, getD, length-append, length-drop, drop-of-length-le, take-append-drop}
-use lib.Seq.{paste, take-at, take-all, take-length, length-take-le, length-paste, take-paste, drop-at, drop-drop}
+use lib.ListN.{length, take, drop, getD, replicate, length-append, length-replicate, drop-of-length-le, take-append-drop}
+use lib.Seq.{paste, take-at, take-all, take-length, length-paste, take-paste, drop-at, drop-drop}
 use Rattle.octets.specs.Octets.{part, joined, upTo}
 
 pub joined-append : (xs ys : List (List ℕ)) → joined (xs ++ ys) ≡ joined xs ++ joined ys
@@ -40,31 +40,30 @@ stand (x ∷ xs) (suc i) =
     let n = total (take i (map length xs)) in
     ap (take (getD (map length xs) i 0)) (sym (drop-drop n (length x) (x ++ joined xs)) ∙ ap (drop n) (drop-at x (joined xs) (length x) refl)) ∙ stand xs i
 
--- Pieces xs, one behind the other, of the lengths ks: how long they are together, and where piece i stands.
-module _ (xs : List (List ℕ)) {ks : List ℕ} (lengths : map length xs ≡ ks) where
+-- The buffer r comes of d by copies of pieces xs of the lengths ks, one behind the other, from index at on.
+pub data Copies : ℕ → List ℕ → List (List ℕ) → List ℕ → List ℕ → Type 0 where
+  none : {at : ℕ} {d : List ℕ} → Copies at d [] [] d
+  copy : {at k : ℕ} {d d' x r ks : List ℕ} {xs : List (List ℕ)} → d' ≡ paste d at x (length x) → Copies (at + k) d' xs ks r → Copies at d (x ∷ xs) (k ∷ ks) r
+
+copied-from : {at : ℕ} {d r ks : List ℕ} {xs : List (List ℕ)} → Copies at d xs ks r → map length xs ≡ ks → at + total ks ≡ length d → r ≡ take at d ++ joined xs
+unfolding joined
+copied-from {at} {d} none l e = sym (append-nil (take at d) ∙ take-all at d (omega arith))
+copied-from {at} {d} (copy {k = k} {d' = d'} {x = x} {xs = xs} f c) l e =
+    let n : length x ≡ k = head-eq-of-cons-eq l in
+    let size : length d' ≡ length d = ap length f ∙ length-paste d at x (length x) (omega arith) (omega arith) in
+    let front : take (at + k) d' ≡ take at d ++ x = ap₂ take (ap (λ (m : ℕ). at + m) (sym n)) f ∙ take-paste d at x (length x) (omega arith) (omega arith) ∙ rw (take-length x) in
+    copied-from c (tail-eq-of-cons-eq l) (omega arith) ∙ ap (λ (s : List ℕ). s ++ joined xs) front ∙ append-assoc (take at d) x (joined xs)
+
+-- Pieces xs of the lengths ks: how long they are together, where piece i stands, and that copies to a buffer that they fill leave them there.
+module _ (ks : List ℕ) (xs : List (List ℕ)) (lengths : map length xs ≡ ks) where
   pub joined-length : length (joined xs) ≡ total ks
   joined-length = length-joined xs ∙ ap total lengths
 
   pub stands : (i : ℕ) → part (total (take i ks)) (getD ks i 0) (joined xs) ≡ getD xs i []
   stands i = rw (← lengths) (stand xs i)
 
--- The buffer r comes of d by copies of pieces, one behind the other, from index at on.
-pub data Copies : ℕ → List ℕ → List (List ℕ) → List ℕ → Type 0 where
-  none : {at : ℕ} {d : List ℕ} → Copies at d [] d
-  copy : {at k : ℕ} {d d' r x : List ℕ} {xs : List (List ℕ)} → length x ≡ k → d' ≡ paste d at x (length x) → Copies (at + k) d' xs r → Copies at d (x ∷ xs) r
-
-copied-from : {at : ℕ} {d r : List ℕ} {xs : List (List ℕ)} → Copies at d xs r → at + length (joined xs) ≡ length d → r ≡ take at d ++ joined xs
-unfolding joined
-copied-from {at} {d} none e = sym (append-nil (take at d) ∙ take-all at d (omega arith))
-copied-from {at} {d} (copy {k = k} {d' = d'} {x = x} {xs = xs} l f c) e =
-    let n = length-append x (joined xs) in
-    let size : length d' ≡ length d = ap length f ∙ length-paste d at x (length x) (omega arith) (omega arith) in
-    let front : take (at + k) d' ≡ take at d ++ x = ap₂ take (ap (λ (m : ℕ). at + m) (sym l)) f ∙ take-paste d at x (length x) (omega arith) (omega arith) ∙ rw (take-length x) in
-    copied-from c (omega arith) ∙ ap (λ (s : List ℕ). s ++ joined xs) front ∙ append-assoc (take at d) x (joined xs)
-
--- Copies that fill the buffer leave the pieces in it.
-pub copied : {d r : List ℕ} {xs : List (List ℕ)} → Copies 0 d xs r → length (joined xs) ≡ length d → r ≡ joined xs
-copied {xs = xs} c e = copied-from c (zero-add (length (joined xs)) ∙ e)
+  pub copied : {r : List ℕ} → Copies 0 (replicate (total ks) 0) xs ks r → r ≡ joined xs
+  copied c = copied-from c lengths (zero-add (total ks) ∙ sym (length-replicate {A = ℕ} (total ks) 0))
 
 -- The pieces of the lengths ks that stand in a string from index at on.
 abbrev pub partsFrom : ℕ → List ℕ → List ℕ → List (List ℕ)

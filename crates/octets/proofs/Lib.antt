@@ -3,4 +3,3 @@ pub mod CopyLaws
 pub mod EqualLaws
 pub mod JoinedLaws
 pub mod NumberLaws
-pub mod SixLaws

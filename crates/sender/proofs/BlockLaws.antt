@@ -15,10 +15,11 @@ use Rattle.merkle.specs.Blocks.{blockCount, cut, overlay}
 use Rattle.merkle.specs.Shape.{shape}
 use Rattle.merkle.specs.Hash.{plain, rootOver}
 use Rattle.merkle.specs.Frontier.{carried, messageLength}
-use Rattle.merkle.specs.Held.{joined, sent}
+use Rattle.merkle.specs.Held.{sent}
 use Rattle.merkle.proofs.ShapeLaws.{lt-or-le, size-shape}
 use Rattle.merkle.proofs.CountLaws.{message-length}
-use Rattle.merkle.proofs.HashLaws.{Same, hash-same, siblings-same}
+use Rattle.merkle.proofs.HashLaws.{Same, hash-same}
+use Rattle.merkle.proofs.RunLaws.{sent-same}
 use Rattle.merkle.proofs.BlockLaws.{overlay-same, overlay-other}
 use Rattle.wire.specs.Size.{wrongSize, outside}
 use Rattle.wire.specs.Image.{imageBlocks}
@@ -83,8 +84,7 @@ module _ (L : ℕ) (image : List ℕ) (n : ℕ) (z : Sized L (length image)) (c 
     same-root = hash-same (plain H) (shape n) (same-blocks b e)
 
     pub same-sent : (i : ℕ) → sent (plain H) n (overlay (cut L image) (n - 1) b) i ≡ sent (plain H) n (imageBlocks L image) i
-    unfolding sent
-    same-sent i = ap joined (siblings-same (plain H) 0 (shape n) i (same-blocks b e))
+    same-sent i = sent-same (plain H) n i (same-blocks b e)
 
 -- What the tests of size and number leave: n blocks, and a number among them.
 module _ (image : List ℕ) (len number n : ℕ) where

@@ -1,14 +1,14 @@
 -- The manifest (01: slip), 48 bytes: version (2), L (2), model (4), serial (4), T (4), root (32).
-use mathlib.Core.List.{List, _++_}
+use mathlib.Core.List.{List, [], _∷_}
 use Prim.Native.Nat.{ℕ}
-use Rattle.octets.specs.Octets.{bytes, number, part}
+use Rattle.octets.specs.Octets.{bytes, number, part, joined}
 use Rattle.wire.specs.declared.manifest.Manifest.{Manifest}
 
 abbrev pub manifestLength : ℕ
 manifestLength = 48
 
 unfoldable pub written : Manifest → List ℕ
-written s = bytes 2 (s .version) ++ bytes 2 (s .«block_len») ++ bytes 4 (s .model) ++ bytes 4 (s .serial) ++ bytes 4 (s .«image_len») ++ s .root
+written s = joined (bytes 2 (s .version) ∷ bytes 2 (s .«block_len») ∷ bytes 4 (s .model) ∷ bytes 4 (s .serial) ∷ bytes 4 (s .«image_len») ∷ s .root ∷ [])
 
 unfoldable pub read : List ℕ → Manifest
 read b =

@@ -1,11 +1,13 @@
-use mathlib.Core.Path.{_≡_, sym, ap, _∙_}
+use mathlib.Core.Path.{_≡_, sym, _∙_}
+use mathlib.Core.List.{[], _∷_}
 use Prim.Native.Nat.{ℕ}
 use native.Mathlib.Omega.{arith}
 use lib.ListN.{length, length-map}
 use Rattle.octets.proofs.NumberLaws.{length-bytes}
 use Rattle.merkle.specs.Limits.{heldBytes}
 use Rattle.capi.specs.State.{encode}
-use Rattle.octets.proofs.SixLaws.{copied}
+use Rattle.octets.proofs.JoinedLaws.{copied, copy, none}
+use Rattle.capi.proofs.StateLaws.{lengths}
 use borrow.Author.Needs.{needs}
 use Rattle.capi.proofs.state.to_bytes.Statement.{statement}
 use Rattle.capi.proofs.state.to_bytes.Tie as tie
@@ -104,10 +106,9 @@ returns c =
     let a = m .before in
     let d = a .args .device in
     let lw : length (w .to-bytes .result) ≡ 48 = omega (arith, w .to-bytes .ok) in
-    copied (m .be32 .result) (d .key) (s .be16 .result) (n .be162 .result) (w .to-bytes .result) (d .hashes)
-    (ap length (m .be32 .ensures) ∙ length-bytes 4 (d .model)) (key-length a)
-    (ap length (s .be16 .ensures) ∙ length-bytes 2 (s .before .stage-number .result)) (ap length (n .be162 .ensures) ∙ length-bytes 2 (n .before .next-of .result)) lw (hashes-length a)
-    (c1 .copy .ensures) (c2 .copy2 .ensures) (c3 .copy3 .ensures) (c4 .copy4 .ensures) (c5 .copy5 .ensures) (c6 .copy6 .ensures)
+    copied lengths (m .be32 .result ∷ d .key ∷ s .be16 .result ∷ n .be162 .result ∷ w .to-bytes .result ∷ d .hashes ∷ [])
+    (rw (m .be32 .ensures, s .be16 .ensures, n .be162 .ensures, key-length a, lw, hashes-length a) (simp length-bytes))
+    (copy (c1 .copy .ensures) (copy (c2 .copy2 .ensures) (copy (c3 .copy3 .ensures) (copy (c4 .copy4 .ensures) (copy (c5 .copy5 .ensures) (copy (c6 .copy6 .ensures) none))))))
     ∙ cc (m .be32 .ensures, s .be16 .ensures, s .before .stage-number .ensures, n .be162 .ensures, n .before .next-of .ensures, w .to-bytes .ensures)
 
 pub to-bytes-spec : {M : Type 1} → statement M

@@ -1,5 +1,4 @@
 -- `merkle::frontier::fits` meets its contract.
-use mathlib.Core.List.{[]}
 use borrow.Author.Needs.{needs}
 use Rattle.sha256.specs.Sha256.{digest}
 use Rattle.merkle.specs.Hash.{plain}

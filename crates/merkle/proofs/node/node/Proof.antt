@@ -1,12 +1,11 @@
 -- `merkle::node::node` meets its contract: two copies fill the array.
 use mathlib.Core.Path.{ap, _∙_}
-use Prim.Native.Nat.{_+_}
-use lib.ListN.{length, replicate}
-use lib.Seq.{paste}
+use mathlib.Core.List.{[], _∷_, _++_, append-nil}
 use borrow.Author.Needs.{needs}
 use Rattle.sha256.specs.Sha256.{digest}
+use Rattle.octets.specs.Octets.{joined}
 use Rattle.merkle.specs.Limits.{hashLength}
-use Rattle.octets.proofs.CopyLaws.{paste-two}
+use Rattle.octets.proofs.JoinedLaws.{copied, copy, none}
 use Rattle.merkle.proofs.node.node.Statement.{statement}
 use Rattle.merkle.proofs.node.node.Tie as tie
 
@@ -35,8 +34,8 @@ returns c =
     let a = c .before .before .before .before .before .before .before .before .before .before in
     let l = a .args .left .now in
     let r = a .args .right .now in
-    c .digest .ensures ∙ ap digest (second .copy2 .ensures ∙ ap (λ x. paste x hashLength r (length r)) (first .copy .ensures)
-    ∙ paste-two (replicate (hashLength + hashLength) 0) l r hashLength (a .pre .0) (ap (λ k. hashLength + k) (a .pre .1)))
+    c .digest .ensures ∙ ap digest (copied (hashLength ∷ hashLength ∷ []) (l ∷ r ∷ []) (rw (a .pre .0, a .pre .1)) (copy (first .copy .ensures) (copy (second .copy2 .ensures) none))
+    ∙ unfold joined in ap (λ x. l ++ x) (append-nil r))
 
 pub node-spec : {M : Type 1} → statement M
 node-spec =

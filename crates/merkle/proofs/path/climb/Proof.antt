@@ -1,6 +1,6 @@
 -- `merkle::path::climb` meets its contract. The loop's invariant: the top from the hash so far, with the siblings still to come, is the one asked for.
 use mathlib.Core.Path.{_≡_, refl, sym, ap, _∙_}
-use mathlib.Core.List.{[], _++_}
+use mathlib.Core.List.{_++_}
 use Prim.Native.Nat.{_+_, _-_, _≤_}
 use native.Mathlib.Omega.{arith}
 use lib.ListN.{length}

@@ -1,6 +1,6 @@
 -- `merkle::path::write_siblings` meets its contract. The loop's invariant: the hashes of the siblings above the first m blocks are written.
 use mathlib.Core.Path.{_≡_, sym, ap₂, _∙_}
-use mathlib.Core.List.{[], _++_}
+use mathlib.Core.List.{_++_}
 use Prim.Native.Nat.{_+_, _-_, _*_, _≤_, _<_}
 use native.Mathlib.Omega.{arith}
 use lib.ListN.{length, drop}

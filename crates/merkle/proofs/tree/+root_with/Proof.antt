@@ -1,5 +1,4 @@
 -- `merkle::tree::root_with` meets its contract. The measure is the number of blocks, which falls at both calls.
-use mathlib.Core.List.{[]}
 use Prim.Native.Nat.{ℕ, _-_, _*_, _≤_, _<_}
 use native.Mathlib.Omega.{arith}
 use lib.ListN.{length}

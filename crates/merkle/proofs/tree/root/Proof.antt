@@ -1,5 +1,4 @@
 -- `merkle::tree::root` meets its contract: block n is none of the n.
-use mathlib.Core.List.{[]}
 use native.Mathlib.Omega.{arith}
 use borrow.Author.Needs.{needs}
 use Rattle.sha256.specs.Sha256.{digest}

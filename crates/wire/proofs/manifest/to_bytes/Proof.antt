@@ -1,3 +1,4 @@
+use Rattle.octets.proofs.JoinedLaws.{copy, none}
 use Rattle.wire.proofs.ManifestLaws.{filled}
 use mathlib.Core.Path.{_≡_, sym, _∙_}
 use Prim.Native.Nat.{ℕ}
@@ -93,9 +94,9 @@ returns c =
     let s = c1 .before .before .before .before in
     let a = s .before .before .before .before .before in
     let l : length (a .args .manifest .root) ≡ 32 = sym (length-map (a .args .manifest .root) (λ (v : ℕ). v)) ∙ a .good .0 .1 .1 .1 .1 .1 .1 .1 .0 .1 .0 .1 in
-    filled (a .args .manifest) (s .before .before .before .before .be16 .ensures) (s .before .before .before .be162 .ensures) (s .before .before .be32 .ensures)
-    (s .before .be322 .ensures) (s .be323 .ensures) l
-    (c1 .copy .ensures) (c2 .copy2 .ensures) (c3 .copy3 .ensures) (c4 .copy4 .ensures) (c5 .copy5 .ensures) (c6 .copy6 .ensures)
+    filled (a .args .manifest) l (s .before .before .before .before .be16 .ensures) (s .before .before .before .be162 .ensures) (s .before .before .be32 .ensures)
+    (s .before .be322 .ensures) (s .be323 .ensures)
+    (copy (c1 .copy .ensures) (copy (c2 .copy2 .ensures) (copy (c3 .copy3 .ensures) (copy (c4 .copy4 .ensures) (copy (c5 .copy5 .ensures) (copy (c6 .copy6 .ensures) none))))))
 
 pub to-bytes-spec : {M : Type 1} → statement M
 to-bytes-spec =
