@@ -1,6 +1,6 @@
 -- A caller that keeps the state's bytes from call to call runs the device that demand 3 speaks of.
 use mathlib.Core.Path.{_≡_, refl, ap, _∙_}
-use mathlib.Core.Bool.{Bool, true, false, cond, true≢false, _||_}
+use mathlib.Core.Bool.{Bool, true, false, cond}
 use mathlib.Core.List.{List}
 use mathlib.Core.Option.{Option, none, some}
 use Prim.Native.Nat.{ℕ, suc, pred, _+_, _*_, _^_, _≤_, _<_}
@@ -8,7 +8,7 @@ use native.Mathlib.Omega.{arith}
 use lib.Dec.{ltb}
 use lib.ListN.{length, drop, length-drop, length-replicate}
 use Rattle.octets.specs.Octets.{Bytes, part}
-use Rattle.merkle.specs.Limits.{maxBlocks, heldBytes}
+use Rattle.merkle.specs.Limits.{heldBytes}
 use Rattle.octets.proofs.CopyLaws.{length-part}
 use Rattle.octets.proofs.NumberLaws.{part-bytes}
 use Rattle.sha256.specs.Sha256.{digest}
@@ -17,16 +17,14 @@ use Rattle.merkle.proofs.HeldLaws.{length-begun, advance}
 use Rattle.lms.specs.Lms.{valid}
 use Rattle.wire.specs.declared.kind.Kind.{Kind}
 use Rattle.wire.specs.declared.kind.Kind.the-variants.{Program, Block, Update, Unknown}
-use Rattle.wire.specs.Size.{outside}
 use Rattle.wire.specs.declared.refusal.Refusal.{Refusal}
 use Rattle.wire.specs.Message.{kind, manifestBytes, manifestIn, hashesAfter}
-use Rattle.wire.proofs.SizeLaws.{sized, inside, or-false}
+use Rattle.wire.proofs.SizeLaws.{sized}
 use Rattle.wire.proofs.ManifestLaws as manifest
-use Rattle.machine.specs.declared.state.Stage.{Stage}
-use Rattle.machine.specs.declared.state.Stage.the-variants.{Idle, Loading, Complete}
+use Rattle.machine.specs.declared.state.Stage.the-variants.{Loading, Complete}
 use Rattle.machine.specs.declared.state.Device.{Device}
 use Rattle.machine.specs.Device.{countOf, freshWith, Situation}
-use Rattle.machine.specs.Refusals.{wrongVersion, badSize, senseless, notLoading, nextOf}
+use Rattle.machine.specs.Refusals.{badSize, nextOf}
 use Rattle.machine.specs.Step.{acceptProgram, stageAfter, acceptBlock, acceptUpdate, accept, outcome, refusalOf, step}
 use Rattle.guarantee.specs.Run.{Messages, empty, _▷_, after}
 use Rattle.machine.proofs.RefusalLaws.{BlockPassed, program-passed, block-passed, update-passed}
@@ -50,26 +48,13 @@ module _ (d : Device) (flash m : List ℕ) (bytes : Bytes m) (f : Fits d) where
       go true = omega arith
       go false = omega arith
 
-  -- the next number is one of the manifest's blocks
-  awaited : BlockPassed digest valid d flash m → (0 < nextOf (d .stage)) × (nextOf (d .stage) ≤ countOf (d .manifest)) × (countOf (d .manifest) ≤ maxBlocks)
-  unfolding notLoading senseless badSize nextOf countOf
-  awaited p = go (d .stage) (p .loading) (p .sense)
-    where
-      go : (t : Stage) → notLoading t ≡ false → senseless (record { model = d .model; key = d .key; stage = t; manifest = d .manifest; hashes = d .hashes }) ≡ false
-          → (0 < nextOf t) × (nextOf t ≤ countOf (d .manifest)) × (countOf (d .manifest) ≤ maxBlocks)
-      go Idle l s = absurd (true≢false l)
-      go Complete l s = absurd (true≢false l)
-      go (Loading i) l s =
-          let o = or-false (wrongVersion (d .manifest) || badSize (d .manifest)) (outside (countOf (d .manifest)) i) s in
-          let b = inside (countOf (d .manifest)) i (o .1) in
-          (b .0, b .1, sized (d .manifest .«block_len») (d .manifest .«image_len») (or-false (wrongVersion (d .manifest)) _ (o .0) .1) .count)
-
   fits-block : BlockPassed digest valid d flash m → Fits (acceptBlock d flash m .device)
-  unfolding acceptBlock hashesAfter messageLength
+  unfolding acceptBlock badSize countOf hashesAfter messageLength
   fits-block p =
       let i = nextOf (d .stage) in
       let n = countOf (d .manifest) in
-      let w = awaited p in
+      let w = p .awaited in
+      let most = sized (d .manifest .«block_len») (d .manifest .«image_len») (w .size) .count in
       let z : suc (pred i) ≡ i = omega arith in
       let l : length (drop (3 + d .manifest .«block_len») m) ≡ 32 * carried n (suc (pred i)) = rw z (length-drop (3 + d .manifest .«block_len») m ∙ omega (arith, p .long)) in
       record {
@@ -77,7 +62,7 @@ module _ (d : Device) (flash m : List ℕ) (bytes : Bytes m) (f : Fits d) where
         key = f .key;
         next = omega (arith, next-after n i);
         manifest = f .manifest;
-        hashes = advance n (pred i) (d .hashes) (drop (3 + d .manifest .«block_len») m) (omega arith) (w .2) (f .hashes) l .size;
+        hashes = advance n (pred i) (d .hashes) (drop (3 + d .manifest .«block_len») m) (omega arith) most (f .hashes) l .size;
       }
 
   fits-kept : (k : Kind) → kind m ≡ k → refusalOf digest valid d flash m ≡ none → Fits (accept k d flash m .device)

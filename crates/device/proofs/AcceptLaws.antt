@@ -1,74 +1,32 @@
--- What is known where no refusal applies, what the accepting functions do, and the step that follows.
-use mathlib.Core.Path.{_≡_, ap, _∙_}
-use mathlib.Core.Bool.{Bool, false}
+-- What the accepting functions do, and the step that follows.
+use mathlib.Core.Path.{_≡_, sym, ap, _∙_}
+use mathlib.Core.Bool.{Bool}
 use mathlib.Core.List.{List, []}
 use mathlib.Core.Option.{Option, none, some}
-use Prim.Native.Nat.{ℕ, _+_, _-_, _*_, _≤_, _<_}
+use Prim.Native.Nat.{ℕ, _+_, _-_, _≤_, _<_}
 use native.Mathlib.Numerals.{add-one}
 use native.Mathlib.Omega.{arith}
 use lib.ListN.{length, take, drop}
-use borrow.Author.Tests.{ltb-false, lt-ltb, le-ltb}
+use borrow.Author.Tests.{lt-ltb, le-ltb}
 use Rattle.octets.proofs.CopyLaws.{part-between}
 use Rattle.merkle.specs.Held.{advanced}
 use Rattle.wire.specs.declared.kind.Kind.{Kind}
-use Rattle.wire.specs.declared.kind.Kind.the-variants as kinds
 use Rattle.wire.specs.declared.manifest.Manifest.{Manifest}
 use Rattle.wire.specs.declared.refusal.Refusal.{Refusal}
 use Rattle.wire.specs.Refusal.{firstThatApplies}
 use Rattle.wire.specs.Message.{kind, manifestIn, updateNumber, updateBlock}
-use Rattle.wire.proofs.SizeLaws.{inside}
 use Rattle.machine.specs.declared.state.Stage.{Stage}
 use Rattle.machine.specs.declared.state.Stage.the-variants.{Loading, Complete}
 use Rattle.machine.specs.declared.state.Device.{Device}
 use Rattle.machine.specs.declared.state.Answer.{Answer}
 use Rattle.machine.specs.declared.state.Answer.the-variants.{Accepted, Refused}
 use Rattle.machine.specs.Device.{countOf, Situation}
-use Rattle.machine.specs.Refusals.{ofManifest, short, leastLength, nextOf, tooSmall, wrongLength, withBlock, updated, always, ofBlock, ofUpdate, ofKind, refusals}
-use Rattle.machine.specs.Step.{acceptProgram, acceptBlock, acceptUpdate, stageAfter, accept, outcome, refusalOf, step}
-use Rattle.machine.specs.Answers.{answerOf}
-use Rattle.device.proofs.ConditionLaws.{before-is, room, slice-rest, slice-block}
-use Rattle.machine.proofs.RefusalLaws.{NoneApplies}
-use Rattle.device.proofs.JudgeLaws.{pass, cascade, Awaits, awaits}
+use Rattle.machine.specs.Refusals.{nextOf, withBlock, updated, refusals}
+use Rattle.machine.specs.Step.{acceptProgram, stageAfter, acceptBlock, acceptUpdate, accept, answerOf, outcome, refusalOf, step}
+use Rattle.device.proofs.ConditionLaws.{before-is, slice-rest, slice-block}
+use Rattle.machine.proofs.RefusalLaws.{answer-none}
 
 module _ (d : Device) (flash m : List ℕ) where
-  -- where block i of a download is accepted
-  pub record BlockDue (i : ℕ) : Type 0 where
-    pub awaited : Awaits d i
-    pub area : tooSmall (d .manifest) flash ≡ false
-    pub long : wrongLength (d .manifest) i m ≡ false
-
-  -- where block i of an update with the manifest s is accepted
-  pub record UpdateDue (s : Manifest) (i : ℕ) : Type 0 where
-    pub low : 0 < i
-    pub place : (i - 1) * s .«block_len» + s .«block_len» ≤ length flash
-    pub long : 51 + s .«block_len» ≤ length m
-
-  module _ (H : List ℕ → List ℕ) (valid : (key message signature : List ℕ) → Bool) where
-    abbrev pub NoneOf : Kind → Type 0
-    NoneOf k = Accepted ≡ answerOf (firstThatApplies (refusals H valid k d flash m))
-
-    pub program-due : NoneOf kinds.Program → 49 ≤ length m
-    unfolding refusals always short leastLength NoneApplies
-    program-due e = ltb-false (length m) 49 (pass (cascade _ e) .1 .1 .0)
-
-    pub block-due : {i : ℕ} → NoneOf kinds.Block → i ≡ nextOf (d .stage) → BlockDue i
-    unfolding refusals always ofKind ofBlock NoneApplies
-    block-due {i} e is =
-        let u = pass (cascade (refusals H valid kinds.Block d flash m) e) in
-        let t = u .1 .1 .1 in
-        record { awaited = awaits d (u .0) (t .0) is; area = t .1 .0; long = rw is (t .1 .1 .1 .0) }
-
-    pub update-long : NoneOf kinds.Update → 51 ≤ length m
-    unfolding refusals always short leastLength NoneApplies
-    update-long e = ltb-false (length m) 51 (pass (cascade _ e) .1 .1 .0)
-
-    pub update-due : {s : Manifest} {i : ℕ} → NoneOf kinds.Update → s ≡ manifestIn m → i ≡ updateNumber m → UpdateDue s i
-    unfolding refusals always ofKind ofManifest ofUpdate NoneApplies
-    update-due {s} {i} e es ei =
-        let t = pass (cascade (refusals H valid kinds.Update d flash m) e) .1 .1 .1 .1 .1 .1 .1 .1 .1 in
-        let n = inside _ _ (t .1 .0) in
-        rw (es, ei) (record { low = n .0; place = room (manifestIn m) flash (updateNumber m) (t .0) (n .0) (n .1); long = ltb-false _ _ (t .1 .1 .0) })
-
   -- the three accepted steps, as the code makes them
   pub program-is : {r : Device} → r ≡ acceptProgram d [] m .device → acceptProgram d flash m ≡ record { device = r; flash = flash }
   unfolding acceptProgram
@@ -111,12 +69,19 @@ outcome-accepted (some y) d flash t e z = absurd (let w : _≡_ {A = ℕ} 0 1 = 
 
 module _ (H : List ℕ → List ℕ) (valid : (key message signature : List ℕ) → Bool) (d : Device) (flash m : List ℕ) {k : Kind} {a : Answer} (is : k ≡ kind m)
     (e : a ≡ answerOf (firstThatApplies (refusals H valid k d flash m))) where
+  answered : a ≡ answerOf (refusalOf H valid d flash m)
+  unfolding refusalOf
+  answered = rw is at e
+
+  pub unrefused : a ≡ Accepted → refusalOf H valid d flash m ≡ none
+  unrefused z = answer-none (refusalOf H valid d flash m) (sym answered ∙ z)
+
   pub step-refused : {x : Refusal} → a ≡ Refused x → step H valid d flash m ≡ record { answer = a; device = d; flash = flash }
-  unfolding step refusalOf
-  step-refused z = outcome-refused (firstThatApplies (refusals H valid (kind m) d flash m)) d flash (accept (kind m) d flash m) (rw is at e) z
+  unfolding step
+  step-refused z = outcome-refused (refusalOf H valid d flash m) d flash (accept (kind m) d flash m) answered z
 
   pub step-accepted : {r : Device} {f : List ℕ} → a ≡ Accepted → accept k d flash m ≡ record { device = r; flash = f } → step H valid d flash m ≡ record { answer = a; device = r; flash = f }
-  unfolding step refusalOf
+  unfolding step
   step-accepted z q =
-      outcome-accepted (firstThatApplies (refusals H valid (kind m) d flash m)) d flash (accept (kind m) d flash m) (rw is at e) z
+      outcome-accepted (refusalOf H valid d flash m) d flash (accept (kind m) d flash m) answered z
       ∙ ap (λ (t : Situation). record { answer = a; device = t .device; flash = t .flash }) (rw is at q)

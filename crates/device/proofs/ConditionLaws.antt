@@ -60,12 +60,11 @@ before-is zero = refl
 before-is (suc i) = omega arith
 
 -- block i has room in the flash
-pub room : (s : Manifest) (a : List ℕ) (i : ℕ) → tooSmall s a ≡ false → 0 < i → i ≤ countOf s → (i - 1) * s .«block_len» + s .«block_len» ≤ length a
-unfolding tooSmall
+pub room : (s : Manifest) (a : List ℕ) (i : ℕ) → countOf s * s .«block_len» ≤ length a → 0 < i → i ≤ countOf s → (i - 1) * s .«block_len» + s .«block_len» ≤ length a
 room s a i e low high =
     let z : i - 1 + 1 ≡ i = omega arith in
     let m : (i - 1 + 1) * s .«block_len» ≤ countOf s * s .«block_len» = rw z (mul-le-mul-right (s .«block_len») high) in
-    omega (arith, ltb-false (length a) (countOf s * s .«block_len») e, m)
+    omega (arith, e, m)
 
 length-cut : (L : ℕ) (a : List ℕ) (i : ℕ) → i * L + L ≤ length a → length (cut L a i) ≡ L
 unfolding cut
@@ -84,10 +83,14 @@ pub record Due (L n i : ℕ) (m : List ℕ) : Type 0 where
   pub long : 3 + L ≤ length m
   pub rest : length (hashesAfter L m) ≡ hashLength * carried n i
 
-pub due : (s : Manifest) (i : ℕ) (m : List ℕ) → wrongLength s i m ≡ false → Due (s .«block_len») (countOf s) i m
-unfolding wrongLength messageLength hashesAfter
+pub measured : (s : Manifest) (i : ℕ) (m : List ℕ) → wrongLength s i m ≡ false → length m ≡ messageLength (s .«block_len») (countOf s) i
+unfolding wrongLength
+measured s i m e = eqb-true _ _ (not-false _ e)
+
+pub due : (s : Manifest) (i : ℕ) (m : List ℕ) → length m ≡ messageLength (s .«block_len») (countOf s) i → Due (s .«block_len») (countOf s) i m
+unfolding messageLength hashesAfter
 due s i m e =
-    let z : length m ≡ 3 + s .«block_len» + hashLength * carried (countOf s) i = eqb-true _ _ (not-false _ e) in
+    let z : length m ≡ 3 + s .«block_len» + hashLength * carried (countOf s) i = e in
     record { long = omega arith; rest = length-drop (3 + s .«block_len») m ∙ omega arith }
 
 -- the slices that the code takes of a block message
@@ -99,7 +102,7 @@ pub slice-block : (L : ℕ) (m : List ℕ) → take (3 + L - 3) (drop 3 m) ≡ b
 unfolding blockIn
 slice-block L m = part-between m 3 L
 
-pub rest-long : (s : Manifest) (i n : ℕ) (m : List ℕ) → 0 < i → n ≡ countOf s → wrongLength s i m ≡ false → length (take (length m - (3 + s .«block_len»)) (drop (3 + s .«block_len») m)) ≡ hashLength * carried n (i - 1 + 1)
+pub rest-long : (s : Manifest) (i n : ℕ) (m : List ℕ) → 0 < i → n ≡ countOf s → length m ≡ messageLength (s .«block_len») (countOf s) i → length (take (length m - (3 + s .«block_len»)) (drop (3 + s .«block_len») m)) ≡ hashLength * carried n (i - 1 + 1)
 rest-long s i n m pos en e =
     let z : i - 1 + 1 ≡ i = omega arith in
     ap length (slice-rest (s .«block_len») m) ∙ due s i m e .rest ∙ rw (z, en)
@@ -114,9 +117,9 @@ module _ (H : List ℕ → List ℕ) where
   -- 14 of an update: the tree over flash and block together is the tree over the flash with the block written
   pub lacks-is : (s : Manifest) (a x : List ℕ) (i n : ℕ) (root : List ℕ) (t : Bool) → tooSmall s a ≡ false → 0 < i → i ≤ countOf s → n ≡ countOf s → length x ≡ s .«block_len»
       → root ≡ rootOver (plain H) (overlay (cut (s .«block_len») a) (i - 1) x) n → t ≡ equal root (s .root) → not t ≡ lacksRoot H s (withBlock (s .«block_len») a i x)
-  unfolding lacksRoot treeOver withBlock
+  unfolding tooSmall lacksRoot treeOver withBlock
   lacks-is s a x i n root t small low high en long e et =
-      let fit = room s a i small low high in
+      let fit = room s a i (ltb-false (length a) (countOf s * s .«block_len») small) low high in
       ap not (et ∙ ap (λ y. equal y (s .root)) (e ∙ ap (λ k. rootOver (plain H) (overlay (cut (s .«block_len») a) (i - 1) x) k) en
       ∙ sym (hash-written (plain H) (s .«block_len») a x (i - 1) (omega arith) (long ∙ sym (length-cut (s .«block_len») a (i - 1) fit)) 0 (shape (countOf s)))
       ∙ ap (λ k. rootOver (plain H) (cut (s .«block_len») (paste a (k * s .«block_len») x (length x))) (countOf s)) (before-is i)))

@@ -6,21 +6,20 @@ use machine::Stage;
 use wire::Kind;
 ghost use mathlib.Core.Path.{_≡_};
 ghost use mathlib.Core.List.{[]};
+ghost use mathlib.Core.Option.{none};
 ghost use Prim.Native.Nat.{_+_, _-_, _*_, _≤_, _<_};
 ghost use lib.ListN.{length};
 ghost use Rattle.sha256.specs.Sha256.{digest};
 ghost use Rattle.merkle.specs.Limits.{maxBlocks};
 ghost use Rattle.lms.specs.Lms.{valid};
 ghost use Rattle.wire.specs.declared.kind.Kind.the-variants as kinds;
-ghost use Rattle.wire.specs.Refusal.{firstThatApplies};
-ghost use Rattle.machine.specs.declared.state.Answer.the-variants.{Accepted};
-ghost use Rattle.machine.specs.Refusals.{withBlock, refusals};
-ghost use Rattle.machine.specs.Step.{acceptProgram, acceptBlock, acceptUpdate, stageAfter};
+ghost use Rattle.wire.specs.Message as messages;
+ghost use Rattle.machine.specs.Refusals.{withBlock};
+ghost use Rattle.machine.specs.Step.{acceptProgram, stageAfter, acceptBlock, acceptUpdate, refusalOf};
 ghost use Rattle.machine.specs.Step as spec;
-ghost use Rattle.machine.specs.Answers.{answerOf};
 
 pub fn accept(device: Device, kind: Kind, flash: &mut [u8], message: &[u8]) -> Device
-    requires { ⌜ Accepted ≡ answerOf (firstThatApplies (refusals digest valid kind device (now flash) (now message))) ⌝ }
+    requires { ⌜ (kind ≡ messages.kind (now message)) × (refusalOf digest valid device (now flash) (now message) ≡ none) ⌝ }
     ensures { λ r. ⌜ spec.accept kind device (now (flash .entry)) (now (message .entry)) ≡ record { device = r; flash = now (flash .exit) } ⌝ }
 {
     match kind {
@@ -71,7 +70,7 @@ fn stage_after(n: usize, number: u16) -> Stage
 
 // Kind 2.
 fn accept_block(device: Device, flash: &mut [u8], message: &[u8]) -> Device
-    requires { ⌜ Accepted ≡ answerOf (firstThatApplies (refusals digest valid kinds.Block device (now flash) (now message))) ⌝ }
+    requires { ⌜ (messages.kind (now message) ≡ kinds.Block) × (refusalOf digest valid device (now flash) (now message) ≡ none) ⌝ }
     ensures { λ r. ⌜ acceptBlock device (now (flash .entry)) (now (message .entry)) ≡ record { device = r; flash = now (flash .exit) } ⌝ }
 {
     let stage = device.stage;
@@ -95,7 +94,7 @@ fn accept_block(device: Device, flash: &mut [u8], message: &[u8]) -> Device
 
 // Kind 3.
 fn accept_update(device: Device, flash: &mut [u8], message: &[u8]) -> Device
-    requires { ⌜ Accepted ≡ answerOf (firstThatApplies (refusals digest valid kinds.Update device (now flash) (now message))) ⌝ }
+    requires { ⌜ (messages.kind (now message) ≡ kinds.Update) × (refusalOf digest valid device (now flash) (now message) ≡ none) ⌝ }
     ensures { λ r. ⌜ acceptUpdate device (now (flash .entry)) (now (message .entry)) ≡ record { device = r; flash = now (flash .exit) } ⌝ }
 {
     let manifest = wire::read(message, 1);

@@ -28,9 +28,10 @@ ghost use lib.ListN.{length};
 ghost use Rattle.sha256.specs.Sha256.{digest};
 ghost use Rattle.lms.specs.Lms.{valid};
 ghost use Rattle.wire.specs.Refusal.{firstThatApplies};
-ghost use Rattle.machine.specs.Refusals.{ofManifest, ofProgram, ofBlock, ofUpdate, refusals};
+ghost use Rattle.wire.specs.Message.{manifestIn};
+ghost use Rattle.machine.specs.Refusals.{nextOf, ofManifest, ofProgram, ofBlock, ofUpdate, refusals};
 ghost use Rattle.machine.specs.Refusals as spec;
-ghost use Rattle.machine.specs.Answers.{answerOf};
+ghost use Rattle.machine.specs.Step.{answerOf};
 
 // Always 1, 2, 3; then those of the kind.
 pub fn judge(device: Device, kind: Kind, flash: &[u8], message: &[u8]) -> Answer
@@ -84,7 +85,7 @@ fn judge_manifest(device: Device, manifest: Manifest) -> Answer
 // Kind 1: 4, 5, 6, 7, 8, 9.
 fn judge_program(device: Device, flash: &[u8], message: &[u8]) -> Answer
     requires { ⌜ 49 ≤ length (now message) ⌝ }
-    ensures { λ r. ⌜ r ≡ answerOf (firstThatApplies (ofProgram valid device (now (flash .entry)) (now (message .entry)))) ⌝ }
+    ensures { λ r. ⌜ r ≡ answerOf (firstThatApplies (ofProgram valid device (now (flash .entry)) (now (message .entry)) (manifestIn (now (message .entry))))) ⌝ }
 {
     let manifest = wire::read(message, 1);
     let first = judge_manifest(device, manifest);
@@ -103,7 +104,7 @@ fn judge_program(device: Device, flash: &[u8], message: &[u8]) -> Answer
 // Kind 2: 10, 8, 11, 12, 14.
 fn judge_block(device: Device, flash: &[u8], message: &[u8]) -> Answer
     requires { ⌜ (spec.senseless device ≡ false) × (3 ≤ length (now message)) ⌝ }
-    ensures { λ r. ⌜ r ≡ answerOf (firstThatApplies (ofBlock digest device (now (flash .entry)) (now (message .entry)))) ⌝ }
+    ensures { λ r. ⌜ r ≡ answerOf (firstThatApplies (ofBlock digest device (now (flash .entry)) (now (message .entry)) (nextOf (device .stage)))) ⌝ }
 {
     let stage = device.stage;
     if not_loading(stage) {
@@ -129,7 +130,7 @@ fn judge_block(device: Device, flash: &[u8], message: &[u8]) -> Answer
 // Kind 3: 10, 4, 5, 6, 7, 13, 8, 11, 12, 9, 14.
 fn judge_update(device: Device, flash: &[u8], message: &[u8]) -> Answer
     requires { ⌜ 51 ≤ length (now message) ⌝ }
-    ensures { λ r. ⌜ r ≡ answerOf (firstThatApplies (ofUpdate digest valid device (now (flash .entry)) (now (message .entry)))) ⌝ }
+    ensures { λ r. ⌜ r ≡ answerOf (firstThatApplies (ofUpdate digest valid device (now (flash .entry)) (now (message .entry)) (manifestIn (now (message .entry))))) ⌝ }
 {
     let stage = device.stage;
     if not_complete(stage) {

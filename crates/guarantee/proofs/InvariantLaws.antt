@@ -233,7 +233,7 @@ module _ (H : List ℕ → List ℕ) (valid : (key message signature : List ℕ)
             rw q (record { same = v .same; long = flash-long k e (rw q at (p .long)) (rw q at (p .same)) w ∙ v .long; holds = next-stage k e (rw q at (p .long)) (rw q at (p .same)) w })
         go Complete q w = absurd (true≢false (rw q at (p .loading)))
 
-    length-updated : UpdatePassed H valid d flash m → length (updated flash m) ≡ length flash
+    length-updated : UpdatePassed H valid d flash m → length (updated (manifestIn m) flash m) ≡ length flash
     unfolding updated
     length-updated p = go (updateNumber m) (p .turn)
       where

@@ -18,7 +18,7 @@ use Rattle.machine.specs.declared.state.Device.{Device}
 use Rattle.machine.specs.Device.{countOf, serialOf}
 use Rattle.machine.specs.Refusals.{ofManifest, wrongVersion, badSize, senseless, noKind, short, leastLength, otherModel, notNewer, tooSmall, unsigned, always, ofProgram, ofKind, refusals}
 use Rattle.machine.specs.Step.{refusalOf}
-use Rattle.machine.proofs.RefusalLaws.{NoneApplies, _then_, applies-none}
+use Rattle.machine.proofs.RefusalLaws.{start, _past_}
 use Rattle.guarantee.specs.Demand3.{Sendable}
 use Rattle.guarantee.proofs.SentLaws.{root-long, manifest-is}
 
@@ -34,19 +34,18 @@ module _ (H : List ℕ → List ℕ) (hash-long : (x : List ℕ) → length (H x
   module _ (d : Device) (flash : List ℕ) (sense : senseless d ≡ false) (model : job .model ≡ d .model) (newer : serialOf d < job .serial)
       (room : count job * job .block ≤ length flash) (signed : valid (d .key) (written (manifestFor H job)) signature ≡ true) where
     pub program-accepted : refusalOf H valid d flash m ≡ none
-    unfolding refusalOf refusals always ofKind ofManifest ofProgram noKind short leastLength wrongVersion badSize otherModel notNewer tooSmall unsigned countOf count manifestFor NoneApplies
+    unfolding refusalOf refusals always ofKind ofManifest ofProgram noKind short leastLength wrongVersion badSize otherModel notNewer tooSmall unsigned countOf count manifestFor firstThatApplies
     program-accepted =
         let p = is-program in
         let e : manifestIn m ≡ manifestFor H job = manifest-is H hash-long job ok m (p .manifest) in
         subst (λ k. firstThatApplies (refusals H valid k d flash m) ≡ none) (sym (p .is))
-        (applies-none (refusals H valid Program d flash m)
-        (sense
-        then refl
-        then le-ltb (length m) 49 (omega (arith, p .size))
-        then rw e refl
-        then rw e (ok .size)
-        then rw e (ap not (eq-eqb (job .model) (d .model) model))
-        then rw e (ap not (lt-ltb (serialOf d) (job .serial) newer))
-        then rw e (le-ltb (length flash) _ room)
-        then rw (p .manifest, p .signed, signed) refl
-        then tt))
+        ((start (refusals H valid Program d flash m)
+        past sense
+        past refl
+        past le-ltb (length m) 49 (omega (arith, p .size))
+        past rw e refl
+        past rw e (ok .size)
+        past rw e (ap not (eq-eqb (job .model) (d .model) model))
+        past rw e (ap not (lt-ltb (serialOf d) (job .serial) newer))
+        past rw e (le-ltb (length flash) _ room)
+        past rw (p .manifest, p .signed, signed) refl) .same)

@@ -20,15 +20,14 @@ use Rattle.machine.specs.declared.state.Answer.{Answer}
 use Rattle.machine.specs.declared.state.Answer.the-variants.{Accepted, Refused}
 use Rattle.machine.specs.Device.{countOf, Fresh, Situation, Outcome}
 use Rattle.machine.specs.Refusals.{wrongVersion, senseless, notLoading, notComplete}
-use Rattle.machine.specs.Step.{refusalOf, step}
-use Rattle.machine.specs.Answers.{answerOf}
-use Rattle.machine.proofs.RefusalLaws.{Passed, took-program, took-block, took-update, passed}
+use Rattle.machine.specs.Step.{answerOf, refusalOf, step}
+use Rattle.machine.proofs.RefusalLaws.{answer-none, Passed, took-program, took-block, took-update, passed}
 use Rattle.machine.proofs.SenseLaws.{sense-idle, sense-loading, sense-complete}
 use Rattle.guarantee.specs.Run.{Messages, empty, _▷_, after, answerTo, accepted, lastProgram, blocksSince, lastCarrier, Completed}
 use Rattle.guarantee.specs.Demand3.{thenBlocks, Calls, Begun, Honest, begin, next, Loaded, Claim, SecondHalf, Demand3}
 use Rattle.guarantee.specs.Recovery.{Offered, Recovers, Recovery, RecoveryFrom}
 use Rattle.guarantee.proofs.InvariantLaws.{with-program, with-block, with-update}
-use Rattle.guarantee.proofs.RunLaws.{answer-none, calls}
+use Rattle.guarantee.proofs.RunLaws.{calls}
 use Rattle.guarantee.proofs.SecondHalf.{second-half}
 use Rattle.guarantee.proofs.ProgramLaws.{is-program, program-accepted}
 

@@ -4,7 +4,6 @@ use mathlib.Core.Bool.{Bool}
 use mathlib.Core.List.{List}
 use mathlib.Core.Option.{Option, none, some}
 use Prim.Native.Nat.{ℕ}
-use native.Mathlib.Omega.{arith}
 use Rattle.wire.specs.declared.kind.Kind.{Kind}
 use Rattle.wire.specs.declared.kind.Kind.the-variants.{Program, Block, Update, Unknown}
 use Rattle.wire.specs.declared.refusal.Refusal.{Refusal}
@@ -12,20 +11,10 @@ use Rattle.wire.specs.Message.{kind}
 use Rattle.machine.specs.declared.state.Device.{Device}
 use Rattle.machine.specs.declared.state.Answer.the-variants.{Accepted, Refused}
 use Rattle.machine.specs.Device.{Situation}
-use Rattle.machine.specs.Step.{acceptProgram, acceptBlock, acceptUpdate, accept, outcome, refusalOf, step}
+use Rattle.machine.specs.Step.{acceptProgram, acceptBlock, acceptUpdate, accept, answerOf, outcome, refusalOf, step}
 use Rattle.guarantee.specs.Run.{Messages, empty, _▷_, after, answerTo, accepted}
-use Rattle.machine.specs.Answers.{answerOf}
+use Rattle.machine.proofs.RefusalLaws.{answer-none, answer-some}
 use Rattle.guarantee.specs.Demand3.{Calls}
-
-pub answer-none : (r : Option Refusal) → answerOf r ≡ Accepted → r ≡ none
-unfolding answerOf
-answer-none none e = refl
-answer-none (some x) e = absurd (let z : _≡_ {A = ℕ} 0 1 = cc in omega arith)
-
-answer-some : (r : Option Refusal) (x : Refusal) → answerOf r ≡ Refused x → r ≡ some x
-unfolding answerOf
-answer-some none x e = absurd (let z : _≡_ {A = ℕ} 0 1 = cc in omega arith)
-answer-some (some y) x e = cc
 
 accept-keeps : (k : Kind) (d : Device) (flash m : List ℕ) → (accept k d flash m .device .model ≡ d .model) × (accept k d flash m .device .key ≡ d .key)
 unfolding accept acceptProgram acceptBlock acceptUpdate

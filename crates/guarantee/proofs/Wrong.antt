@@ -30,9 +30,8 @@ use Rattle.machine.specs.declared.state.Device.{Device}
 use Rattle.machine.specs.declared.state.Answer.the-variants.{Accepted, Refused}
 use Rattle.machine.specs.Device.{countOf, Fresh, serialOf, heldBy, Situation, Outcome}
 use Rattle.machine.specs.Refusals.{ofManifest, wrongVersion, badSize, senseless, noKind, leastLength, short, otherModel, notNewer, tooSmall, notLoading, notComplete, nextOf, notNext, wrongLength, unlike, withBlock, updated, treeOver, mismatch, lacksRoot, unsigned, always, ofProgram, ofBlock, ofUpdate, ofKind, refusals}
-use Rattle.machine.specs.Step.{acceptProgram, stageAfter, acceptBlock, acceptUpdate, accept, outcome, refusalOf, step}
+use Rattle.machine.specs.Step.{acceptProgram, stageAfter, acceptBlock, acceptUpdate, accept, answerOf, outcome, refusalOf, step}
 use Rattle.guarantee.specs.Run.{Messages, empty, _▷_, after, answerTo, accepted, lastProgram, blocksSince, lastCarrier, signatureIn, Completed}
-use Rattle.machine.specs.Answers.{answerOf}
 use Rattle.guarantee.specs.Demand3.{thenBlocks, Calls, FirstHalf, Begun, begin, next, SecondHalf, Demand3}
 use Rattle.guarantee.proofs.Demand3Holds.{demand3-for}
 
@@ -281,7 +280,7 @@ closed-caught h =
 
 -- It writes an updated block before its root agrees.
 hasty : Step
-hasty = byKind right right (λ d f m. let o = right d f m in record { answer = o .answer; device = o .device; flash = updated f m })
+hasty = byKind right right (λ d f m. let o = right d f m in record { answer = o .answer; device = o .device; flash = updated (manifestIn m) f m })
 
 hasty-caught : Calls toy any hasty fresh flash loaded → ⊥
 unfolding computing hasty

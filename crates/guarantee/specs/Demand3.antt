@@ -24,8 +24,7 @@ use Rattle.machine.specs.declared.state.Answer.{Answer}
 use Rattle.machine.specs.declared.state.Answer.the-variants.{Accepted, Refused}
 use Rattle.machine.specs.Device.{countOf, Fresh, heldBy, Outcome}
 use Rattle.machine.specs.Refusals.{treeOver}
-use Rattle.machine.specs.Step.{refusalOf}
-use Rattle.machine.specs.Answers.{answerOf}
+use Rattle.machine.specs.Step.{answerOf, refusalOf}
 use Rattle.guarantee.specs.Run.{Messages, _▷_, after, answerTo, accepted, lastProgram, blocksSince, lastCarrier, signatureIn, Completed}
 
 -- The sender writes a manifest for the job: it does not refuse 5, and model and serial have four bytes.

@@ -1,8 +1,8 @@
 -- What is known of a message that no refusal applies to, and how to show that none does.
-use mathlib.Core.Path.{_≡_, refl, sym, subst}
-use mathlib.Core.Bool.{Bool, true, false, cond, true≢false}
-use mathlib.Core.List.{List, [], _∷_}
-use mathlib.Core.Option.{none, some}
+use mathlib.Core.Path.{_≡_, refl, sym, _∙_, subst}
+use mathlib.Core.Bool.{Bool, true, false, _||_, cond, true≢false}
+use mathlib.Core.List.{List, [], _∷_, _++_}
+use mathlib.Core.Option.{Option, none, some}
 use Prim.Native.Nat.{ℕ, pred, _+_, _*_, _≤_, _<_}
 use native.Mathlib.Omega.{arith}
 use lib.Dec.{eqb}
@@ -15,55 +15,96 @@ use Rattle.merkle.specs.Hash.{plain}
 use Rattle.wire.specs.declared.kind.Kind.{Kind}
 use Rattle.wire.specs.declared.kind.Kind.the-variants.{Program, Block, Update, Unknown}
 use Rattle.wire.specs.declared.refusal.Refusal.{Refusal}
+use Rattle.wire.specs.declared.refusal.Refusal.the-variants as refusal
 use Rattle.wire.specs.Refusal.{number, firstThatApplies}
 use Rattle.wire.specs.Message.{kind, manifestBytes, manifestIn, programSignature, blockIn, hashesAfter, updateNumber, updateSignature}
-use Rattle.wire.proofs.SizeLaws.{Sized, sized, inside}
+use Rattle.wire.proofs.SizeLaws.{Sized, sized, or-false, inside}
+use Rattle.machine.specs.declared.state.Stage.{Stage}
+use Rattle.machine.specs.declared.state.Stage.the-variants.{Idle, Loading, Complete}
 use Rattle.machine.specs.declared.state.Device.{Device}
+use Rattle.machine.specs.declared.state.Answer.the-variants.{Accepted, Refused}
 use Rattle.machine.specs.Device.{countOf}
 use Rattle.machine.specs.Refusals.{wrongVersion, badSize, senseless, notNewer, noKind, short, leastLength, tooSmall, notLoading, notComplete, nextOf, notNext, wrongLength, updated, treeOver, mismatch, lacksRoot, unsigned, ofManifest, always, ofProgram, ofBlock, ofUpdate, ofKind, refusals}
-use Rattle.machine.specs.Step.{refusalOf}
+use Rattle.machine.specs.Step.{answerOf, refusalOf}
 
--- No test of a list of refusals applies.
-unfoldable pub NoneApplies : List (Refusal × Bool) → Type 0
-NoneApplies [] = Unit {0}
-NoneApplies (e ∷ es) = (e .1 ≡ false) × NoneApplies es
+-- The test of a refusal; one that the list lacks never applies.
+unfoldable pub testOf : Refusal → List (Refusal × Bool) → Bool
+testOf r [] = false
+testOf r (e ∷ es) = cond (eqb (number (e .0)) (number r)) (e .1) (testOf r es)
 
--- The test of a refusal, by its number; one that the list lacks never applies.
-unfoldable pub testOf : ℕ → List (Refusal × Bool) → Bool
-testOf k [] = false
-testOf k (e ∷ es) = cond (eqb (number (e .0)) k) (e .1) (testOf k es)
-
-pub clear : (k : ℕ) (es : List (Refusal × Bool)) → firstThatApplies es ≡ none → testOf k es ≡ false
+pub clear : (r : Refusal) (es : List (Refusal × Bool)) → firstThatApplies es ≡ none → testOf r es ≡ false
 unfolding testOf firstThatApplies
-clear k [] a = refl
-clear k (e ∷ es) a = go (e .1) refl (clear k es)
+clear r [] a = refl
+clear r (e ∷ es) a = go (e .1) refl (clear r es)
   where
     both : (b t : Bool) → t ≡ false → cond b false t ≡ false
     both true t q = refl
     both false t q = q
 
-    go : (t : Bool) → e .1 ≡ t → (firstThatApplies es ≡ none → testOf k es ≡ false) → cond (eqb (number (e .0)) k) (e .1) (testOf k es) ≡ false
+    go : (t : Bool) → e .1 ≡ t → (firstThatApplies es ≡ none → testOf r es ≡ false) → cond (eqb (number (e .0)) (number r)) (e .1) (testOf r es) ≡ false
     go true q ih = absurd (let x : some (e .0) ≡ none = rw (q, firstThatApplies) at a in let z : _≡_ {A = ℕ} 0 1 = cc in omega arith)
-    go false q ih = rw q (both (eqb (number (e .0)) k) (testOf k es) (ih (rw (q, firstThatApplies) at a)))
+    go false q ih = rw q (both (eqb (number (e .0)) (number r)) (testOf r es) (ih (rw (q, firstThatApplies) at a)))
 
--- each does not apply, and none of the rest
-infixr 20 _then_
-pub _then_ : {A B : Type 0} → A → B → A × B
-a then b = (a, b)
+-- An answer tells which refusal was the first.
+pub answer-none : (r : Option Refusal) → answerOf r ≡ Accepted → r ≡ none
+unfolding answerOf
+answer-none none e = refl
+answer-none (some x) e = absurd (let z : _≡_ {A = ℕ} 0 1 = cc in omega arith)
 
-pub none-applies : (es : List (Refusal × Bool)) → firstThatApplies es ≡ none → NoneApplies es
-unfolding NoneApplies firstThatApplies
-none-applies [] a = tt
-none-applies (e ∷ es) a = go (e .1) refl (none-applies es)
+pub answer-some : (r : Option Refusal) (x : Refusal) → answerOf r ≡ Refused x → r ≡ some x
+unfolding answerOf
+answer-some none x e = absurd (let z : _≡_ {A = ℕ} 0 1 = cc in omega arith)
+answer-some (some y) x e = cc
+
+-- The tests of es before the rest do not apply: the first that applies is one of the rest.
+pub record Passes (es rest : List (Refusal × Bool)) : Type 0 where
+  pub same : firstThatApplies es ≡ firstThatApplies rest
+
+pub start : (es : List (Refusal × Bool)) → Passes es es
+start es = record { same = refl }
+
+infixl 20 _past_
+pub _past_ : {es rest : List (Refusal × Bool)} {r : Refusal} {t : Bool} → Passes es ((r, t) ∷ rest) → t ≡ false → Passes es rest
+unfolding firstThatApplies
+p past e = record { same = p .same ∙ rw (e, firstThatApplies) }
+
+-- a piece of a list, and what stands behind it
+pub behind-piece : (fs rest : List (Refusal × Bool)) → firstThatApplies fs ≡ none → firstThatApplies (fs ++ rest) ≡ firstThatApplies rest
+unfolding firstThatApplies
+behind-piece [] rest a = refl
+behind-piece (f ∷ fs) rest a = go (f .1) refl (behind-piece fs rest)
   where
-    go : (t : Bool) → e .1 ≡ t → (firstThatApplies es ≡ none → NoneApplies es) → (e .1 ≡ false) × NoneApplies es
-    go true q ih = absurd (let x : some (e .0) ≡ none = rw (q, firstThatApplies) at a in let z : _≡_ {A = ℕ} 0 1 = cc in omega arith)
-    go false q ih = (q, ih (rw (q, firstThatApplies) at a))
+    go : (t : Bool) → f .1 ≡ t → (firstThatApplies fs ≡ none → firstThatApplies (fs ++ rest) ≡ firstThatApplies rest) → firstThatApplies (f ∷ (fs ++ rest)) ≡ firstThatApplies rest
+    go true q ih = absurd (let x : some (f .0) ≡ none = rw (q, firstThatApplies) at a in let z : _≡_ {A = ℕ} 0 1 = cc in omega arith)
+    go false q ih = rw (q, firstThatApplies) (ih (rw (q, firstThatApplies) at a))
 
-pub applies-none : (es : List (Refusal × Bool)) → NoneApplies es → firstThatApplies es ≡ none
-unfolding NoneApplies firstThatApplies
-applies-none [] p = refl
-applies-none (e ∷ es) p = rw (p .0, firstThatApplies) (applies-none es (p .1))
+pub in-piece : (fs rest : List (Refusal × Bool)) {r : Refusal} → firstThatApplies fs ≡ some r → firstThatApplies (fs ++ rest) ≡ some r
+unfolding firstThatApplies
+in-piece [] rest a = absurd (let z : _≡_ {A = ℕ} 0 1 = cc in omega arith)
+in-piece (f ∷ fs) rest {r} a = go (f .1) refl (in-piece fs rest)
+  where
+    go : (t : Bool) → f .1 ≡ t → (firstThatApplies fs ≡ some r → firstThatApplies (fs ++ rest) ≡ some r) → firstThatApplies (f ∷ (fs ++ rest)) ≡ some r
+    go true q ih = rw (q, firstThatApplies) (rw (q, firstThatApplies) at a)
+    go false q ih = rw (q, firstThatApplies) (ih (rw (q, firstThatApplies) at a))
+
+-- A device that makes sense and is loading, at block i.
+pub record Awaits (d : Device) (i : ℕ) : Type 0 where
+  pub size : badSize (d .manifest) ≡ false
+  pub low : 0 < i
+  pub high : i ≤ countOf (d .manifest)
+
+pub awaits : (d : Device) {i : ℕ} → senseless d ≡ false → notLoading (d .stage) ≡ false → i ≡ nextOf (d .stage) → Awaits d i
+unfolding senseless notLoading nextOf
+awaits d {i} e q is = go (d .stage) refl
+  where
+    go : (t : Stage) → d .stage ≡ t → Awaits d i
+    go Idle z = absurd (true≢false (rw z at q))
+    go (Loading j) z =
+        let a = or-false (wrongVersion (d .manifest) || badSize (d .manifest)) _ (rw z at e) in
+        let b = or-false (wrongVersion (d .manifest)) _ (a .0) in
+        let k = inside _ _ (a .1) in
+        rw (is, z) (record { size = b .1; low = k .0; high = k .1 })
+    go Complete z = absurd (true≢false (rw z at q))
 
 module _ (H : List ℕ → List ℕ) (valid : (key message signature : List ℕ) → Bool) (d : Device) (flash m : List ℕ) where
   pub record ProgramPassed : Type 0 where
@@ -75,8 +116,9 @@ module _ (H : List ℕ → List ℕ) (valid : (key message signature : List ℕ)
     pub signed : valid (d .key) (manifestBytes m) (programSignature m) ≡ true
 
   pub record BlockPassed : Type 0 where
-    pub sense : senseless d ≡ false
+    pub awaited : Awaits d (nextOf (d .stage))
     pub loading : notLoading (d .stage) ≡ false
+    pub room : countOf (d .manifest) * d .manifest .«block_len» ≤ length flash
     pub long : length m ≡ messageLength (d .manifest .«block_len») (countOf (d .manifest)) (nextOf (d .stage))
     pub same : fits (plain H) (countOf (d .manifest)) (pred (nextOf (d .stage))) (d .hashes) (blockIn (d .manifest .«block_len») m) (hashesAfter (d .manifest .«block_len») m) ≡ true
 
@@ -89,7 +131,7 @@ module _ (H : List ℕ → List ℕ) (valid : (key message signature : List ℕ)
     pub turn : (0 < updateNumber m) × (updateNumber m ≤ countOf (manifestIn m))
     pub long : 51 + manifestIn m .«block_len» ≤ length m
     pub signed : valid (d .key) (manifestBytes m) (updateSignature (manifestIn m .«block_len») m) ≡ true
-    pub rooted : treeOver H (manifestIn m) (updated flash m) ≡ manifestIn m .root
+    pub rooted : treeOver H (manifestIn m) (updated (manifestIn m) flash m) ≡ manifestIn m .root
 
   -- what is known of an accepted message, by its kind
   pub data Passed : Type 0 where
@@ -97,12 +139,7 @@ module _ (H : List ℕ → List ℕ) (valid : (key message signature : List ℕ)
     took-block : kind m ≡ Block → BlockPassed → Passed
     took-update : kind m ≡ Update → UpdatePassed → Passed
 
-  pub as-program : kind m ≡ Program → Passed → ProgramPassed
-  as-program k (took-program e p) = p
-  as-program k (took-block e p) = absurd (let z : _≡_ {A = ℕ} 0 1 = cc in omega arith)
-  as-program k (took-update e p) = absurd (let z : _≡_ {A = ℕ} 0 1 = cc in omega arith)
-
-  -- the block message that the part waits for: no test of its own applies
+  -- the block message that the device waits for: no test applies
   pub record NextDue : Type 0 where
     pub is : kind m ≡ Block
     pub sense : senseless d ≡ false
@@ -113,51 +150,52 @@ module _ (H : List ℕ → List ℕ) (valid : (key message signature : List ℕ)
     pub size : wrongLength (d .manifest) (nextOf (d .stage)) m ≡ false
     pub same : mismatch H d (nextOf (d .stage)) m ≡ false
 
-  -- refusal n does not apply
-  without : (n : ℕ) (k : Kind) → kind m ≡ k → refusalOf H valid d flash m ≡ none → testOf n (refusals H valid k d flash m) ≡ false
+  -- refusal r does not apply
+  without : (r : Refusal) (k : Kind) → kind m ≡ k → refusalOf H valid d flash m ≡ none → testOf r (refusals H valid k d flash m) ≡ false
   unfolding refusalOf
-  without n k e a = clear n (refusals H valid k d flash m) (subst (λ x. firstThatApplies (refusals H valid x d flash m) ≡ none) e a)
+  without r k e a = clear r (refusals H valid k d flash m) (subst (λ x. firstThatApplies (refusals H valid x d flash m) ≡ none) e a)
 
   pub program-passed : kind m ≡ Program → refusalOf H valid d flash m ≡ none → ProgramPassed
   unfolding refusals always ofKind ofManifest ofProgram testOf short leastLength badSize tooSmall unsigned
   program-passed k a =
       record {
-        long = ltb-false (length m) 49 (without 3 Program k a);
-        version = without 4 Program k a;
-        size = sized _ _ (without 5 Program k a);
-        newer = without 7 Program k a;
-        room = ltb-false _ _ (without 8 Program k a);
-        signed = not-false _ (without 9 Program k a);
+        long = ltb-false (length m) 49 (without refusal.Short Program k a);
+        version = without refusal.Version Program k a;
+        size = sized _ _ (without refusal.Size Program k a);
+        newer = without refusal.Serial Program k a;
+        room = ltb-false _ _ (without refusal.Area Program k a);
+        signed = not-false _ (without refusal.Unsigned Program k a);
       }
 
   pub block-passed : kind m ≡ Block → refusalOf H valid d flash m ≡ none → BlockPassed
-  unfolding refusals always ofKind ofBlock testOf wrongLength mismatch
+  unfolding refusals always ofKind ofBlock testOf tooSmall wrongLength mismatch
   block-passed k a =
       record {
-        sense = without 1 Block k a;
-        loading = without 10 Block k a;
-        long = eqb-true _ _ (not-false _ (without 12 Block k a));
-        same = not-false _ (without 14 Block k a);
+        awaited = awaits d (without refusal.State Block k a) (without refusal.Stage Block k a) refl;
+        loading = without refusal.Stage Block k a;
+        room = ltb-false _ _ (without refusal.Area Block k a);
+        long = eqb-true _ _ (not-false _ (without refusal.Length Block k a));
+        same = not-false _ (without refusal.Mismatch Block k a);
       }
 
   pub update-passed : kind m ≡ Update → refusalOf H valid d flash m ≡ none → UpdatePassed
   unfolding refusals always ofKind ofManifest ofUpdate testOf badSize tooSmall unsigned lacksRoot
   update-passed k a =
       record {
-        complete = without 10 Update k a;
-        version = without 4 Update k a;
-        size = sized _ _ (without 5 Update k a);
-        newer = without 7 Update k a;
-        room = ltb-false _ _ (without 8 Update k a);
-        turn = inside _ _ (without 11 Update k a);
-        long = ltb-false _ _ (without 12 Update k a);
-        signed = not-false _ (without 9 Update k a);
-        rooted = equal-true _ _ (not-false _ (without 14 Update k a));
+        complete = without refusal.Stage Update k a;
+        version = without refusal.Version Update k a;
+        size = sized _ _ (without refusal.Size Update k a);
+        newer = without refusal.Serial Update k a;
+        room = ltb-false _ _ (without refusal.Area Update k a);
+        turn = inside _ _ (without refusal.Turn Update k a);
+        long = ltb-false _ _ (without refusal.Length Update k a);
+        signed = not-false _ (without refusal.Unsigned Update k a);
+        rooted = equal-true _ _ (not-false _ (without refusal.Mismatch Update k a));
       }
 
   pub unknown-refused : kind m ≡ Unknown → refusalOf H valid d flash m ≡ none → ⊥
   unfolding refusals always ofKind noKind testOf
-  unknown-refused k a = true≢false (without 2 Unknown k a)
+  unknown-refused k a = true≢false (without refusal.Kind Unknown k a)
 
   pub passed : refusalOf H valid d flash m ≡ none → Passed
   passed a = go (kind m) refl
@@ -169,8 +207,7 @@ module _ (H : List ℕ → List ℕ) (valid : (key message signature : List ℕ)
       go Unknown e = absurd (unknown-refused e a)
 
   pub due-unrefused : NextDue → refusalOf H valid d flash m ≡ none
-  unfolding refusalOf refusals always ofKind ofBlock noKind NoneApplies
+  unfolding refusalOf refusals always ofKind ofBlock noKind firstThatApplies
   due-unrefused w =
       subst (λ k. firstThatApplies (refusals H valid k d flash m) ≡ none) (sym (w .is))
-      (applies-none (refusals H valid Block d flash m)
-      (w .sense then refl then w .head then w .loading then w .area then w .turn then w .size then w .same then tt))
+      ((start (refusals H valid Block d flash m) past w .sense past refl past w .head past w .loading past w .area past w .turn past w .size past w .same) .same)

@@ -83,9 +83,39 @@ unlike s old = not (eqb (s .«block_len») (old .«block_len») && eqb (s .«ima
 unfoldable pub withBlock : ℕ → List ℕ → ℕ → List ℕ → List ℕ
 withBlock L flash i block = paste flash (pred i * L) block (length block)
 
--- the flash with the new block of an update
-unfoldable pub updated : List ℕ → List ℕ → List ℕ
-updated flash m = let s = manifestIn m in withBlock (s .«block_len») flash (updateNumber m) (updateBlock (s .«block_len») m)
+-- the flash with the new block of an update that carries the manifest s
+unfoldable pub updated : Manifest → List ℕ → List ℕ → List ℕ
+updated s flash m = withBlock (s .«block_len») flash (updateNumber m) (updateBlock (s .«block_len») m)
+
+module _ (valid : (key message signature : List ℕ) → Bool) where
+  -- 9: signature not valid
+  unfoldable pub unsigned : Device → (manifest signature : List ℕ) → Bool
+  unsigned d manifest signature = not (valid (d .key) manifest signature)
+
+module _ (H : List ℕ → List ℕ) where
+  -- 14 for kind 2: the hash worked out from block and message differs from the held one
+  unfoldable pub mismatch : Device → ℕ → List ℕ → Bool
+  mismatch d i m =
+      let s = d .manifest in
+      not (fits (plain H) (countOf s) (pred i) (d .hashes) (blockIn (s .«block_len») m) (hashesAfter (s .«block_len») m))
+
+  -- the root of the tree over the first n blocks of the flash
+  unfoldable pub treeOver : Manifest → List ℕ → List ℕ
+  treeOver s flash = rootOver (plain H) (cut (s .«block_len») flash) (countOf s)
+
+  -- 14 for kind 3: the tree over the flash with the new block lacks the new root
+  unfoldable pub lacksRoot : Manifest → List ℕ → Bool
+  lacksRoot s flash = not (equal (treeOver s flash) (s .root))
+
+-- "Order, first that applies": refusals in order, each with its test
+
+-- "always 1, 2, 3"
+unfoldable pub always : Kind → Device → List ℕ → List (Refusal × Bool)
+always k d m =
+    (refusal.State, senseless d)
+    ∷ (refusal.Kind, noKind k)
+    ∷ (refusal.Short, short k m)
+    ∷ []
 
 -- 4, 5, 6, 7: what a new manifest meets, in every message that carries one
 unfoldable pub ofManifest : Device → Manifest → List (Refusal × Bool)
@@ -96,56 +126,28 @@ ofManifest d s =
     ∷ (refusal.Serial, notNewer d s)
     ∷ []
 
--- "always 1, 2, 3"
-unfoldable pub always : Kind → Device → List ℕ → List (Refusal × Bool)
-always k d m = (refusal.State, senseless d) ∷ (refusal.Kind, noKind k) ∷ (refusal.Short, short k m) ∷ []
+-- "then kind 1: 4, 5, 6, 7, 8, 9"; s is the manifest that the message carries
+unfoldable pub ofProgram : (valid : (key message signature : List ℕ) → Bool) → Device → (flash m : List ℕ) → Manifest → List (Refusal × Bool)
+ofProgram valid d flash m s =
+    ofManifest d s
+    ++ ((refusal.Area, tooSmall s flash)
+    ∷ (refusal.Unsigned, unsigned valid d (manifestBytes m) (programSignature m))
+    ∷ [])
 
-module _ (valid : (key message signature : List ℕ) → Bool) where
-  -- 9: signature not valid
-  unfoldable pub unsigned : Device → (manifest signature : List ℕ) → Bool
-  unsigned d manifest signature = not (valid (d .key) manifest signature)
-
-  -- "then kind 1: 4, 5, 6, 7, 8, 9"
-  unfoldable pub ofProgram : Device → List ℕ → List ℕ → List (Refusal × Bool)
-  ofProgram d flash m =
-      let s = manifestIn m in
-      ofManifest d s
-      ++ ((refusal.Area, tooSmall s flash)
-      ∷ (refusal.Unsigned, unsigned d (manifestBytes m) (programSignature m))
-      ∷ [])
-
-module _ (H : List ℕ → List ℕ) where
-  -- 14 for kind 2: the hash worked out from block and message differs from the held one
-  unfoldable pub mismatch : Device → ℕ → List ℕ → Bool
-  mismatch d i m =
-      let s = d .manifest in
-      not (fits (plain H) (countOf s) (pred i) (d .hashes) (blockIn (s .«block_len») m) (hashesAfter (s .«block_len») m))
-
-  -- "Kind 2: 10, 8, 11, 12, 14"
-  unfoldable pub ofBlock : Device → List ℕ → List ℕ → List (Refusal × Bool)
-  ofBlock d flash m =
-      let s = d .manifest in
-      let i = nextOf (d .stage) in
-      (refusal.Stage, notLoading (d .stage))
-      ∷ (refusal.Area, tooSmall s flash)
-      ∷ (refusal.Turn, notNext i m)
-      ∷ (refusal.Length, wrongLength s i m)
-      ∷ (refusal.Mismatch, mismatch d i m)
-      ∷ []
-
-  -- the root of the tree over the first n blocks of the flash
-  unfoldable pub treeOver : Manifest → List ℕ → List ℕ
-  treeOver s flash = rootOver (plain H) (cut (s .«block_len») flash) (countOf s)
-
-  -- 14 for kind 3: the tree over the flash with the new block lacks the new root
-  unfoldable pub lacksRoot : Manifest → List ℕ → Bool
-  lacksRoot s flash = not (equal (treeOver s flash) (s .root))
+-- "Kind 2: 10, 8, 11, 12, 14"; i is the next number
+unfoldable pub ofBlock : (H : List ℕ → List ℕ) → Device → (flash m : List ℕ) → ℕ → List (Refusal × Bool)
+ofBlock H d flash m i =
+    (refusal.Stage, notLoading (d .stage))
+    ∷ (refusal.Area, tooSmall (d .manifest) flash)
+    ∷ (refusal.Turn, notNext i m)
+    ∷ (refusal.Length, wrongLength (d .manifest) i m)
+    ∷ (refusal.Mismatch, mismatch H d i m)
+    ∷ []
 
 module _ (H : List ℕ → List ℕ) (valid : (key message signature : List ℕ) → Bool) where
-  -- "Kind 3: 10, 4, 5, 6, 7, 13, 8, 11, 12, 9, 14"
-  unfoldable pub ofUpdate : Device → List ℕ → List ℕ → List (Refusal × Bool)
-  ofUpdate d flash m =
-      let s = manifestIn m in
+  -- "Kind 3: 10, 4, 5, 6, 7, 13, 8, 11, 12, 9, 14"; s is the manifest that the message carries
+  unfoldable pub ofUpdate : Device → (flash m : List ℕ) → Manifest → List (Refusal × Bool)
+  ofUpdate d flash m s =
       (refusal.Stage, notComplete (d .stage))
       ∷ ofManifest d s
       ++ ((refusal.Unlike, unlike s (d .manifest))
@@ -153,12 +155,17 @@ module _ (H : List ℕ → List ℕ) (valid : (key message signature : List ℕ)
       ∷ (refusal.Turn, outside (countOf s) (updateNumber m))
       ∷ (refusal.Length, ltb (length m) (51 + s .«block_len»))
       ∷ (refusal.Unsigned, unsigned valid d (manifestBytes m) (updateSignature (s .«block_len») m))
-      ∷ (refusal.Mismatch, lacksRoot H s (updated flash m))
+      ∷ (refusal.Mismatch, lacksRoot H s (updated s flash m))
       ∷ [])
 
-  unfoldable pub ofKind : Kind → Device → List ℕ → List ℕ → List (Refusal × Bool)
+  unfoldable pub ofKind : Kind → Device → (flash m : List ℕ) → List (Refusal × Bool)
   ofKind k d flash m =
-      elim k [ kinds.Program ↦ ofProgram valid d flash m | kinds.Block ↦ ofBlock H d flash m | kinds.Update ↦ ofUpdate d flash m | kinds.Unknown ↦ [] ]
+      elim k [
+        | kinds.Program ↦ ofProgram valid d flash m (manifestIn m)
+        | kinds.Block ↦ ofBlock H d flash m (nextOf (d .stage))
+        | kinds.Update ↦ ofUpdate d flash m (manifestIn m)
+        | kinds.Unknown ↦ []
+      ]
 
-  unfoldable pub refusals : Kind → Device → List ℕ → List ℕ → List (Refusal × Bool)
+  unfoldable pub refusals : Kind → Device → (flash m : List ℕ) → List (Refusal × Bool)
   refusals k d flash m = always k d m ++ ofKind k d flash m

@@ -13,6 +13,7 @@ use Rattle.wire.specs.Message.{kind, manifestIn, blockIn, hashesAfter}
 use Rattle.machine.specs.declared.state.Stage.{Stage}
 use Rattle.machine.specs.declared.state.Stage.the-variants.{Loading, Complete}
 use Rattle.machine.specs.declared.state.Device.{Device}
+use Rattle.machine.specs.declared.state.Answer.{Answer}
 use Rattle.machine.specs.declared.state.Answer.the-variants.{Accepted, Refused}
 use Rattle.machine.specs.Device.{countOf, Situation, Outcome}
 use Rattle.machine.specs.Refusals.{nextOf, withBlock, updated, refusals}
@@ -47,7 +48,8 @@ acceptBlock d flash m =
 -- "Accepting kind 3 writes that one block and replaces the slip."
 unfoldable pub acceptUpdate : Device → List ℕ → List ℕ → Situation
 acceptUpdate d flash m =
-    record { device = record { model = d .model; key = d .key; stage = d .stage; manifest = manifestIn m; hashes = d .hashes }; flash = updated flash m }
+    let s = manifestIn m in
+    record { device = record { model = d .model; key = d .key; stage = d .stage; manifest = s; hashes = d .hashes }; flash = updated s flash m }
 
 unfoldable pub accept : Kind → Device → List ℕ → List ℕ → Situation
 accept k d flash m =
@@ -57,6 +59,10 @@ accept k d flash m =
       | kinds.Update ↦ acceptUpdate d flash m
       | kinds.Unknown ↦ record { device = d; flash = flash }
     ]
+
+-- "Accepted: the call gave no refusal number": the answer where this refusal, or none, is the first that applies
+unfoldable pub answerOf : Option Refusal → Answer
+answerOf r = elim r [ none ↦ Accepted | some x ↦ Refused x ]
 
 -- accepted where no refusal applies, with what that does; else the refusal alone, and device and flash as before
 unfoldable pub outcome : Option Refusal → Device → List ℕ → Situation → Outcome

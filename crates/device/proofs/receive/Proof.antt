@@ -1,7 +1,6 @@
-use mathlib.Core.Path.{sym, _∙_}
 use Rattle.sha256.specs.Sha256.{digest}
 use Rattle.lms.specs.Lms.{valid}
-use Rattle.device.proofs.AcceptLaws.{step-refused, step-accepted}
+use Rattle.device.proofs.AcceptLaws.{unrefused, step-refused, step-accepted}
 use borrow.Author.Needs.{needs}
 use Rattle.device.proofs.receive.Statement.{statement}
 use Rattle.device.proofs.receive.Tie as tie
@@ -27,7 +26,10 @@ returns c =
     step-refused digest valid _ _ _ (j .before .before .kind-of .ensures) (j .judge .ensures) (c .enum-told2 .given .1)
 
 accept-requires : tie.Need-accept-requires
-accept-requires c κs = sym (c .before .enum-told .given .1) ∙ c .before .before .before .judge .ensures
+accept-requires c κs =
+    let j = c .before .before .before in
+    let k = j .before .before .kind-of .ensures in
+    (k, unrefused digest valid _ _ _ k (j .judge .ensures) (c .before .enum-told .given .1))
 
 same-length-2 : tie.Need-same-length-2
 same-length-2 c = search needs

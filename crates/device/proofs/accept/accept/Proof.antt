@@ -1,8 +1,9 @@
-use mathlib.Core.Path.{refl}
+use mathlib.Core.Path.{refl, sym, _∙_}
 use Rattle.sha256.specs.Sha256.{digest}
 use Rattle.lms.specs.Lms.{valid}
 use Rattle.machine.specs.Step.{accept}
-use Rattle.device.proofs.AcceptLaws.{program-due, program-is}
+use Rattle.machine.proofs.RefusalLaws.{program-passed}
+use Rattle.device.proofs.AcceptLaws.{program-is}
 use borrow.Author.Needs.{needs}
 use Rattle.device.proofs.accept.accept.Statement.{statement}
 use Rattle.device.proofs.accept.accept.Tie as tie
@@ -11,19 +12,19 @@ enum-told : tie.Need-enum-told
 enum-told c = search needs
 
 accept-program-requires : tie.Need-accept-program-requires
-accept-program-requires c κs = let s = c .before .before .before .before in program-due (s .args .device) (s .args .flash .now) (s .args .message .now) digest valid (rw (c .enum-told .given .1) at (s .pre))
+accept-program-requires c κs = let s = c .before .before .before .before in program-passed digest valid _ _ _ (sym (s .pre .0) ∙ c .enum-told .given .1) (s .pre .1) .long
 
 enum-told-2 : tie.Need-enum-told-2
 enum-told-2 c = search needs
 
 accept-block-requires : tie.Need-accept-block-requires
-accept-block-requires c κs = rw (c .before .enum-told2 .given .1) at (c .before .before .before .before .before .pre)
+accept-block-requires c κs = let s = c .before .before .before .before .before in (sym (s .pre .0) ∙ c .before .enum-told2 .given .1, s .pre .1)
 
 enum-told-3 : tie.Need-enum-told-3
 enum-told-3 c = search needs
 
 accept-update-requires : tie.Need-accept-update-requires
-accept-update-requires c κs = rw (c .before .enum-told3 .given .1) at (c .before .before .before .before .before .pre)
+accept-update-requires c κs = let s = c .before .before .before .before .before in (sym (s .pre .0) ∙ c .before .enum-told3 .given .1, s .pre .1)
 
 enum-told-4 : tie.Need-enum-told-4
 enum-told-4 c = search needs

@@ -1,21 +1,29 @@
 use mathlib.Core.Path.{ap, _∙_}
+use Prim.Native.Nat.{_+_, _-_, _*_, _≤_, _<_}
 use native.Mathlib.Omega.{arith}
 use lib.ListN.{length}
 use Rattle.octets.proofs.CopyLaws.{length-part, part-between}
 use Rattle.sha256.specs.Sha256.{digest}
 use Rattle.lms.specs.Lms.{valid}
 use Rattle.wire.specs.Message.{manifestBytes, manifestIn, updateNumber}
-use Rattle.device.proofs.AcceptLaws.{UpdateDue, update-long, update-due, update-is}
+use Rattle.machine.specs.Device.{countOf}
+use Rattle.machine.proofs.RefusalLaws.{UpdatePassed, update-passed}
+use Rattle.device.proofs.ConditionLaws.{room}
+use Rattle.device.proofs.AcceptLaws.{update-is}
 use borrow.Author.Needs.{needs}
 use Rattle.device.proofs.accept.accept_update.Statement.{statement}
 use Rattle.device.proofs.accept.accept_update.Tie as tie
 
-accepted : (c : tie.After-u16-at) → UpdateDue (c .before .before .before .before .before .before .args .device) (c .before .before .before .before .before .before .args .flash .now) (c .before .before .before .before .before .before .args .message .now) (c .before .before .before .read .result) (c .u16-at .result)
-unfolding manifestIn manifestBytes updateNumber
-accepted c = let s = c .before .before .before .before .before .before in update-due (s .args .device) (s .args .flash .now) (s .args .message .now) digest valid (s .pre) (c .before .before .before .read .ensures) (c .u16-at .ensures)
+accepted : (c : tie.Start) → UpdatePassed digest valid (c .args .device) (c .args .flash .now) (c .args .message .now)
+accepted c = update-passed digest valid _ _ _ (c .pre .0) (c .pre .1)
+
+-- manifest and number, as the code reads them
+long : (c : tie.After-read) → 51 + c .read .result .«block_len» ≤ length (c .before .before .before .args .message .now)
+unfolding manifestIn manifestBytes
+long c = rw (c .read .ensures) (accepted (c .before .before .before) .long)
 
 read-requires : tie.Need-read-requires
-read-requires c κs = let l = update-long _ _ _ digest valid (c .before .before .pre) in omega arith
+read-requires c κs = let l = accepted (c .before .before) .long in omega arith
 
 cast-len : tie.Need-cast-len
 cast-len c = search needs
@@ -24,7 +32,7 @@ add-end : tie.Need-add-end
 add-end c = search needs
 
 u16-at-requires : tie.Need-u16-at-requires
-u16-at-requires c κs = update-long _ _ _ digest valid (c .before .before .before .before .before .pre)
+u16-at-requires c κs = let l = accepted (c .before .before .before .before .before) .long in omega arith
 
 sub-write-block : tie.Need-sub-write-block
 sub-write-block c = search needs
@@ -33,15 +41,19 @@ part-write-block-start : tie.Need-part-write-block-start
 part-write-block-start c = search needs
 
 part-write-block-end : tie.Need-part-write-block-end
-part-write-block-end c = let l = accepted c .long in search needs
+part-write-block-end c = let l = long (c .before .before .before) in search needs
 
 write-block-requires : tie.Need-write-block-requires
+unfolding manifestIn manifestBytes updateNumber
 write-block-requires c κs =
-    let a = accepted (c .before) in
-    let m = c .before .before .before .before .before .before .before .args .message .now in
-    let n = c .before .before .before .before .read .result .«block_len» in
-    let l = ap length (part-between m 51 n) ∙ length-part m 51 n (a .long) in
-    (a .low, omega (arith, l, a .place))
+    let s = c .before .before .before .before in
+    let m = s .before .before .before .args .message .now in
+    let p = accepted (s .before .before .before) in
+    let n = s .read .result .«block_len» in
+    let l = ap length (part-between m 51 n) ∙ length-part m 51 n (long s) in
+    let i : (0 < c .before .u16-at .result) × (c .before .u16-at .result ≤ countOf (manifestIn m)) = rw (c .before .u16-at .ensures) (p .turn) in
+    let r : (c .before .u16-at .result - 1) * n + n ≤ length (s .before .before .before .args .flash .now) = rw (s .read .ensures) (room (manifestIn m) (s .before .before .before .args .flash .now) _ (p .room) (i .0) (i .1)) in
+    (i .0, omega (arith, l, r))
 
 same-length : tie.Need-same-length
 same-length c = search needs

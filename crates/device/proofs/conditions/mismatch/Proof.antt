@@ -1,9 +1,13 @@
 use native.Mathlib.Omega.{arith}
 use Rattle.sha256.specs.Sha256.{digest}
-use Rattle.device.proofs.ConditionLaws.{held-array, sound, due, slice-rest, slice-block, rest-long, mismatch-is}
+use Rattle.machine.specs.Device.{countOf}
+use Rattle.device.proofs.ConditionLaws.{held-array, sound, Due, measured, due, slice-rest, slice-block, rest-long, mismatch-is}
 use borrow.Author.Needs.{needs}
 use Rattle.device.proofs.conditions.mismatch.Statement.{statement}
 use Rattle.device.proofs.conditions.mismatch.Tie as tie
+
+is-due : (c : tie.Start) → Due (c .args .device .manifest .«block_len») (countOf (c .args .device .manifest)) (c .args .next) (c .args .message .now)
+is-due c = due _ _ _ (measured _ _ _ (c .pre .3))
 
 cast-end : tie.Need-cast-end
 cast-end c = search needs
@@ -27,13 +31,13 @@ part-fits-start : tie.Need-part-fits-start
 part-fits-start c = search needs
 
 part-fits-end : tie.Need-part-fits-end
-part-fits-end c = let d = due _ _ _ (c .before .before .before .before .before .before .pre .3) in search needs
+part-fits-end c = let d = is-due (c .before .before .before .before .before .before) in search needs
 
 sub-fits-3 : tie.Need-sub-fits-3
-sub-fits-3 c = due _ _ _ (c .before .before .before .before .before .before .before .pre .3) .long
+sub-fits-3 c = is-due (c .before .before .before .before .before .before .before) .long
 
 part-fits-start-2 : tie.Need-part-fits-start-2
-part-fits-start-2 c = let d = due _ _ _ (c .before .before .before .before .before .before .before .pre .3) in search needs
+part-fits-start-2 c = let d = is-due (c .before .before .before .before .before .before .before) in search needs
 
 part-fits-end-2 : tie.Need-part-fits-end-2
 part-fits-end-2 c = search needs
@@ -44,7 +48,7 @@ fits-requires c κs =
     let s = n .before .before .before .before .before .before in
     let z = sound _ (s .pre .0) in
     let e = n .count .ensures in
-    (held-array (s .args .device) (s .good .0 .1 .1 .1 .1 .1 .1 .0 .1 .0 .1), omega arith, omega arith, rest-long _ _ _ (s .args .message .now) (s .pre .1) e (s .pre .3))
+    (held-array (s .args .device) (s .good .0 .1 .1 .1 .1 .1 .1 .0 .1 .0 .1), omega arith, omega arith, rest-long _ _ _ (s .args .message .now) (s .pre .1) e (measured _ _ _ (s .pre .3)))
 
 returns : tie.Need-returns
 returns c =

@@ -1,94 +1,90 @@
-use mathlib.Core.Path.{_≡_, sym, _∙_}
-use mathlib.Core.List.{[], _∷_}
+use mathlib.Core.Path.{sym, ap, _∙_}
+use mathlib.Core.Bool.{Bool}
+use mathlib.Core.List.{List}
+use Prim.Native.Nat.{ℕ}
 use Rattle.sha256.specs.Sha256.{digest}
-use Rattle.lms.specs.Lms.{valid}
-use Rattle.wire.specs.declared.refusal.Refusal.the-variants.{Mismatch}
-use Rattle.wire.specs.Refusal.{firstThatApplies}
-use Rattle.machine.specs.declared.state.Answer.{Answer}
-use Rattle.machine.specs.Refusals.{mismatch, ofBlock}
-use Rattle.machine.specs.Answers.{answerOf}
-use Rattle.device.proofs.JudgeLaws.{Cascade, passed, here, later, found, block-found, Awaits, awaits}
+use Rattle.wire.specs.declared.refusal.Refusal.{Refusal}
+use Rattle.wire.specs.declared.refusal.Refusal.the-variants as refusal
+use Rattle.machine.specs.Refusals.{nextOf, ofBlock}
+use Rattle.machine.proofs.RefusalLaws.{Passes, start, _past_, Awaits, awaits}
+use Rattle.device.proofs.JudgeLaws.{behind, retold, refused, accepted}
 use borrow.Author.Needs.{needs}
 use Rattle.device.proofs.judge.judge_block.Statement.{statement}
 use Rattle.device.proofs.judge.judge_block.Tie as tie
 
--- a block is awaited
-awaited : (c : tie.After-manifest) → Awaits (c .before .before .before .before .before .before .args .device) (c .before .next-of .result)
-awaited c =
-    let e1 = c .before .before in
-    awaits _ (e1 .before .before .before .before .pre .0) (sym (e1 .before .not-loading .ensures) ∙ e1 .if1 .left) (c .before .next-of .ensures)
+-- the tests where i is the next number
+abbrev tests : tie.Start → ℕ → List (Refusal × Bool)
+tests a i = ofBlock digest (a .args .device) (a .args .flash .now) (a .args .message .now) i
 
--- As long as it should be: the comparison decides.
-end : (c : tie.Else4) {a : Answer} → Cascade ((Mismatch, mismatch digest (c .before .before .before .before .before .before .before .before .before .before .before .before .args .device) (c .before .before .before .before .before .before .before .next-of .result) (c .before .before .before .before .before .before .before .before .before .before .before .before .args .message .now)) ∷ []) a
-    → a ≡ answerOf (firstThatApplies (ofBlock digest (c .before .before .before .before .before .before .before .before .before .before .before .before .args .device) (c .before .before .before .before .before .before .before .before .before .before .before .before .args .flash .now) (c .before .before .before .before .before .before .before .before .before .before .before .before .args .message .now)))
-end c k =
-    let e3 = c .before .before in
-    let e2 = e3 .before .before in
-    let n = e2 .before .before .before in
-    let e1 = n .before in
-    block-found digest valid _ _ _ (n .next-of .ensures)
-    (later (sym (e1 .before .not-loading .ensures) ∙ e1 .if1 .left)
-    (later (sym (e2 .before .too-small .ensures) ∙ e2 .if2 .left)
-    (later (sym (e3 .before .not-next .ensures) ∙ e3 .if3 .left) (later (sym (c .before .wrong-length .ensures) ∙ c .if4 .left) k))))
+-- no test up to that of this refusal applies
+abbrev Past : Refusal → tie.After-next-of → Type 0
+Past r c = Passes (tests (c .before .before .before .before .before) (nextOf (c .before .before .before .before .before .args .device .stage))) (behind r (tests (c .before .before .before .before .before) (c .next-of .result)))
+
+stage : (c : tie.After-next-of) → Past refusal.Stage c
+unfolding ofBlock behind
+stage c = retold (ap (tests (c .before .before .before .before .before)) (c .next-of .ensures)) past (sym (c .before .before .not-loading .ensures) ∙ c .before .if1 .left)
+
+area : (c : tie.Else2) → Past refusal.Area (c .before .before .before)
+unfolding ofBlock behind
+area c = stage (c .before .before .before) past (sym (c .before .too-small .ensures) ∙ c .if2 .left)
+
+turn : (c : tie.Else3) → Past refusal.Turn (c .before .before .before .before .before)
+unfolding ofBlock behind
+turn c = area (c .before .before) past (sym (c .before .not-next .ensures) ∙ c .if3 .left)
+
+long : (c : tie.Else4) → Past refusal.Length (c .before .before .before .before .before .before .before)
+unfolding ofBlock behind
+long c = turn (c .before .before) past (sym (c .before .wrong-length .ensures) ∙ c .if4 .left)
+
+-- a block is awaited
+awaited : (c : tie.After-next-of) → Awaits (c .before .before .before .before .before .args .device) (c .next-of .result)
+awaited c = awaits _ (c .before .before .before .before .before .pre .0) (sym (c .before .before .not-loading .ensures) ∙ c .before .if1 .left) (c .next-of .ensures)
 
 not-loading-requires : tie.Need-not-loading-requires
 not-loading-requires c κs = search needs
 
 returns : tie.Need-returns
 unfolding ofBlock
-returns c = found (here (sym (c .before .not-loading .ensures) ∙ c .if1 .taken))
+returns c = refused (start _) (sym (c .before .not-loading .ensures) ∙ c .if1 .taken)
 
 next-of-requires : tie.Need-next-of-requires
 next-of-requires c κs = search needs
 
 too-small-requires : tie.Need-too-small-requires
-too-small-requires c κs = awaited c .size
+too-small-requires c κs = awaited (c .before) .size
 
 returns-2 : tie.Need-returns-2
-returns-2 c =
-    let n = c .before .before .before in
-    let e1 = n .before in
-    block-found digest valid _ _ _ (n .next-of .ensures)
-    (later (sym (e1 .before .not-loading .ensures) ∙ e1 .if1 .left) (here (sym (c .before .too-small .ensures) ∙ c .if2 .taken)))
+unfolding ofBlock behind
+returns-2 c = refused (stage (c .before .before .before)) (sym (c .before .too-small .ensures) ∙ c .if2 .taken)
 
 not-next-requires : tie.Need-not-next-requires
 not-next-requires c κs = search needs
 
 returns-3 : tie.Need-returns-3
-returns-3 c =
-    let e2 = c .before .before in
-    let n = e2 .before .before .before in
-    let e1 = n .before in
-    block-found digest valid _ _ _ (n .next-of .ensures)
-    (later (sym (e1 .before .not-loading .ensures) ∙ e1 .if1 .left)
-    (later (sym (e2 .before .too-small .ensures) ∙ e2 .if2 .left) (here (sym (c .before .not-next .ensures) ∙ c .if3 .taken))))
+unfolding ofBlock behind
+returns-3 c = refused (area (c .before .before)) (sym (c .before .not-next .ensures) ∙ c .if3 .taken)
 
 wrong-length-requires : tie.Need-wrong-length-requires
 wrong-length-requires c κs =
-    let w = awaited (c .before .before .before .before) in
+    let w = awaited (c .before .before .before .before .before) in
     (w .size, w .low, w .high)
 
 returns-4 : tie.Need-returns-4
-returns-4 c =
-    let e3 = c .before .before in
-    let e2 = e3 .before .before in
-    let n = e2 .before .before .before in
-    let e1 = n .before in
-    block-found digest valid _ _ _ (n .next-of .ensures)
-    (later (sym (e1 .before .not-loading .ensures) ∙ e1 .if1 .left)
-    (later (sym (e2 .before .too-small .ensures) ∙ e2 .if2 .left)
-    (later (sym (e3 .before .not-next .ensures) ∙ e3 .if3 .left) (here (sym (c .before .wrong-length .ensures) ∙ c .if4 .taken)))))
+unfolding ofBlock behind
+returns-4 c = refused (turn (c .before .before)) (sym (c .before .wrong-length .ensures) ∙ c .if4 .taken)
 
 mismatch-requires : tie.Need-mismatch-requires
 mismatch-requires c κs =
-    let w = awaited (c .before .before .before .before .before .before) in
+    let w = awaited (c .before .before .before .before .before .before .before) in
     (w .size, w .low, w .high, sym (c .before .wrong-length .ensures) ∙ c .if4 .left)
 
 returns-5 : tie.Need-returns-5
-returns-5 c = end (c .before .before) (here (sym (c .before .mismatch .ensures) ∙ c .if5 .taken))
+unfolding ofBlock behind
+returns-5 c = refused (long (c .before .before)) (sym (c .before .mismatch .ensures) ∙ c .if5 .taken)
 
 returns-6 : tie.Need-returns-6
-returns-6 c = end (c .before .before) (later (sym (c .before .mismatch .ensures) ∙ c .if5 .left) passed)
+unfolding ofBlock behind
+returns-6 c = accepted (long (c .before .before) past (sym (c .before .mismatch .ensures) ∙ c .if5 .left))
 
 pub judge-block-spec : {M : Type 1} → statement M
 judge-block-spec =

@@ -1,62 +1,60 @@
 use mathlib.Core.Path.{sym, _∙_}
+use Rattle.wire.specs.declared.refusal.Refusal.{Refusal}
+use Rattle.wire.specs.declared.refusal.Refusal.the-variants as refusal
 use Rattle.machine.specs.Refusals.{ofManifest}
-use Rattle.device.proofs.JudgeLaws.{passed, here, later, found}
+use Rattle.machine.proofs.RefusalLaws.{Passes, start, _past_}
+use Rattle.device.proofs.JudgeLaws.{behind, refused, accepted}
 use borrow.Author.Needs.{needs}
 use Rattle.device.proofs.judge.judge_manifest.Statement.{statement}
 use Rattle.device.proofs.judge.judge_manifest.Tie as tie
+
+-- no test up to that of this refusal applies
+abbrev Past : Refusal → tie.Start → Type 0
+Past r s = let es = ofManifest (s .args .device) (s .args .manifest) in Passes es (behind r es)
+
+version : (c : tie.Else1) → Past refusal.Version (c .before .before)
+unfolding ofManifest behind
+version c = start _ past (sym (c .before .wrong-version .ensures) ∙ c .if1 .left)
+
+size : (c : tie.Else2) → Past refusal.Size (c .before .before .before .before)
+unfolding ofManifest behind
+size c = version (c .before .before) past (sym (c .before .wrong-size .ensures) ∙ c .if2 .left)
+
+model : (c : tie.Else3) → Past refusal.Model (c .before .before .before .before .before .before)
+unfolding ofManifest behind
+model c = size (c .before .before) past (sym (c .before .other-model .ensures) ∙ c .if3 .left)
 
 wrong-version-requires : tie.Need-wrong-version-requires
 wrong-version-requires c κs = search needs
 
 returns : tie.Need-returns
 unfolding ofManifest
-returns c = found (here (sym (c .before .wrong-version .ensures) ∙ c .if1 .taken))
+returns c = refused (start _) (sym (c .before .wrong-version .ensures) ∙ c .if1 .taken)
 
 wrong-size-requires : tie.Need-wrong-size-requires
 wrong-size-requires c κs = search needs
 
 returns-2 : tie.Need-returns-2
-unfolding ofManifest
-returns-2 c =
-    let e1 = c .before .before in
-    found (later (sym (e1 .before .wrong-version .ensures) ∙ e1 .if1 .left) (here (sym (c .before .wrong-size .ensures) ∙ c .if2 .taken)))
+unfolding ofManifest behind
+returns-2 c = refused (version (c .before .before)) (sym (c .before .wrong-size .ensures) ∙ c .if2 .taken)
 
 other-model-requires : tie.Need-other-model-requires
 other-model-requires c κs = search needs
 
 returns-3 : tie.Need-returns-3
-unfolding ofManifest
-returns-3 c =
-    let e2 = c .before .before in
-    let e1 = e2 .before .before in
-    found
-    (later (sym (e1 .before .wrong-version .ensures) ∙ e1 .if1 .left)
-    (later (sym (e2 .before .wrong-size .ensures) ∙ e2 .if2 .left) (here (sym (c .before .other-model .ensures) ∙ c .if3 .taken))))
+unfolding ofManifest behind
+returns-3 c = refused (size (c .before .before)) (sym (c .before .other-model .ensures) ∙ c .if3 .taken)
 
 not-newer-requires : tie.Need-not-newer-requires
 not-newer-requires c κs = search needs
 
 returns-4 : tie.Need-returns-4
-unfolding ofManifest
-returns-4 c =
-    let e3 = c .before .before in
-    let e2 = e3 .before .before in
-    let e1 = e2 .before .before in
-    found
-    (later (sym (e1 .before .wrong-version .ensures) ∙ e1 .if1 .left)
-    (later (sym (e2 .before .wrong-size .ensures) ∙ e2 .if2 .left)
-    (later (sym (e3 .before .other-model .ensures) ∙ e3 .if3 .left) (here (sym (c .before .not-newer .ensures) ∙ c .if4 .taken)))))
+unfolding ofManifest behind
+returns-4 c = refused (model (c .before .before)) (sym (c .before .not-newer .ensures) ∙ c .if4 .taken)
 
 returns-5 : tie.Need-returns-5
-unfolding ofManifest
-returns-5 c =
-    let e3 = c .before .before in
-    let e2 = e3 .before .before in
-    let e1 = e2 .before .before in
-    found
-    (later (sym (e1 .before .wrong-version .ensures) ∙ e1 .if1 .left)
-    (later (sym (e2 .before .wrong-size .ensures) ∙ e2 .if2 .left)
-    (later (sym (e3 .before .other-model .ensures) ∙ e3 .if3 .left) (later (sym (c .before .not-newer .ensures) ∙ c .if4 .left) passed))))
+unfolding ofManifest behind
+returns-5 c = accepted (model (c .before .before) past (sym (c .before .not-newer .ensures) ∙ c .if4 .left))
 
 pub judge-manifest-spec : {M : Type 1} → statement M
 judge-manifest-spec =

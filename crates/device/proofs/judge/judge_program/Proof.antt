@@ -1,17 +1,38 @@
-use mathlib.Core.Path.{sym, _∙_}
-use Rattle.sha256.specs.Sha256.{digest}
+use mathlib.Core.Path.{sym, ap, _∙_}
+use mathlib.Core.Bool.{Bool}
+use mathlib.Core.List.{List}
 use Rattle.lms.specs.Lms.{valid}
+use Rattle.wire.specs.declared.manifest.Manifest.{Manifest}
+use Rattle.wire.specs.declared.refusal.Refusal.{Refusal}
+use Rattle.wire.specs.declared.refusal.Refusal.the-variants as refusal
 use Rattle.wire.specs.Message.{manifestBytes, manifestIn, programSignature}
-use Rattle.machine.specs.declared.state.Answer.the-variants.{Accepted}
-use Rattle.machine.specs.Refusals.{ofManifest}
-use Rattle.device.proofs.JudgeLaws.{Cascade, passed, here, later, cascade, within, behind, program-found, size-passed}
+use Rattle.machine.specs.Refusals.{ofManifest, ofProgram}
+use Rattle.machine.proofs.RefusalLaws.{Passes, _past_}
+use Rattle.device.proofs.JudgeLaws.{behind, retold, refused, accepted, refused-in, past-all, size-passed}
 use borrow.Author.Needs.{needs}
 use Rattle.device.proofs.judge.judge_program.Statement.{statement}
 use Rattle.device.proofs.judge.judge_program.Tie as tie
 
--- the manifest passed its tests
-accepted : (c : tie.After-enum-told) → Cascade (ofManifest (c .before .before .before .before .before .before .args .device) (c .before .before .before .read .result)) Accepted
-accepted c = let j = c .before .before in cascade _ (sym (c .enum-told .given .1) ∙ j .judge-manifest .ensures)
+-- the tests of a message that carries the manifest s
+abbrev tests : tie.Start → Manifest → List (Refusal × Bool)
+tests a s = ofProgram valid (a .args .device) (a .args .flash .now) (a .args .message .now) s
+
+-- with the manifest that was read
+read-is : (c : tie.After-read) → Passes (tests (c .before .before .before) (manifestIn (c .before .before .before .args .message .now))) (tests (c .before .before .before) (c .read .result))
+unfolding manifestIn manifestBytes
+read-is c = retold (ap (tests (c .before .before .before)) (c .read .ensures))
+
+-- no test up to that of this refusal applies
+abbrev Past : Refusal → tie.After-read → Type 0
+Past r c = Passes (tests (c .before .before .before) (manifestIn (c .before .before .before .args .message .now))) (behind r (tests (c .before .before .before) (c .read .result)))
+
+serial : (c : tie.After-enum-told) → Past refusal.Serial (c .before .before .before)
+unfolding ofProgram ofManifest behind
+serial c = let j = c .before .before in past-all (ofManifest (j .before .before .before .before .args .device) (j .before .read .result)) _ (read-is (j .before)) (sym (c .enum-told .given .1) ∙ j .judge-manifest .ensures)
+
+area : (c : tie.Else1) → Past refusal.Area (c .before .before .before .before .before)
+unfolding ofProgram ofManifest behind
+area c = serial (c .before .before) past (sym (c .before .too-small .ensures) ∙ c .if1 .left)
 
 read-requires : tie.Need-read-requires
 read-requires c κs = search needs
@@ -26,38 +47,29 @@ enum-told-2 : tie.Need-enum-told-2
 enum-told-2 c = search needs
 
 returns : tie.Need-returns
-unfolding manifestIn manifestBytes
+unfolding ofProgram
 returns c =
     let j = c .before .before in
-    c .enum-told2 .given .1 ∙ program-found digest valid _ _ _ (j .before .read .ensures) (within _ (cascade _ (sym (c .enum-told2 .given .1) ∙ j .judge-manifest .ensures)))
+    let e = c .enum-told2 .given .1 in
+    e ∙ refused-in (ofManifest (j .before .before .before .before .args .device) (j .before .read .result)) _ (read-is (j .before)) (sym e ∙ j .judge-manifest .ensures)
 
 too-small-requires : tie.Need-too-small-requires
 too-small-requires c κs = let j = c .before .before in size-passed _ _ (j .judge-manifest .ensures) (c .enum-told .given .1)
 
 returns-2 : tie.Need-returns-2
-unfolding manifestIn manifestBytes
-returns-2 c =
-    let j = c .before .before .before .before in
-    program-found digest valid _ _ _ (j .before .read .ensures) (behind (accepted (c .before .before)) (here (sym (c .before .too-small .ensures) ∙ c .if1 .taken)))
+unfolding ofProgram ofManifest behind
+returns-2 c = refused (serial (c .before .before)) (sym (c .before .too-small .ensures) ∙ c .if1 .taken)
 
 unsigned-requires : tie.Need-unsigned-requires
 unsigned-requires c κs = search needs
 
 returns-3 : tie.Need-returns-3
-unfolding manifestIn manifestBytes programSignature
-returns-3 c =
-    let e1 = c .before .before in
-    let t = e1 .before .before in
-    program-found digest valid _ _ _ (t .before .before .before .read .ensures)
-    (behind (accepted t) (later (sym (e1 .before .too-small .ensures) ∙ e1 .if1 .left) (here (sym (c .before .unsigned .ensures) ∙ c .if2 .taken))))
+unfolding ofProgram ofManifest behind programSignature
+returns-3 c = refused (area (c .before .before)) (sym (c .before .unsigned .ensures) ∙ c .if2 .taken)
 
 returns-4 : tie.Need-returns-4
-unfolding manifestIn manifestBytes programSignature
-returns-4 c =
-    let e1 = c .before .before in
-    let t = e1 .before .before in
-    program-found digest valid _ _ _ (t .before .before .before .read .ensures)
-    (behind (accepted t) (later (sym (e1 .before .too-small .ensures) ∙ e1 .if1 .left) (later (sym (c .before .unsigned .ensures) ∙ c .if2 .left) passed)))
+unfolding ofProgram ofManifest behind programSignature
+returns-4 c = accepted (area (c .before .before) past (sym (c .before .unsigned .ensures) ∙ c .if2 .left))
 
 pub judge-program-spec : {M : Type 1} → statement M
 judge-program-spec =

@@ -1,53 +1,65 @@
-use mathlib.Core.Path.{_≡_, sym, ap, ap₂, _∙_, subst}
-use mathlib.Core.List.{[], _∷_}
+use mathlib.Core.Path.{_≡_, sym, ap, ap₂, _∙_}
+use mathlib.Core.Bool.{Bool}
+use mathlib.Core.List.{List}
 use lib.ListN.{length}
 use borrow.Author.Tests.{lt-ltb, le-ltb}
 use Rattle.octets.proofs.CopyLaws.{length-part, part-between}
 use Rattle.sha256.specs.Sha256.{digest}
 use Rattle.lms.specs.Lms.{valid}
-use Rattle.wire.specs.declared.refusal.Refusal.the-variants.{Mismatch}
-use Rattle.wire.specs.Refusal.{firstThatApplies}
+use Rattle.wire.specs.declared.manifest.Manifest.{Manifest}
+use Rattle.wire.specs.declared.refusal.Refusal.{Refusal}
+use Rattle.wire.specs.declared.refusal.Refusal.the-variants as refusal
 use Rattle.wire.specs.Size.{outside}
-use Rattle.wire.specs.Message.{manifestBytes, manifestIn, updateNumber, updateSignature}
-use Rattle.machine.specs.declared.state.Answer.{Answer}
-use Rattle.machine.specs.Refusals.{ofManifest, ofUpdate}
-use Rattle.machine.specs.Answers.{answerOf}
-use Rattle.device.proofs.JudgeLaws.{Cascade, passed, here, later, found, cascade, within, behind, updateEnd, updateRest, update-found, lacks-found, size-passed}
+use Rattle.wire.specs.Message.{manifestBytes, manifestIn, updateNumber, updateBlock, updateSignature}
+use Rattle.machine.specs.Refusals.{withBlock, updated, lacksRoot, ofManifest, ofUpdate}
+use Rattle.machine.proofs.RefusalLaws.{Passes, start, _past_}
+use Rattle.device.proofs.JudgeLaws.{behind, retold, refused, accepted, refused-in, past-all, size-passed}
 use borrow.Author.Needs.{needs}
 use Rattle.device.proofs.judge.judge_update.Statement.{statement}
 use Rattle.device.proofs.judge.judge_update.Tie as tie
 
--- Complete, and the manifest passed its tests: the rest of the list decides.
-rest : (c : tie.After-enum-told) {a : Answer}
-    → Cascade (updateRest digest valid (c .before .before .before .before .before .before .before .before .args .device) (c .before .before .before .before .before .before .before .before .args .flash .now) (c .before .before .before .before .before .before .before .before .args .message .now) (c .before .before .before .read .result)) a
-    → a ≡ answerOf (firstThatApplies (ofUpdate digest valid (c .before .before .before .before .before .before .before .before .args .device) (c .before .before .before .before .before .before .before .before .args .flash .now) (c .before .before .before .before .before .before .before .before .args .message .now)))
-unfolding manifestIn manifestBytes
-rest c k =
-    let j = c .before .before in
-    let e1 = j .before .before in
-    update-found digest valid _ _ _ (j .before .read .ensures)
-    (later (sym (e1 .before .not-complete .ensures) ∙ e1 .if1 .left) (behind (cascade _ (sym (c .enum-told .given .1) ∙ j .judge-manifest .ensures)) k))
+-- the tests of a message that carries the manifest s
+abbrev tests : tie.Start → Manifest → List (Refusal × Bool)
+tests a s = ofUpdate digest valid (a .args .device) (a .args .flash .now) (a .args .message .now) s
 
--- Like the old manifest, room in the flash, and a number in range: the end of the list decides.
-end : (c : tie.Else4) {a : Answer}
-    → Cascade (updateEnd digest valid (c .before .before .before .before .before .before .before .before .before .before .before .before .before .before .before .before .before .args .device) (c .before .before .before .before .before .before .before .before .before .before .before .before .before .before .before .before .before .args .flash .now) (c .before .before .before .before .before .before .before .before .before .before .before .before .before .before .before .before .before .args .message .now) (c .before .before .before .before .before .before .before .before .before .before .before .before .read .result)) a
-    → a ≡ answerOf (firstThatApplies (ofUpdate digest valid (c .before .before .before .before .before .before .before .before .before .before .before .before .before .before .before .before .before .args .device) (c .before .before .before .before .before .before .before .before .before .before .before .before .before .before .before .before .before .args .flash .now) (c .before .before .before .before .before .before .before .before .before .before .before .before .before .before .before .before .before .args .message .now)))
-unfolding updateNumber
-end c k =
-    let o = c .before in
-    let e3 = o .before .before .before in
-    let e2 = e3 .before .before in
-    rest (e2 .before .before .before)
-    (later (sym (e2 .before .unlike .ensures) ∙ e2 .if2 .left)
-    (later (sym (e3 .before .too-small .ensures) ∙ e3 .if3 .left)
-    (later (sym (o .outside .ensures ∙ ap₂ outside (o .before .count .ensures) (o .before .before .u16-at .ensures)) ∙ c .if4 .left) k)))
+-- no test up to that of this refusal applies; the manifest is the one that was read
+abbrev Past : Refusal → tie.After-read → Type 0
+Past r c = Passes (tests (c .before .before .before .before .before) (manifestIn (c .before .before .before .before .before .args .message .now))) (behind r (tests (c .before .before .before .before .before) (c .read .result)))
+
+stage : (c : tie.After-read) → Past refusal.Stage c
+unfolding ofUpdate behind manifestIn manifestBytes
+stage c = retold (ap (tests (c .before .before .before .before .before)) (c .read .ensures)) past (sym (c .before .before .not-complete .ensures) ∙ c .before .if1 .left)
+
+serial : (c : tie.After-enum-told) → Past refusal.Serial (c .before .before .before)
+unfolding ofUpdate ofManifest behind
+serial c = let j = c .before .before in past-all (ofManifest (j .before .before .before .before .before .before .args .device) (j .before .read .result)) _ (stage (j .before)) (sym (c .enum-told .given .1) ∙ j .judge-manifest .ensures)
+
+unlike : (c : tie.Else2) → Past refusal.Unlike (c .before .before .before .before .before .before)
+unfolding ofUpdate ofManifest behind
+unlike c = serial (c .before .before .before) past (sym (c .before .unlike .ensures) ∙ c .if2 .left)
+
+area : (c : tie.Else3) → Past refusal.Area (c .before .before .before .before .before .before .before .before)
+unfolding ofUpdate ofManifest behind
+area c = unlike (c .before .before) past (sym (c .before .too-small .ensures) ∙ c .if3 .left)
+
+turn : (c : tie.Else4) → Past refusal.Turn (c .before .before .before .before .before .before .before .before .before .before .before .before)
+unfolding ofUpdate ofManifest behind updateNumber
+turn c = let o = c .before in area (o .before .before .before) past (sym (o .outside .ensures ∙ ap₂ outside (o .before .count .ensures) (o .before .before .u16-at .ensures)) ∙ c .if4 .left)
+
+long : (c : tie.Else5) → Past refusal.Length (c .before .before .before .before .before .before .before .before .before .before .before .before .before .before)
+unfolding ofUpdate ofManifest behind
+long c = turn (c .before .before) past le-ltb _ _ (c .if5 .left)
+
+signed : (c : tie.Else6) → Past refusal.Unsigned (c .before .before .before .before .before .before .before .before .before .before .before .before .before .before .before .before)
+unfolding ofUpdate ofManifest behind updateSignature
+signed c = long (c .before .before) past (sym (c .before .unsigned .ensures) ∙ c .if6 .left)
 
 not-complete-requires : tie.Need-not-complete-requires
 not-complete-requires c κs = search needs
 
 returns : tie.Need-returns
-unfolding ofManifest ofUpdate
-returns c = found (here (sym (c .before .not-complete .ensures) ∙ c .if1 .taken))
+unfolding ofUpdate
+returns c = refused (start _) (sym (c .before .not-complete .ensures) ∙ c .if1 .taken)
 
 read-requires : tie.Need-read-requires
 read-requires c κs = search needs
@@ -62,19 +74,18 @@ enum-told-2 : tie.Need-enum-told-2
 enum-told-2 c = search needs
 
 returns-2 : tie.Need-returns-2
-unfolding manifestIn manifestBytes
+unfolding ofUpdate behind
 returns-2 c =
     let j = c .before .before in
-    let e1 = j .before .before in
-    c .enum-told2 .given .1
-    ∙ update-found digest valid _ _ _ (j .before .read .ensures)
-    (later (sym (e1 .before .not-complete .ensures) ∙ e1 .if1 .left) (within _ (cascade _ (sym (c .enum-told2 .given .1) ∙ j .judge-manifest .ensures))))
+    let e = c .enum-told2 .given .1 in
+    e ∙ refused-in (ofManifest (j .before .before .before .before .before .before .args .device) (j .before .read .result)) _ (stage (j .before)) (sym e ∙ j .judge-manifest .ensures)
 
 unlike-requires : tie.Need-unlike-requires
 unlike-requires c κs = search needs
 
 returns-3 : tie.Need-returns-3
-returns-3 c = rest (c .before .before .before) (here (sym (c .before .unlike .ensures) ∙ c .if2 .taken))
+unfolding ofUpdate ofManifest behind
+returns-3 c = refused (serial (c .before .before .before)) (sym (c .before .unlike .ensures) ∙ c .if2 .taken)
 
 too-small-requires : tie.Need-too-small-requires
 too-small-requires c κs =
@@ -82,9 +93,8 @@ too-small-requires c κs =
     size-passed _ _ (t .before .before .judge-manifest .ensures) (t .enum-told .given .1)
 
 returns-4 : tie.Need-returns-4
-returns-4 c =
-    let e2 = c .before .before in
-    rest (e2 .before .before .before) (later (sym (e2 .before .unlike .ensures) ∙ e2 .if2 .left) (here (sym (c .before .too-small .ensures) ∙ c .if3 .taken)))
+unfolding ofUpdate ofManifest behind
+returns-4 c = refused (unlike (c .before .before)) (sym (c .before .too-small .ensures) ∙ c .if3 .taken)
 
 u16-at-requires : tie.Need-u16-at-requires
 u16-at-requires c κs = search needs
@@ -101,15 +111,10 @@ outside-requires : tie.Need-outside-requires
 outside-requires c κs = search needs
 
 returns-5 : tie.Need-returns-5
-unfolding updateNumber
+unfolding ofUpdate ofManifest behind updateNumber
 returns-5 c =
     let o = c .before in
-    let e3 = o .before .before .before in
-    let e2 = e3 .before .before in
-    rest (e2 .before .before .before)
-    (later (sym (e2 .before .unlike .ensures) ∙ e2 .if2 .left)
-    (later (sym (e3 .before .too-small .ensures) ∙ e3 .if3 .left)
-    (here (sym (o .outside .ensures ∙ ap₂ outside (o .before .count .ensures) (o .before .before .u16-at .ensures)) ∙ c .if4 .taken))))
+    refused (area (o .before .before .before)) (sym (o .outside .ensures ∙ ap₂ outside (o .before .count .ensures) (o .before .before .u16-at .ensures)) ∙ c .if4 .taken)
 
 cast-end : tie.Need-cast-end
 cast-end c = search needs
@@ -118,16 +123,15 @@ add-end : tie.Need-add-end
 add-end c = search needs
 
 returns-6 : tie.Need-returns-6
-returns-6 c = end (c .before .before) (here (lt-ltb _ _ (c .if5 .taken)))
+unfolding ofUpdate ofManifest behind
+returns-6 c = refused (turn (c .before .before)) (lt-ltb _ _ (c .if5 .taken))
 
 unsigned-requires : tie.Need-unsigned-requires
 unsigned-requires c κs = search needs
 
 returns-7 : tie.Need-returns-7
-unfolding updateSignature
-returns-7 c =
-    let e5 = c .before .before in
-    end (e5 .before .before) (later (le-ltb _ _ (e5 .if5 .left)) (here (sym (c .before .unsigned .ensures) ∙ c .if6 .taken)))
+unfolding ofUpdate ofManifest behind updateSignature
+returns-7 c = refused (long (c .before .before)) (sym (c .before .unsigned .ensures) ∙ c .if6 .taken)
 
 sub-lacks-root : tie.Need-sub-lacks-root
 sub-lacks-root c = search needs
@@ -153,26 +157,21 @@ lacks-root-requires c κs =
       ap length (part-between m 51 (s .read .result .«block_len»)) ∙ length-part m 51 (s .read .result .«block_len») (e5 .if5 .left),
     )
 
--- Signed: the tree's comparison decides.
-last : (c : tie.After-lacks-root) {a : Answer} → Cascade ((Mismatch, c .lacks-root .result) ∷ []) a
-    → a ≡ answerOf (firstThatApplies (ofUpdate digest valid (c .before .before .before .before .before .before .before .before .before .before .before .before .before .before .before .before .before .before .before .before .before .before .before .args .device) (c .before .before .before .before .before .before .before .before .before .before .before .before .before .before .before .before .before .before .before .before .before .before .before .args .flash .now) (c .before .before .before .before .before .before .before .before .before .before .before .before .before .before .before .before .before .before .before .before .before .before .before .args .message .now)))
-unfolding updateSignature updateNumber
-last c {a} k =
-    let e6 = c .before .before in
-    let e5 = e6 .before .before in
-    let e4 = e5 .before .before in
-    let s = e4 .before .before .before .before .before .before .before .before .before .before .before .before in
-    let g = s .before .before .before .before .before .args in
-    end e4
-    (later (le-ltb _ _ (e5 .if5 .left))
-    (later (sym (e6 .before .unsigned .ensures) ∙ e6 .if6 .left)
-    (subst (λ t. Cascade ((Mismatch, t) ∷ []) a) (lacks-found digest (s .read .result) (g .flash .now) (g .message .now) (e4 .before .before .before .u16-at .ensures) (c .lacks-root .ensures)) k)))
+-- the code tests the tree over flash and block as it took them
+rooted : (c : tie.After-lacks-root) → c .lacks-root .result ≡ lacksRoot digest (c .before .before .before .before .before .before .before .before .before .before .before .before .before .before .before .before .before .before .read .result) (updated (c .before .before .before .before .before .before .before .before .before .before .before .before .before .before .before .before .before .before .read .result) (c .before .before .before .before .before .before .before .before .before .before .before .before .before .before .before .before .before .before .before .before .before .before .before .args .flash .now) (c .before .before .before .before .before .before .before .before .before .before .before .before .before .before .before .before .before .before .before .before .before .before .before .args .message .now))
+unfolding updated updateNumber updateBlock
+rooted c =
+    let s = c .before .before .before .before .before .before .before .before .before .before .before .before .before .before .before .before .before .before in
+    c .lacks-root .ensures
+    ∙ ap₂ (λ i b. lacksRoot digest (s .read .result) (withBlock (s .read .result .«block_len») (s .before .before .before .before .before .args .flash .now) i b)) (c .before .before .before .before .before .before .before .before .before .u16-at .ensures) (part-between (s .before .before .before .before .before .args .message .now) 51 (s .read .result .«block_len»))
 
 returns-8 : tie.Need-returns-8
-returns-8 c = last (c .before) (here (c .if7 .taken))
+unfolding ofUpdate ofManifest behind
+returns-8 c = refused (signed (c .before .before .before)) (sym (rooted (c .before)) ∙ c .if7 .taken)
 
 returns-9 : tie.Need-returns-9
-returns-9 c = last (c .before) (later (c .if7 .left) passed)
+unfolding ofUpdate ofManifest behind
+returns-9 c = accepted (signed (c .before .before .before) past (sym (rooted (c .before)) ∙ c .if7 .left))
 
 pub judge-update-spec : {M : Type 1} → statement M
 judge-update-spec =
