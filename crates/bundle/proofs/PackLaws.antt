@@ -17,7 +17,7 @@ use Rattle.octets.proofs.CopyLaws.{part-from}
 use Rattle.sha256.specs.Sha256.{digest}
 use Rattle.merkle.specs.Limits.{maxBlocks}
 use Rattle.merkle.specs.Blocks.{blockCount}
-use Rattle.merkle.specs.Frontier.{messageLength, held}
+use Rattle.merkle.specs.Frontier.{messageLength, heldCount}
 use Rattle.merkle.proofs.ShapeLaws.{lt-or-le}
 use Rattle.merkle.proofs.CountLaws.{held-zero, held-all, held-next}
 use Rattle.wire.specs.Refusal.{firstThatApplies}
@@ -58,7 +58,7 @@ module _ (j : Job) where
 
   -- Each message takes a held hash away and brings those that it carries: before the first the root is held, after the last nothing.
   module _ (z : Sized (j .block) (length (j .image))) where
-    length-some : (i : ℕ) → i ≤ count j → length (blockMessages digest j i) + 32 ≡ i * (35 + j .block) + 32 * held (count j) i
+    length-some : (i : ℕ) → i ≤ count j → length (blockMessages digest j i) + 32 ≡ i * (35 + j .block) + 32 * heldCount (count j) i
     unfolding blockMessages messageLength
     length-some zero h = omega (arith, held-zero (count j))
     length-some (suc i) h =

@@ -12,7 +12,7 @@ use Rattle.merkle.specs.Limits.{heldBytes}
 use Rattle.octets.proofs.CopyLaws.{length-part}
 use Rattle.octets.proofs.NumberLaws.{part-bytes}
 use Rattle.sha256.specs.Sha256.{digest}
-use Rattle.merkle.specs.Frontier.{carried, messageLength}
+use Rattle.merkle.specs.Frontier.{carriedCount, messageLength}
 use Rattle.merkle.proofs.HeldLaws.{length-begun, advance}
 use Rattle.lms.specs.Lms.{valid}
 use Rattle.wire.specs.declared.kind.Kind.{Kind}
@@ -56,7 +56,7 @@ module _ (d : Device) (flash m : List ℕ) (bytes : Bytes m) (f : Fits d) where
       let w = p .awaited in
       let most = sized (d .manifest .«block_len») (d .manifest .«image_len») (w .size) .count in
       let z : suc (pred i) ≡ i = omega arith in
-      let l : length (drop (3 + d .manifest .«block_len») m) ≡ 32 * carried n (suc (pred i)) = rw z (length-drop (3 + d .manifest .«block_len») m ∙ omega (arith, p .long)) in
+      let l : length (drop (3 + d .manifest .«block_len») m) ≡ 32 * carriedCount n (suc (pred i)) = rw z (length-drop (3 + d .manifest .«block_len») m ∙ omega (arith, p .long)) in
       record {
         model = f .model;
         key = f .key;

@@ -16,7 +16,7 @@ use Rattle.merkle.specs.Limits.{maxBlocks, hashLength, heldBytes}
 use Rattle.merkle.specs.Blocks.{cut, overlay}
 use Rattle.merkle.specs.Shape.{shape}
 use Rattle.merkle.specs.Hash.{plain, rootOver}
-use Rattle.merkle.specs.Frontier.{carried, messageLength}
+use Rattle.merkle.specs.Frontier.{carriedCount, messageLength}
 use Rattle.merkle.specs.Held.{fits}
 use Rattle.merkle.proofs.ShapeLaws.{lt-or-le}
 use Rattle.merkle.proofs.TreeLaws.{hash-written}
@@ -81,7 +81,7 @@ not-above a b = go (lt-or-le b a)
 -- a block message that is as long as it should be
 pub record Due (L n i : ℕ) (m : List ℕ) : Type 0 where
   pub long : 3 + L ≤ length m
-  pub rest : length (hashesAfter L m) ≡ hashLength * carried n i
+  pub rest : length (hashesAfter L m) ≡ hashLength * carriedCount n i
 
 pub measured : (s : Manifest) (i : ℕ) (m : List ℕ) → wrongLength s i m ≡ false → length m ≡ messageLength (s .«block_len») (countOf s) i
 unfolding wrongLength
@@ -90,7 +90,7 @@ measured s i m e = eqb-true _ _ (not-false _ e)
 pub due : (s : Manifest) (i : ℕ) (m : List ℕ) → length m ≡ messageLength (s .«block_len») (countOf s) i → Due (s .«block_len») (countOf s) i m
 unfolding messageLength hashesAfter
 due s i m e =
-    let z : length m ≡ 3 + s .«block_len» + hashLength * carried (countOf s) i = e in
+    let z : length m ≡ 3 + s .«block_len» + hashLength * carriedCount (countOf s) i = e in
     record { long = omega arith; rest = length-drop (3 + s .«block_len») m ∙ omega arith }
 
 -- the slices that the code takes of a block message
@@ -102,7 +102,7 @@ pub slice-block : (L : ℕ) (m : List ℕ) → take (3 + L - 3) (drop 3 m) ≡ b
 unfolding blockIn
 slice-block L m = part-between m 3 L
 
-pub rest-long : (s : Manifest) (i n : ℕ) (m : List ℕ) → 0 < i → n ≡ countOf s → length m ≡ messageLength (s .«block_len») (countOf s) i → length (take (length m - (3 + s .«block_len»)) (drop (3 + s .«block_len») m)) ≡ hashLength * carried n (i - 1 + 1)
+pub rest-long : (s : Manifest) (i n : ℕ) (m : List ℕ) → 0 < i → n ≡ countOf s → length m ≡ messageLength (s .«block_len») (countOf s) i → length (take (length m - (3 + s .«block_len»)) (drop (3 + s .«block_len») m)) ≡ hashLength * carriedCount n (i - 1 + 1)
 rest-long s i n m pos en e =
     let z : i - 1 + 1 ≡ i = omega arith in
     ap length (slice-rest (s .«block_len») m) ∙ due s i m e .rest ∙ rw (z, en)

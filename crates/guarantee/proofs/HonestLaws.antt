@@ -14,14 +14,14 @@ use borrow.Author.Tests.{lt-ltb, le-ltb, eq-eqb}
 use Rattle.merkle.specs.Limits.{hashLength, heldBytes}
 use Rattle.merkle.specs.Shape.{shape, depth}
 use Rattle.merkle.specs.Hash.{plain, hashes}
-use Rattle.merkle.specs.Frontier.{messageLength, frontier, held}
+use Rattle.merkle.specs.Frontier.{messageLength, frontier, heldCount}
 use Rattle.merkle.specs.Held.{heldIn, begun, advanced, fits}
 use Rattle.merkle.proofs.ShapeLaws.{lt-or-le}
 use Rattle.merkle.proofs.HashLaws.{length-hashes}
 use Rattle.merkle.proofs.CountLaws.{held-depth}
 use Rattle.merkle.proofs.HeldLaws.{begun-held, length-begun, all-held}
 use Rattle.merkle.proofs.LoadingLaws.{hashes-zero}
-use Rattle.merkle.proofs.RunLaws.{Honest, honest}
+use Rattle.merkle.proofs.FitsLaws.{SentFits, sent-fits}
 use Rattle.wire.specs.declared.kind.Kind.the-variants.{Program, Block}
 use Rattle.wire.specs.declared.manifest.Manifest.{Manifest}
 use Rattle.wire.specs.Size.{outside}
@@ -60,8 +60,8 @@ module _ (H : List ℕ → List ℕ) (hash-long : (x : List ℕ) → length (H x
   -- the sender's next block, to a device that loads the job
   module _ (j : ℕ) (array : List ℕ) (below : j < count job) (array-long : length array ≡ heldBytes)
       (holds : heldIn (count job) j array ≡ hashes (plain H) (blocks job) (frontier 0 (shape (count job)) j)) where
-    run : Honest (plain H) hash-long (count job) (blocks job) j array
-    run = honest (plain H) hash-long (count job) (blocks job) j array below (count-most H hash-long job ok) array-long holds
+    run : SentFits (plain H) hash-long (count job) (blocks job) j array
+    run = sent-fits (plain H) hash-long (count job) (blocks job) j array below (count-most H hash-long job ok) array-long holds
 
     is-sent : Sent H hash-long job ok j (blockFor H job (suc j))
     is-sent = block-sent H hash-long job ok j below
@@ -146,7 +146,7 @@ module _ (H : List ℕ → List ℕ) (hash-long : (x : List ℕ) → length (H x
             (sym (all-held (count job) (s .device .hashes) (count-some H hash-long job ok)) ∙ ap (λ x. heldIn (count job) x (s .device .hashes)) (sym e) ∙ w .holds)
 
     pub held-few : length (heldBy (s .device)) ≤ max 1 (depth (count job))
-    unfolding held
+    unfolding heldCount
     held-few = rw (holding, length-hashes (plain H) (blocks job) (frontier 0 (shape (count job)) j)) (held-depth (count job) j (count-some H hash-long job ok))
 
     pub none-held : j ≡ count job → heldBy (s .device) ≡ []

@@ -14,13 +14,13 @@ use Rattle.octets.specs.Octets.{part}
 use Rattle.merkle.specs.Limits.{maxBlocks, hashLength, heldBytes}
 use Rattle.merkle.specs.Blocks.{blockCount, cut}
 use Rattle.merkle.specs.Shape.{shape}
-use Rattle.merkle.specs.Frontier.{carried, messageLength}
+use Rattle.merkle.specs.Frontier.{carriedCount, messageLength}
 use Rattle.merkle.specs.Held.{heldIn, advanced, fits}
 use Rattle.merkle.specs.Hash.{plain}
 use Rattle.merkle.proofs.ShapeLaws.{lt-or-le, size-shape}
 use Rattle.merkle.proofs.HeldLaws.{begun-held, length-begun, all-held, advance}
 use Rattle.merkle.proofs.LoadingLaws.{Loaded, loaded-start, loaded-end}
-use Rattle.merkle.proofs.RunLaws.{loaded-fits}
+use Rattle.merkle.proofs.FitsLaws.{loaded-fits}
 use Rattle.wire.specs.declared.kind.Kind.the-variants.{Program, Block, Update}
 use Rattle.wire.specs.declared.manifest.Manifest.{Manifest}
 use Rattle.wire.specs.Size.{wrongSize}
@@ -158,7 +158,7 @@ module _ (H : List ℕ → List ℕ) (valid : (key message signature : List ℕ)
       unfolding blockIn messageLength
       block-long = length-take-le (s .«block_len») (drop 3 m) (rw (length-drop 3 m) (omega arith))
 
-      message-long : length message ≡ hashLength * carried n (suc k)
+      message-long : length message ≡ hashLength * carriedCount n (suc k)
       unfolding hashesAfter messageLength
       message-long = length-drop (3 + s .«block_len») m ∙ omega arith
 

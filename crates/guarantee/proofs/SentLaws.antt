@@ -12,7 +12,7 @@ use Rattle.merkle.specs.Frontier.{messageLength}
 use Rattle.merkle.specs.Held.{sent}
 use Rattle.merkle.specs.Hash.{plain}
 use Rattle.merkle.proofs.HashLaws.{length-hash}
-use Rattle.merkle.proofs.RunLaws.{length-sent}
+use Rattle.merkle.proofs.FitsLaws.{length-sent}
 use Rattle.wire.specs.declared.kind.Kind.the-variants.{Block}
 use Rattle.wire.specs.Manifest.{read, written}
 use Rattle.wire.specs.Image.{filled}

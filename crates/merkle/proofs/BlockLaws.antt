@@ -9,16 +9,11 @@ use lib.ListN.{length, take, drop, length-take, length-drop, take-append-drop, d
 use lib.Seq.{paste, take-add, take-all, take-at, drop-drop, take-append-le, drop-append-le, drop-append-add, length-take-le, length-paste, length-paste-head}
 use borrow.Author.Tests.{eq-eqb, ne-eqb}
 use Rattle.merkle.specs.Blocks.{blockCount, cut, overlay}
+use Rattle.merkle.specs.Claims.{Rounded, CountRounded}
 use Rattle.octets.proofs.CopyLaws.{paste-from}
 use Rattle.merkle.proofs.ShapeLaws.{lt-or-le}
 
--- The count n of blocks is T/L rounded up: all but the last are full, and all together hold the T bytes.
-pub record Rounded (L T n : ℕ) : Type 0 where
-  pub some : 0 < n
-  pub below : (n - 1) * L < T
-  pub enough : T ≤ n * L
-
-pub block-count : (L T : ℕ) → 0 < L → 0 < T → Rounded L T (blockCount L T)
+pub block-count : CountRounded
 unfolding blockCount
 block-count L T pos some = go ((T + (L - 1)) / L) (div-add-mod' (T + (L - 1)) L) (mod-lt (T + (L - 1)) pos)
   where
@@ -47,14 +42,11 @@ pub take-blocks : (L : ℕ) (a : List ℕ) (n : ℕ) → take (suc n * L) a ≡ 
 unfolding cut
 take-blocks L a n = let e : suc n * L ≡ n * L + L = omega arith in rw e (take-add (n * L) L a)
 
--- Equal blocks mean equal bytes; so too where the bytes end within the last block.
+-- Equal blocks mean equal bytes.
 pub blocks-equal : (L : ℕ) (a b : List ℕ) (n : ℕ) → ((j : ℕ) → j < n → cut L a j ≡ cut L b j) → take (n * L) a ≡ take (n * L) b
 blocks-equal L a b zero e = let z : 0 * L ≡ 0 = omega arith in rw z
 blocks-equal L a b (suc n) e =
     take-blocks L a n ∙ ap₂ {C = List ℕ} (λ u v. u ++ v) (blocks-equal L a b n (λ j g. e j (omega arith))) (e n (omega arith)) ∙ sym (take-blocks L b n)
-
-pub blocks-equal-all : (L : ℕ) (a b : List ℕ) (n : ℕ) → length a ≤ n * L → length b ≤ n * L → ((j : ℕ) → j < n → cut L a j ≡ cut L b j) → a ≡ b
-blocks-equal-all L a b n la lb e = sym (take-all (n * L) a la) ∙ blocks-equal L a b n e ∙ take-all (n * L) b lb
 
 -- A block x, as long as the one it replaces, is written at its place.
 module _ (L : ℕ) (a x : List ℕ) (i : ℕ) (room : i * L ≤ length a) (long : length x ≡ length (cut L a i)) where

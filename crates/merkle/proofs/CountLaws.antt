@@ -7,11 +7,12 @@ use native.Mathlib.Omega.{arith}
 use lib.Dec.{lit≤}
 use lib.ListN.{length, length-append}
 use Rattle.merkle.specs.Limits.{maxBlocks, maxHeld, hashLength}
-use Rattle.merkle.specs.Shape.{Shape, leaf, node, size, depth, split, shape}
-use Rattle.merkle.specs.Frontier.{rightSiblings, siblings, frontier, carried, messageLength, held}
+use Rattle.merkle.specs.Shape.{Shape, leaf, node, size, height, depth, split, shape}
+use Rattle.merkle.specs.Frontier.{rightSiblings, siblings, frontier, carriedCount, messageLength, heldCount}
 use Rattle.merkle.specs.Hash.{plain}
-use Rattle.merkle.proofs.ShapeLaws.{lt-or-le, shape-leaf, size-shape, depth-fits, depth-least, height, height-node, height-shape, halves, size-left, size-right}
-use Rattle.merkle.proofs.FrontierLaws.{on-halves, largest-zero, largest-left, largest-right, frontier-zero, frontier-leaf, frontier-left, frontier-right, frontier-all, Next, next}
+use Rattle.merkle.specs.Claims.{Next}
+use Rattle.merkle.proofs.ShapeLaws.{lt-or-le, shape-leaf, size-shape, depth-least, height-node, depth-known, halves, size-left, size-right}
+use Rattle.merkle.proofs.FrontierLaws.{on-halves, largest-zero, largest-left, largest-right, frontier-zero, frontier-leaf, frontier-left, frontier-right, frontier-all, next}
 use Rattle.merkle.proofs.HashLaws.{Same, length-hashes, siblings-same, frontier-same}
 
 -- Counts do not depend on where a tree stands.
@@ -34,49 +35,49 @@ module _ (o : ℕ) (s : Shape) (i : ℕ) where
   frontier-count =
       sym (length-hashes (plain id) nothing (frontier o s i)) ∙ ap length (frontier-same (plain id) o s i same) ∙ length-hashes (plain id) nothing (frontier 0 s i)
 
-pub held-zero : (n : ℕ) → held n 0 ≡ 1
-unfolding held
+pub held-zero : (n : ℕ) → heldCount n 0 ≡ 1
+unfolding heldCount
 held-zero n = ap length (frontier-zero 0 (shape n))
 
-pub held-all : (n : ℕ) → 0 < n → held n n ≡ 0
-unfolding held
+pub held-all : (n : ℕ) → 0 < n → heldCount n n ≡ 0
+unfolding heldCount
 held-all n h = ap (λ k. length (frontier 0 (shape n) k)) (sym (size-shape n h)) ∙ ap length (frontier-all 0 (shape n))
 
-pub carried-leaf : (n : ℕ) → n ≤ 1 → carried n 1 ≡ 0
-unfolding carried siblings
+pub carried-leaf : (n : ℕ) → n ≤ 1 → carriedCount n 1 ≡ 0
+unfolding carriedCount siblings
 carried-leaf n h = rw (shape-leaf n h, largest-zero 0 leaf) (unfold rightSiblings in refl)
 
 -- The tree over n blocks, n above 1, from its halves, k the split.
 module _ (n k : ℕ) (big : 1 < n) (is : k ≡ split n) where
-  pub carried-first : carried n 1 ≡ carried k 1 + 1
-  unfolding carried siblings
+  pub carried-first : carriedCount n 1 ≡ carriedCount k 1 + 1
+  unfolding carriedCount siblings
   carried-first =
       rw (halves n k big is, largest-zero 0 (node (shape k) (shape (n - k))), largest-zero 0 (shape k))
       (unfold rightSiblings in length-append (rightSiblings 0 (shape k)) ((0 + size (shape k), shape (n - k)) ∷ []))
 
   module _ (i : ℕ) (pos : 0 < i) (low : i < k) where
-    pub held-left : held n i ≡ held k i + 1
-    unfolding held
+    pub held-left : heldCount n i ≡ heldCount k i + 1
+    unfolding heldCount
     held-left =
         let w = size-left n k big is in
         rw (halves n k big is, frontier-left 0 (shape k) (shape (n - k)) i pos (omega arith))
         (length-append (frontier 0 (shape k) i) ((0 + size (shape k), shape (n - k)) ∷ []))
 
-    pub carried-left : carried n (suc i) ≡ carried k (suc i)
-    unfolding carried siblings
+    pub carried-left : carriedCount n (suc i) ≡ carriedCount k (suc i)
+    unfolding carriedCount siblings
     carried-left = let w = size-left n k big is in rw (halves n k big is, largest-left 0 (shape k) (shape (n - k)) i pos (omega arith))
 
   module _ (i : ℕ) (high : k ≤ i) (lt : i < n) where
-    pub held-right : held n i ≡ held (n - k) (i - k)
-    unfolding held
+    pub held-right : heldCount n i ≡ heldCount (n - k) (i - k)
+    unfolding heldCount
     held-right =
         let w = size-left n k big is in
         let v = size-right n k big is in
         rw (halves n k big is, frontier-right 0 (shape k) (shape (n - k)) i (omega arith), size-left n k big is)
         (frontier-count (0 + k) (shape (n - k)) (i - k))
 
-    pub carried-right : carried n (suc i) ≡ carried (n - k) (suc (i - k))
-    unfolding carried
+    pub carried-right : carriedCount n (suc i) ≡ carriedCount (n - k) (suc (i - k))
+    unfolding carriedCount
     carried-right =
         let w = size-left n k big is in
         let v = size-right n k big is in
@@ -88,13 +89,13 @@ module _ (n i : ℕ) (h : i < n) where
   after : Next 0 (shape n) i
   after = next 0 (shape n) i (rw (size-shape n (omega arith)) h)
 
-  pub held-next : held n (suc i) + 1 ≡ carried n (suc i) + held n i
-  unfolding held carried
+  pub held-next : heldCount n (suc i) + 1 ≡ carriedCount n (suc i) + heldCount n i
+  unfolding heldCount carriedCount
   held-next =
       rw (after .then, after .first, length-append (siblings 0 (shape n) i) (after .others)) (omega arith)
 
-  pub held-pos : 0 < held n i
-  unfolding held
+  pub held-pos : 0 < heldCount n i
+  unfolding heldCount
   held-pos = rw (after .first) (omega arith)
 
 -- After a block no more are held than the tree is high.
@@ -109,11 +110,11 @@ frontier-height =
     (λ (w : i - size l ≤ 0). let z : i - size l ≡ 0 = omega arith in rw (z, frontier-zero (o + size l) r) (omega (arith, height-node l r))) (lt-or-le 0 (i - size l))))
 
 -- At most as many hashes are held as the tree is deep, and one at depth 0.
-pub held-depth : (n i : ℕ) → 0 < n → held n i ≤ max 1 (depth n)
+pub held-depth : (n i : ℕ) → 0 < n → heldCount n i ≤ max 1 (depth n)
 held-depth n zero pos = omega (arith, held-zero n)
-held-depth n (suc i) pos = unfold held in omega (arith, frontier-height 0 (shape n) (suc i) (omega arith), height-shape n (depth n) pos (depth-fits n))
+held-depth n (suc i) pos = unfold heldCount in omega (arith, frontier-height 0 (shape n) (suc i) (omega arith), depth-known n .2 pos)
 
-pub held-most : (n i : ℕ) → 0 < n → n ≤ maxBlocks → held n i ≤ maxHeld
+pub held-most : (n i : ℕ) → 0 < n → n ≤ maxBlocks → heldCount n i ≤ maxHeld
 held-most n i pos h = omega (arith, held-depth n i pos, depth-least n maxHeld (omega (arith, limit)))
   where
     limit : maxBlocks ≤ 2 ^ maxHeld
@@ -121,9 +122,9 @@ held-most n i pos h = omega (arith, held-depth n i pos, depth-least n maxHeld (o
 
 -- Counts in use: one is held, and those that come have room in the array.
 pub record Room (n i : ℕ) : Type 0 where
-  pub some : 0 < held n i
-  pub most : held n i ≤ maxHeld
-  pub enough : carried n (suc i) + held n i ≤ suc maxHeld
+  pub some : 0 < heldCount n i
+  pub most : heldCount n i ≤ maxHeld
+  pub enough : carriedCount n (suc i) + heldCount n i ≤ suc maxHeld
 
 pub room : (n i : ℕ) → i < n → n ≤ maxBlocks → Room n i
 room n i h le =
@@ -135,19 +136,19 @@ room n i h le =
 
 -- Both counts, as the code gives them.
 abbrev pub Counted : ℕ → ℕ → ℕ → ℕ → Type 0
-Counted n i h c = (h ≡ held n i) × (c ≡ carried n (i + 1))
+Counted n i h c = (h ≡ heldCount n i) × (c ≡ carriedCount n (i + 1))
 
 pub counted-most : (n i h c : ℕ) → i < n → n ≤ maxBlocks → Counted n i h c → (0 < h) × (h ≤ maxHeld) × (c + h ≤ suc maxHeld)
 counted-most n i h c lt le e =
     let k = room n i lt le in
     let z : i + 1 ≡ suc i = omega arith in
-    let f : c ≡ carried n (suc i) = e .1 ∙ ap (carried n) z in
+    let f : c ≡ carriedCount n (suc i) = e .1 ∙ ap (carriedCount n) z in
     let some = k .some in
     let most = k .most in
     let enough = k .enough in
     (omega arith, omega arith, omega arith)
 
 -- the bytes of a block message, from the count of hashes that it carries
-pub message-length : (L n i c : ℕ) → 0 < i → c ≡ carried n (i - 1 + 1) → 3 + L + hashLength * c ≡ messageLength L n i
+pub message-length : (L n i c : ℕ) → 0 < i → c ≡ carriedCount n (i - 1 + 1) → 3 + L + hashLength * c ≡ messageLength L n i
 unfolding messageLength
-message-length L n i c pos e = let z : i - 1 + 1 ≡ i = omega arith in ap (λ x. 3 + L + hashLength * x) (e ∙ ap (carried n) z)
+message-length L n i c pos e = let z : i - 1 + 1 ≡ i = omega arith in ap (λ x. 3 + L + hashLength * x) (e ∙ ap (carriedCount n) z)

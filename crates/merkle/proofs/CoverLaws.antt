@@ -7,7 +7,8 @@ use native.Mathlib.Nat.{add-zero}
 use native.Mathlib.Omega.{arith}
 use lib.ListN.{length, length-append}
 use Rattle.merkle.specs.Shape.{Shape, leaf, node, size, Place, places}
-use Rattle.merkle.specs.Frontier.{largest, frontier, Covers}
+use Rattle.merkle.specs.Frontier.{largest, frontier}
+use Rattle.merkle.specs.Claims.{Largest, LargestSubtree, Covers, FrontierFewest}
 use Rattle.merkle.proofs.ShapeLaws.{lt-or-le, size-pos, size-leaf, size-node}
 use Rattle.merkle.proofs.FrontierLaws.{on-halves, largest-zero, largest-left, largest-right, frontier-zero, frontier-leaf, frontier-left, frontier-right, frontier-all}
 
@@ -57,17 +58,11 @@ module _ (o : ℕ) (l r : Shape) (p : Place) (m : List·Memᴰ p (places o (node
       (λ w. ⊎-elim (λ v. absurd (let i = inside o l p v in omega (arith, size-pos (p .1)))) (λ v. v) w)
       (place-cases o l r p m)
 
--- The largest subtree that starts with the block after the first i.
-pub record Largest (o : ℕ) (s : Shape) (i : ℕ) (p : Place) : Type 0 where
-  pub within : List·Memᴰ p (places o s)
-  pub starts : p .0 ≡ o + i
-  pub most : (q : Place) → List·Memᴰ q (places o s) → q .0 ≡ o + i → size (q .1) ≤ size (p .1)
-
 largest-first : (o : ℕ) (s : Shape) → Largest o s 0 (largest o s 0)
 largest-first o s =
     rw (largest-zero o s) (record { within = itself o s; starts = sym (add-zero o); most = λ q m e. let i = inside o s q m in omega arith })
 
-pub largest-is : (o : ℕ) (s : Shape) (i : ℕ) → i < size s → Largest o s i (largest o s i)
+pub largest-is : LargestSubtree
 largest-is =
     on-halves (λ o s i. i < size s → Largest o s i (largest o s i)) (λ o s h. largest-first o s) (λ o i p h. absurd (omega (arith, size-leaf)))
     (λ o l r i p q ih h.
@@ -110,7 +105,7 @@ module _ {w : List Place} where
 covers-zero : (o : ℕ) (s : Shape) → Covers (places o s) (o + 0) (o + size s) (frontier o s 0)
 covers-zero o s = rw (frontier-zero o s, add-zero o) (covers-behind {ps = []} (o, s) (itself o s) refl (omega arith) (covers-none o))
 
-pub exactly : (o : ℕ) (s : Shape) (i : ℕ) → i ≤ size s → Covers (places o s) (o + i) (o + size s) (frontier o s i)
+exactly : (o : ℕ) (s : Shape) (i : ℕ) → i ≤ size s → Covers (places o s) (o + i) (o + size s) (frontier o s i)
 exactly =
     on-halves (λ o s i. i ≤ size s → Covers (places o s) (o + i) (o + size s) (frontier o s i)) (λ o s h. covers-zero o s)
     (λ o i p h. let e : i ≡ size leaf = omega (arith, size-leaf) in rw (e, frontier-all o leaf) (covers-none (o + size leaf)))
@@ -195,7 +190,9 @@ reached =
     let from = k .3 in
     (k .0, k .1, in-right o l r (k .0) (k .2) (omega (arith, size-pos l)) (omega arith), omega arith, k .4, k .5))))
 
--- No fewer subtrees cover exactly these blocks, in any order, overlapping or not.
-pub fewest : (o : ℕ) (s : Shape) (i : ℕ) (ps : List Place) → i ≤ size s → Covers (places o s) (o + i) (o + size s) ps → length (frontier o s i) ≤ length ps
-fewest o s i ps h c =
-    reached o s i h ps (λ j g u. let k = c .all j g u in (k .0, k .1, c .within (k .0) (k .1), c .only (k .0) (k .1) .0, k .2, k .3))
+pub frontier-fewest : FrontierFewest
+frontier-fewest o s i h =
+    record {
+      exactly = exactly o s i h;
+      fewest = λ ps c. reached o s i h ps (λ j g u. let k = c .all j g u in (k .0, k .1, c .within (k .0) (k .1), c .only (k .0) (k .1) .0, k .2, k .3));
+    }

@@ -14,7 +14,7 @@ use Rattle.merkle.specs.Path.{pathSiblings, way, besideInput, ascend, pa
 use Rattle.merkle.proofs.ShapeLaws.{lt-or-le, size-pos}
 use Rattle.merkle.proofs.FrontierLaws.{next}
 use Rattle.merkle.proofs.HashLaws.{climb-last, hash-climb}
-use Rattle.merkle.proofs.LoadingLaws.{Step, step, hashes-zero}
+use Rattle.merkle.proofs.LoadingLaws.{NextHashes, next-hashes, hashes-zero}
 use Rattle.merkle.proofs.PathLaws.{down-left, length-last, length-way, path-node}
 use Rattle.merkle.proofs.PathBindingLaws.{last-of, path-binding}
 
@@ -60,8 +60,8 @@ module _ (H : Hashing) where
       t : Shape
       t = largest 0 s i .1
 
-      k : Step H f s i
-      k = step H f s i h
+      k : NextHashes H f s i
+      k = next-hashes H f s i h
 
       both : climb H (f i) (hashes H f (siblings 0 s i)) ∷ k .others ≡ climb H (after i) message ∷ held
       both = sym (k .first) ∙ agrees .hashes-are

@@ -9,6 +9,7 @@ use native.Mathlib.Omega.{arith}
 use borrow.Author.Tests.{lt-ltb, le-ltb}
 use Rattle.merkle.specs.Shape.{Shape, leaf, node, size, Place}
 use Rattle.merkle.specs.Frontier.{largest, rightSiblings, siblings, frontier}
+use Rattle.merkle.specs.Claims.{Next, FrontierNext}
 use Rattle.merkle.proofs.ShapeLaws.{lt-or-le, size-pos, size-leaf, size-node}
 
 -- What holds before a tree's first block and past a single one, and of a node where it holds in the half that i blocks reach into, holds throughout.
@@ -83,13 +84,6 @@ frontier-one o leaf = frontier-leaf o 1 (omega arith)
 frontier-one o (node l r) =
     frontier-left o l r 1 (omega arith) (size-pos l) ∙ ap (λ (x : List Place). x ++ ((o + size l, r) ∷ [])) (frontier-one o l)
 
--- The frontier after i blocks, i below all, begins with the largest subtree that starts there; after one block more its right siblings are in its place.
-pub record Next (o : ℕ) (s : Shape) (i : ℕ) : Type 0 where
-  pub others : List Place
-  pub first : frontier o s i ≡ largest o s i ∷ others
-  pub starts : largest o s i .0 ≡ o + i
-  pub then : frontier o s (suc i) ≡ siblings o s i ++ others
-
 next-zero : (o : ℕ) (s : Shape) → Next o s 0
 unfolding siblings
 next-zero o s =
@@ -100,7 +94,7 @@ next-zero o s =
       then = rw (largest-zero o s) (frontier-one o s ∙ sym (append-nil (rightSiblings o s)));
     }
 
-pub next : (o : ℕ) (s : Shape) (i : ℕ) → i < size s → Next o s i
+pub next : FrontierNext
 unfolding siblings
 next =
     on-halves (λ o s i. i < size s → Next o s i) (λ o s h. next-zero o s) (λ o i p h. absurd (omega (arith, size-leaf)))

@@ -5,10 +5,10 @@ use Prim.Native.Nat.{ℕ, suc, _+_, _<_}
 use native.Mathlib.Nat.{add-zero, add-assoc}
 use native.Mathlib.Omega.{arith}
 use lib.ListN.{length}
-use Rattle.merkle.specs.Limits.{hashLength}
 use Rattle.merkle.specs.Shape.{Shape, leaf, node, size, Place}
 use Rattle.merkle.specs.Hash.{Hashing, leafHash, nodeHash, hash, hashes, input, climbFrom, climb}
 use Rattle.merkle.specs.Frontier.{largest, rightSiblings, siblings, frontier}
+use Rattle.merkle.specs.Claims.{HashesLong, Climbed}
 use Rattle.merkle.proofs.ShapeLaws.{size-pos, size-node}
 use Rattle.merkle.proofs.FrontierLaws.{on-halves, largest-zero, largest-left, largest-right, frontier-zero, frontier-leaf, frontier-left, frontier-right}
 
@@ -98,15 +98,14 @@ module _ (H : Hashing) where
   climb-last x [] y = refl
   climb-last x (z ∷ ys) y = climb-last (nodeHash H x z) ys y
 
-  -- A tree's hash is worked out from its first block and the right siblings above that.
-  pub hash-climb : (f : ℕ → List ℕ) (o : ℕ) (s : Shape) → hash H f o s ≡ climb H (f o) (hashes H f (rightSiblings o s))
-  unfolding climb climbFrom rightSiblings hashes hash
-  hash-climb f o leaf = refl
-  hash-climb f o (node l r) =
-      ap (λ x. nodeHash H x (hash H f (o + size l) r)) (hash-climb f o l)
-      ∙ sym (climb-last (leafHash H (f o)) (hashes H f (rightSiblings o l)) (hash H f (o + size l) r))
-      ∙ ap (climbFrom H (leafHash H (f o))) (sym (hashes-last f (rightSiblings o l) (o + size l) r))
+-- A tree's hash is worked out from its first block and the right siblings above that.
+pub hash-climb : Climbed
+unfolding climb climbFrom rightSiblings hashes hash
+hash-climb H f o leaf = refl
+hash-climb H f o (node l r) =
+    ap (λ x. nodeHash H x (hash H f (o + size l) r)) (hash-climb H f o l)
+    ∙ sym (climb-last H (leafHash H (f o)) (hashes H f (rightSiblings o l)) (hash H f (o + size l) r))
+    ∙ ap (climbFrom H (leafHash H (f o))) (sym (hashes-last H f (rightSiblings o l) (o + size l) r))
 
-  module _ (sized : (x : List ℕ) → length (H .function x) ≡ hashLength) where
-    pub length-hash : (f : ℕ → List ℕ) (o : ℕ) (s : Shape) → length (hash H f o s) ≡ hashLength
-    length-hash f o s = ap length (hash-input f o s) ∙ sized (input H f o s)
+pub length-hash : HashesLong
+length-hash H sized f o s = ap length (hash-input H f o s) ∙ sized (input H f o s)

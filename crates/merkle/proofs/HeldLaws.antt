@@ -1,17 +1,17 @@
 -- The flat array: what is held before and after a message's hashes took the place of the first.
 use mathlib.Core.Path.{_≡_, refl, ap, ap₂, _∙_}
 use mathlib.Core.Bool.{Bool}
-use mathlib.Core.List.{List, [], _∷_, _++_}
+use mathlib.Core.List.{List, [], _∷_, _++_, append-assoc}
 use Prim.Native.Nat.{ℕ, zero, suc, _+_, _-_, _*_, _/_, _≤_, _<_}
 use native.Mathlib.Omega.{arith}
 use lib.ListN.{length, take, drop, replicate, length-drop, length-append, length-replicate}
-use lib.Seq.{paste, length-paste, drop-drop, take-append-le, drop-append-le, take-at, drop-at, take-all}
+use lib.Seq.{paste, length-take-le, drop-drop, take-length, take-append-le, drop-append-le, take-at, drop-at, take-all}
 use Rattle.octets.specs.Octets.{joined, equal}
 use Rattle.merkle.specs.Limits.{hashLength, maxBlocks, heldBytes}
 use Rattle.merkle.specs.Hash.{Hashing, climb}
-use Rattle.merkle.specs.Frontier.{carried, held}
+use Rattle.merkle.specs.Frontier.{carriedCount, heldCount}
 use Rattle.merkle.specs.Held.{hashesIn, heldStart, heldIn, nextHeld, begun, advanced, fits}
-use Rattle.octets.proofs.CopyLaws.{paste-from}
+use Rattle.merkle.specs.Claims.{Advance, ArrayAdvance}
 use Rattle.merkle.proofs.CountLaws.{held-zero, held-all, held-next, room, Counted, counted-most}
 
 pub length-hashesIn : (c : ℕ) (bytes : List ℕ) → length (hashesIn c bytes) ≡ c
@@ -64,27 +64,21 @@ pub all-held : (n : ℕ) (array : List ℕ) → 0 < n → heldIn n n array ≡ [
 unfolding heldIn hashesIn
 all-held n array pos = rw (held-all n pos)
 
--- The message's hashes take the place of the first held one, and the others stay.
-pub record Advance (n i : ℕ) (array message : List ℕ) : Type 0 where
-  pub others : List (List ℕ)
-  pub first : heldIn n i array ≡ nextHeld n i array ∷ others
-  pub then : heldIn n (suc i) (advanced n i array message) ≡ hashesIn (carried n (suc i)) message ++ others
-  pub size : length (advanced n i array message) ≡ heldBytes
-
-pub advance : (n i : ℕ) (array message : List ℕ) → i < n → n ≤ maxBlocks → length array ≡ heldBytes → length message ≡ hashLength * carried n (suc i)
-    → Advance n i array message
+pub advance : ArrayAdvance
 unfolding heldIn nextHeld advanced heldStart hashesIn
-advance n i array message h le la lm = go (held n i) refl
+advance n i array message h le la lm = go (heldCount n i) refl
   where
-    go : (m : ℕ) → held n i ≡ m → Advance n i array message
+    go : (m : ℕ) → heldCount n i ≡ m → Advance n i array message
     go zero e = absurd (let k = room n i h le in let some = k .some in omega arith)
     go (suc m) e =
         let k = room n i h le in
         let most = k .most in
         let enough = k .enough in
-        let now : held n (suc i) ≡ carried n (suc i) + m = omega (arith, held-next n i h) in
-        let at : heldBytes - hashLength * (carried n (suc i) + m) ≡ heldBytes - hashLength * suc m + hashLength - length message = omega arith in
-        let end : heldBytes - hashLength * suc m + hashLength - length message + length message ≡ heldBytes - hashLength * suc m + hashLength = omega arith in
+        let now : heldCount n (suc i) ≡ carriedCount n (suc i) + m = omega (arith, held-next n i h) in
+        let end = heldBytes - hashLength * suc m + hashLength in
+        let front = take (end - length message) array in
+        let at : heldBytes - hashLength * (carriedCount n (suc i) + m) ≡ end - length message = omega arith in
+        let long : length front ≡ end - length message = length-take-le (end - length message) array (omega arith) in
         record {
           others = hashesIn m (drop hashLength (drop (heldBytes - hashLength * suc m) array));
           first = rw e;
@@ -92,18 +86,18 @@ advance n i array message h le la lm = go (held n i) refl
             now,
             e,
             at,
-            paste-from array message (heldBytes - hashLength * suc m + hashLength - length message) (omega arith),
-            end,
-            hashesIn-append (carried n (suc i)) m message (drop (heldBytes - hashLength * suc m + hashLength) array) lm,
+            append-assoc front message (drop end array),
+            drop-at front (message ++ drop end array) (end - length message) long,
+            hashesIn-append (carriedCount n (suc i)) m message (drop end array) lm,
             drop-drop hashLength (heldBytes - hashLength * suc m) array,
           );
-          size = rw e (length-paste array (heldBytes - hashLength * suc m + hashLength - length message) message (length message) (omega arith) (omega arith) ∙ la);
+          size = rw e (simp (length-append, long, length-drop) (omega arith));
         }
 
 -- What the code of `next_at`, `fits` and `advance` works out.
 pub start-is : (n i h c : ℕ) → i < n → n ≤ maxBlocks → Counted n i h c
     → (heldBytes - hashLength * h ≡ heldStart n i) × (heldBytes - hashLength * h + hashLength ≤ heldBytes)
-    × (hashLength * carried n (i + 1) ≤ heldBytes - hashLength * h + hashLength)
+    × (hashLength * carriedCount n (i + 1) ≤ heldBytes - hashLength * h + hashLength)
 unfolding heldStart
 start-is n i h c lt le e =
     let k = counted-most n i h c lt le e in
@@ -111,16 +105,18 @@ start-is n i h c lt le e =
     (ap (λ x. heldBytes - hashLength * x) (e .0), omega arith, omega arith)
 
 pub fits-is : (H : Hashing) (n i start : ℕ) (array block message x : List ℕ) (t : Bool) → start ≡ heldStart n i
-    → length message ≡ hashLength * carried n (i + 1) → x ≡ climb H block (hashesIn (length message / hashLength) message)
+    → length message ≡ hashLength * carriedCount n (i + 1) → x ≡ climb H block (hashesIn (length message / hashLength) message)
     → t ≡ equal (take (start + hashLength - start) (drop start array)) x → t ≡ fits H n i array block message
 unfolding fits nextHeld
 fits-is H n i start array block message x t es lm ex et =
     let w : start + hashLength - start ≡ hashLength = omega arith in
     let z : i + 1 ≡ suc i = omega arith in
-    let c : length message / hashLength ≡ carried n (suc i) = omega (arith, ap (carried n) z) in
+    let c : length message / hashLength ≡ carriedCount n (suc i) = omega (arith, ap (carriedCount n) z) in
     et ∙ rw (w, es, ex, c)
 
-pub advanced-is : (n i start : ℕ) (array message r : List ℕ) → start ≡ heldStart n i → r ≡ paste array (start + hashLength - length message) message (length message)
-    → r ≡ advanced n i array message
+pub advanced-is : (n i start : ℕ) (array message r : List ℕ) → start ≡ heldStart n i → length message ≤ start + hashLength
+    → r ≡ paste array (start + hashLength - length message) message (length message) → r ≡ advanced n i array message
 unfolding advanced
-advanced-is n i start array message r e er = er ∙ rw e
+advanced-is n i start array message r e h er =
+    let z : start + hashLength - length message + length message ≡ start + hashLength = omega arith in
+    er ∙ rw (take-length message, z, e)

@@ -9,9 +9,9 @@ pub mod PathLaws
 pub mod PathBindingLaws
 pub mod EarlyLaws
 pub mod CountLaws
-pub mod StepLaws
+pub mod LowBitLaws
 pub mod HeldLaws
-pub mod RunLaws
+pub mod FitsLaws
 pub mod TreeLaws
 pub mod ClimbLaws
 pub mod SiblingLaws

@@ -8,19 +8,20 @@ use lib.ListN.{length}
 use Rattle.merkle.specs.Shape.{Shape, size}
 use Rattle.merkle.specs.Hash.{Hashing, hash, hashes, climb}
 use Rattle.merkle.specs.Frontier.{largest, siblings, frontier}
-use Rattle.merkle.proofs.FrontierLaws.{Next, next, frontier-zero, frontier-all}
+use Rattle.merkle.specs.Claims.{Next}
+use Rattle.merkle.proofs.FrontierLaws.{next, frontier-zero, frontier-all}
 use Rattle.merkle.proofs.HashLaws.{append-inj, length-hashes, hashes-append, hash-climb}
 
 module _ (H : Hashing) where
   -- The first hash at a frontier is worked out from the next block and its siblings' hashes, which take its place at the next frontier.
-  pub record Step (f : ℕ → List ℕ) (s : Shape) (i : ℕ) : Type 0 where
+  pub record NextHashes (f : ℕ → List ℕ) (s : Shape) (i : ℕ) : Type 0 where
     pub others : List (List ℕ)
     pub first : hashes H f (frontier 0 s i) ≡ climb H (f i) (hashes H f (siblings 0 s i)) ∷ others
     pub then : hashes H f (frontier 0 s (suc i)) ≡ hashes H f (siblings 0 s i) ++ others
 
-  pub step : (f : ℕ → List ℕ) (s : Shape) (i : ℕ) → i < size s → Step f s i
+  pub next-hashes : (f : ℕ → List ℕ) (s : Shape) (i : ℕ) → i < size s → NextHashes f s i
   unfolding siblings hashes
-  step f s i h =
+  next-hashes f s i h =
       let n : Next 0 s i = next 0 s i h in
       let at : largest 0 s i .0 ≡ i = n .starts ∙ zero-add i in
       record {
@@ -51,7 +52,7 @@ module _ (H : Hashing) where
       → Loaded s root i before (climb H (after i) message ∷ held) → Loaded s root (suc i) after (message ++ held)
   unfolding Loaded
   loaded-step s root i before after held message h same count loaded f agree e =
-      let k : Step f s i = step f s i h in
+      let k : NextHashes f s i = next-hashes f s i h in
       let mine : List (List ℕ) = hashes H f (siblings 0 s i) in
       let w : (mine ≡ message) × (k .others ≡ held) =
       append-inj mine message (length-hashes H f (siblings 0 s i) ∙ sym count) (sym (k .then) ∙ e) in

@@ -1,6 +1,6 @@
 -- Paths: the hash from a block and its siblings is the root, and a block replaced changes the hashes on its way alone.
 use mathlib.Core.Path.{_≡_, refl, sym, ap, ap₂, _∙_}
-use mathlib.Core.Logic.{_⊎_, inl, inr, _≢_, ⊎-elim}
+use mathlib.Core.Logic.{_⊎_, inl, inr, _≢_}
 use mathlib.Core.Bool.{Bool, true, false}
 use mathlib.Core.List.{List, [], _∷_, _++_}
 use Prim.Native.Nat.{ℕ, zero, suc, _+_, _-_, _≤_, _<_}
@@ -148,11 +148,7 @@ module _ (H : Hashing) where
       (hash-same H (d .beside) (record { block = λ j h. other (d .from + j) (λ k. d .apart j h (k ∙ sym z)) }))
       ∙ sym (ap (hashes H g) (d .siblings-are) ∙ hashes-last H g ps (d .from) (d .beside)))
 
-  -- One block replaced: a place without it keeps its hash, and the new root comes from the new block and the old siblings.
-  pub hash-elsewhere : (f : ℕ → List ℕ) (at : ℕ) (b : List ℕ) (o : ℕ) (s : Shape) → (at < o) ⊎ (o + size s ≤ at) → hash H (overlay f at b) o s ≡ hash H f o s
-  hash-elsewhere f at b o s out =
-      hash-same H s (record { block = λ j h. overlay-other f at b (o + j) (λ e. ⊎-elim (λ (w : at < o). omega arith) (λ (w : o + size s ≤ at). omega arith) out) })
-
+  -- One block replaced: the new root comes from the new block and the old siblings.
   pub hash-replaced : (f : ℕ → List ℕ) (s : Shape) (at : ℕ) (b : List ℕ) → at < size s
       → hash H (overlay f at b) 0 s ≡ pathHash H 0 s at b (hashes H f (pathSiblings 0 s at))
   hash-replaced f s at b h =

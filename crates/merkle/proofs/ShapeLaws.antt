@@ -1,4 +1,4 @@
--- The split is the largest power of two below n; the tree over n blocks has n blocks and at most the depth's levels.
+-- The split is the largest power of two below n; the tree over n blocks has n blocks and the depth's levels.
 -- Its two equations, `shape-leaf` and `shape-node`, are all that later laws use of it.
 use mathlib.Core.Path.{_≡_, refl, sym, ap, ap₂, _∙_}
 use mathlib.Core.Logic.{_⊎_, inl, inr, ⊎-elim}
@@ -9,7 +9,8 @@ use native.Mathlib.Decide.{decLt}
 use lib.Dec.{lit<}
 use lib.Pow.{pow-pos, pow-mono}
 use borrow.Author.Tests.{lt-ltb, le-ltb, le-leb, lt-leb}
-use Rattle.merkle.specs.Shape.{Shape, leaf, node, size, leastFrom, depth, split, build, shape}
+use Rattle.merkle.specs.Shape.{Shape, leaf, node, size, height, leastFrom, depth, split, build, shape}
+use Rattle.merkle.specs.Claims.{SplitLargest, ShapeHalves, DepthLeast}
 
 pub lt-or-le : (a b : ℕ) → (a < b) ⊎ (b ≤ a)
 lt-or-le a b = go (decLt a b)
@@ -137,7 +138,7 @@ pub shape-leaf : (n : ℕ) → n ≤ 1 → shape n ≡ leaf
 unfolding shape
 shape-leaf n h = build-leaf n n h
 
-pub shape-node : (n : ℕ) → 1 < n → shape n ≡ node (shape (split n)) (shape (n - split n))
+shape-node : (n : ℕ) → 1 < n → shape n ≡ node (shape (split n)) (shape (n - split n))
 unfolding shape
 shape-node zero h = absurd (omega arith)
 shape-node (suc m) h =
@@ -170,28 +171,46 @@ pub size-shape : (n : ℕ) → 0 < n → size (shape n) ≡ n
 unfolding size
 size-shape = by-halves (λ n s. size s ≡ n) refl (λ n k big is lt a b. omega arith)
 
--- The most nodes above a block.
-unfoldable pub height : Shape → ℕ
-height leaf = 0
-height (node l r) = suc (max (height l) (height r))
-
 pub height-node : (l r : Shape) → height (node l r) ≡ suc (max (height l) (height r))
 unfolding height
 height-node l r = refl
 
--- No block has more nodes above it than the depth says.
-pub height-shape : (n d : ℕ) → 0 < n → n ≤ 2 ^ d → height (shape n) ≤ d
+-- the depth is the one exponent whose power of two is at least n and not twice n
+pub depth-is : (n d : ℕ) → n ≤ 2 ^ d → 2 ^ d < 2 * n → depth n ≡ d
+depth-is n d fits least =
+    ⊎-elim (λ (w : depth n < d). absurd (omega (arith, pow-mono w, pow-suc 2 (depth n), depth-fits n)))
+    (λ (w : d ≤ depth n). omega (arith, depth-least n d fits))
+    (lt-or-le (depth n) d)
+
+pub depth-one : depth 1 ≡ 0
+depth-one = depth-is 1 0 (omega (arith, pow-zero 2)) (omega (arith, pow-zero 2))
+
+-- The left half is one level less deep, and the right half no deeper than that.
+pub depth-halves : (n k : ℕ) → 1 < n → k ≡ split n → (depth n ≡ suc (depth k)) × (depth (n - k) ≤ depth k)
+depth-halves n k big is =
+    let s = split-known n big in
+    let e = s .exponent in
+    let here : k ≡ 2 ^ e = is ∙ s .power in
+    let half : depth k ≡ e = depth-is k e (omega arith) (omega (arith, pow-pos e)) in
+    let whole : depth n ≡ suc e = depth-is n (suc e) (omega (arith, pow-suc 2 e)) (omega (arith, pow-suc 2 e)) in
+    let twice = s .twice in
+    (omega arith, rw half (depth-least (n - k) e (omega arith)))
+
+height-depth : (n : ℕ) → 0 < n → height (shape n) ≡ depth n
 unfolding height
-height-shape n d pos = by-halves (λ n s. (d : ℕ) → n ≤ 2 ^ d → height s ≤ d) (λ d h. omega arith) (λ n k big is lt a b. halves n k big is a b) n pos d
-  where
-    halves : (n k : ℕ) → 1 < n → k ≡ split n → ((d : ℕ) → k ≤ 2 ^ d → height (shape k) ≤ d) → ((d : ℕ) → n - k ≤ 2 ^ d → height (shape (n - k)) ≤ d)
-        → (d : ℕ) → n ≤ 2 ^ d → height (node (shape k) (shape (n - k))) ≤ d
-    halves n k big is a b zero h = absurd (omega (arith, pow-zero 2))
-    halves n k big is a b (suc d) h =
-        let s = split-known n big in
-        let twice = s .twice in
-        let low : k ≤ 2 ^ d = rw (is, s .power) (pow-mono (omega (arith, below-exponent (s .exponent) (suc d) n (rw (s .power) at (s .below)) h))) in
-        omega (arith, a d low, b d (omega arith))
+height-depth =
+    by-halves (λ n s. height s ≡ depth n) (sym depth-one)
+    (λ n k big is lt a b. let d = depth-halves n k big is in height-node (shape k) (shape (n - k)) ∙ omega arith)
+
+-- What the claims say of the tree over n blocks.
+pub split-largest : SplitLargest
+split-largest n h = let s = split-known n h in record { exponent = s .exponent; power = s .power; below = s .below; largest = s .largest }
+
+pub shape-halves : ShapeHalves
+shape-halves = (shape-leaf 1 (omega arith), shape-node, size-shape)
+
+pub depth-known : DepthLeast
+depth-known n = (depth-fits n, depth-least n, height-depth n)
 
 -- The tree over n blocks, n above 1, from its halves, k the split.
 module _ (n k : ℕ) (big : 1 < n) (is : k ≡ split n) where

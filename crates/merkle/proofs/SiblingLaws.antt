@@ -10,7 +10,7 @@ use Rattle.octets.specs.Octets.{joined}
 use Rattle.merkle.specs.Limits.{hashLength}
 use Rattle.merkle.specs.Shape.{split, shape, Place}
 use Rattle.merkle.specs.Hash.{Hashing, hash, hashes}
-use Rattle.merkle.specs.Frontier.{largest, rightSiblings, siblings, carried}
+use Rattle.merkle.specs.Frontier.{largest, rightSiblings, siblings, carriedCount}
 use Rattle.merkle.specs.Held.{sent}
 use Rattle.merkle.proofs.ShapeLaws.{shape-leaf, split-between, halves, size-left}
 use Rattle.merkle.proofs.FrontierLaws.{largest-zero, largest-left, largest-right}
@@ -161,8 +161,8 @@ pub sent-is : (H : Hashing) (n : ℕ) (f : ℕ → List ℕ) (before many : ℕ)
 unfolding sent siblings
 sent-is H n f before many e = ap (λ (x : Place). joined (hashes H f (rightSiblings (x .0) (x .1)))) e
 
-pub carried-is : (n before many : ℕ) → largest 0 (shape n) before ≡ (before, shape many) → carried n (before + 1) ≡ length (rightSiblings before (shape many))
-unfolding carried siblings
+pub carried-is : (n before many : ℕ) → largest 0 (shape n) before ≡ (before, shape many) → carriedCount n (before + 1) ≡ length (rightSiblings before (shape many))
+unfolding carriedCount siblings
 carried-is n before many e =
     let z : before + 1 ≡ suc before = omega arith in
     rw z (ap (λ (x : Place). length (rightSiblings (x .0) (x .1))) e)

@@ -1,4 +1,4 @@
--- The tree over the flash by halves: what the proofs of `leaf`, `root_with` and `root` cite.
+-- The tree over the flash by halves: what the proofs of `leaf` and `root_with` cite.
 use mathlib.Core.Path.{_≡_, sym, ap, ap₂, _∙_}
 use mathlib.Core.List.{List}
 use Prim.Native.Nat.{ℕ, _+_, _-_, _*_, _≤_, _<_}
@@ -64,12 +64,6 @@ module _ (H : Hashing) (L : ℕ) (a : List ℕ) (at : ℕ) (b : List ℕ) (n : �
 pub hash-written : (H : Hashing) (L : ℕ) (a x : List ℕ) (i : ℕ) → i * L ≤ length a → length x ≡ length (cut L a i) → (o : ℕ) (s : Shape)
     → hash H (cut L (paste a (i * L) x (length x))) o s ≡ hash H (overlay (cut L a) i x) o s
 hash-written H L a x i room long o s = hash-same H s (record { block = λ j h. written L a x i room long (o + j) })
-
--- Block n is none of the n.
-pub root-whole : (H : Hashing) (f : ℕ → List ℕ) (b : List ℕ) (n : ℕ) (d : List ℕ) → 0 < n
-    → d ≡ hash H (overlay f n b) 0 (shape n) → d ≡ hash H f 0 (shape n)
-root-whole H f b n d pos e =
-    e ∙ hash-same H (shape n) (record { block = λ j h. overlay-other f n b (0 + j) (λ e. let z = size-shape n pos in omega arith) })
 
 -- The flash is long enough for both halves.
 pub left-fits : (L A n k : ℕ) → k < n → (n - 1) * L ≤ A → k * L ≤ A

@@ -1,5 +1,5 @@
 -- The blocks of an image or of the flash. A block is named by the number of blocks before it, and blocks are a function from that number to bytes.
-use mathlib.Core.Bool.{true, false}
+use mathlib.Core.Bool.{cond}
 use mathlib.Core.List.{List}
 use Prim.Native.Nat.{ℕ, _+_, _-_, _*_, _/_}
 use lib.Dec.{eqb}
@@ -7,13 +7,13 @@ use lib.ListN.{take, drop}
 
 -- The count n of blocks of an image of T bytes: T/L rounded up.
 -- With L = 256, 256 bytes are 1 block, and 257 bytes are 2.
-unfoldable pub blockCount : ℕ → ℕ → ℕ
+unfoldable pub blockCount : (L T : ℕ) → ℕ
 blockCount L T = (T + (L - 1)) / L
 
 -- The blocks of L bytes of a run of bytes. The last one may be shorter.
-unfoldable pub cut : ℕ → List ℕ → ℕ → List ℕ
+unfoldable pub cut : (L : ℕ) (bytes : List ℕ) (before : ℕ) → List ℕ
 cut L bytes before = take L (drop (before * L) bytes)
 
 -- The same blocks but for one.
-unfoldable pub overlay : (ℕ → List ℕ) → ℕ → List ℕ → ℕ → List ℕ
-overlay blocks at block before = elim (eqb before at) [ true ↦ block | false ↦ blocks before ]
+unfoldable pub overlay : (blocks : ℕ → List ℕ) (at : ℕ) (block : List ℕ) (before : ℕ) → List ℕ
+overlay blocks at block before = cond (eqb before at) block (blocks before)

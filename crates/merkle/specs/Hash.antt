@@ -30,20 +30,20 @@ module _ (H : Hashing) where
   nodeHash left right = H .function (nodeInput left right)
 
   -- The hash of the tree that has o blocks before it: of a single block, or of left hash then right hash.
-  unfoldable pub hash : (ℕ → List ℕ) → ℕ → Shape → List ℕ
+  unfoldable pub hash : (blocks : ℕ → List ℕ) (o : ℕ) (s : Shape) → List ℕ
   hash blocks o leaf = leafHash (blocks o)
   hash blocks o (node l r) = nodeHash (hash blocks o l) (hash blocks (o + size l) r)
 
   -- The root: the hash of the whole tree over n blocks.
-  abbrev pub rootOver : (ℕ → List ℕ) → ℕ → List ℕ
+  abbrev pub rootOver : (blocks : ℕ → List ℕ) (n : ℕ) → List ℕ
   rootOver blocks n = hash blocks 0 (shape n)
 
-  unfoldable pub hashes : (ℕ → List ℕ) → List Place → List (List ℕ)
+  unfoldable pub hashes : (blocks : ℕ → List ℕ) (ps : List Place) → List (List ℕ)
   hashes blocks [] = []
   hashes blocks (p ∷ ps) = hash blocks (p .0) (p .1) ∷ hashes blocks ps
 
   -- The hash input at a place: all that is digested there.
-  unfoldable pub input : (ℕ → List ℕ) → ℕ → Shape → List ℕ
+  unfoldable pub input : (blocks : ℕ → List ℕ) (o : ℕ) (s : Shape) → List ℕ
   input blocks o leaf = leafInput (blocks o)
   input blocks o (node l r) = nodeInput (hash blocks o l) (hash blocks (o + size l) r)
 
@@ -53,7 +53,7 @@ module _ (H : Hashing) where
   climbFrom x (y ∷ siblings) = climbFrom (nodeHash x y) siblings
 
   -- The hash of a tree, worked out from its first block and the right siblings above that.
-  unfoldable pub climb : List ℕ → List (List ℕ) → List ℕ
+  unfoldable pub climb : (block : List ℕ) (siblings : List (List ℕ)) → List ℕ
   climb block siblings = climbFrom (leafHash block) siblings
 
   -- At one place of the tree the two hash inputs differ and have the same hash.

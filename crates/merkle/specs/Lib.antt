@@ -5,3 +5,4 @@ pub mod Hash
 pub mod Frontier
 pub mod Path
 pub mod Held
+pub mod Claims

@@ -1,4 +1,4 @@
--- The way from a block up to the root, and the siblings beside it. Nothing on the wire carries a whole path yet; changes 1 and 11 of 02 speak of it.
+-- The way from a block up to the root, and the siblings beside it. No contract uses it yet: changes 1 and 11 of 02 will cite it.
 use mathlib.Core.Path.{_≡_}
 use mathlib.Core.Logic.{_≢_}
 use mathlib.Core.Bool.{Bool, true, false, cond}
@@ -12,19 +12,15 @@ use Rattle.merkle.specs.Hash.{Hashing, leafInput, nodeInput, leafHash, i
 unfoldable pub pathSiblings : ℕ → Shape → ℕ → List Place
 pathSiblings o leaf i = []
 pathSiblings o (node l r) i =
-    elim (ltb i (size l)) [
-      | true ↦ pathSiblings o l i ++ ((o + size l, r) ∷ [])
-      | false ↦ pathSiblings (o + size l) r (i - size l) ++ ((o, l) ∷ [])
-    ]
+    cond (ltb i (size l)) (pathSiblings o l i ++ ((o + size l, r) ∷ []))
+    (pathSiblings (o + size l) r (i - size l) ++ ((o, l) ∷ []))
 
 -- The nodes above the block, lowest first, and for each whether the sibling below it stands on the right.
 unfoldable pub way : ℕ → Shape → ℕ → List (Place × Bool)
 way o leaf i = []
 way o (node l r) i =
-    elim (ltb i (size l)) [
-      | true ↦ way o l i ++ (((o, node l r), true) ∷ [])
-      | false ↦ way (o + size l) r (i - size l) ++ (((o, node l r), false) ∷ [])
-    ]
+    cond (ltb i (size l)) (way o l i ++ (((o, node l r), true) ∷ []))
+    (way (o + size l) r (i - size l) ++ (((o, node l r), false) ∷ []))
 
 module _ (H : Hashing) where
   -- What is digested above the hash x, y its sibling.

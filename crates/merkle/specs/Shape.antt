@@ -1,7 +1,7 @@
 -- The shape of the tree over n blocks, and its places.
 use mathlib.Core.Bool.{true, false}
 use mathlib.Core.List.{List, [], _∷_, _++_}
-use Prim.Native.Nat.{ℕ, zero, suc, pred, _+_, _-_, _^_}
+use Prim.Native.Nat.{ℕ, zero, suc, pred, _+_, _-_, _^_, max}
 use lib.Dec.{leb, ltb}
 
 -- A tree: a single block, or a left and a right tree.
@@ -14,7 +14,13 @@ unfoldable pub size : Shape → ℕ
 size leaf = 1
 size (node l r) = size l + size r
 
--- The least of d, d + 1, .. whose power of two is at least n.
+-- The most nodes above a block.
+unfoldable pub height : Shape → ℕ
+height leaf = 0
+height (node l r) = suc (max (height l) (height r))
+
+-- The least of d, d + 1, .. whose power of two is at least n; `tries` bounds the recursion. (Here and in `build` the choice is an `elim`, which works out the
+-- taken branch alone; a `cond` would go through all the tries.)
 unfoldable pub leastFrom : ℕ → ℕ → ℕ → ℕ
 leastFrom zero d n = d
 leastFrom (suc tries) d n = elim (leb n (2 ^ d)) [ true ↦ d | false ↦ leastFrom tries (suc d) n ]

@@ -5,8 +5,9 @@ ghost use Prim.Native.Nat.{_+_, _^_, _≤_, _<_};
 ghost use lib.Count.{trailingZeros};
 ghost use Rattle.merkle.specs.Limits.{maxBlocks};
 ghost use Rattle.merkle.specs.Shape as shape;
-ghost use Rattle.merkle.specs.Frontier.{held, carried, messageLength};
+ghost use Rattle.merkle.specs.Frontier.{heldCount, carriedCount, messageLength};
 
+// How many hashes are held before a block, and how many its message carries.
 pub struct Counts {
     pub held: usize,
     pub carried: usize,
@@ -32,7 +33,7 @@ fn depth(n: usize) -> usize
 // The hashes held where `before` of n blocks are accepted, at least one: each is of the largest subtree that starts where the one before it ends.
 fn held_after(n: usize, before: usize) -> usize
     requires { ⌜ (0 < before) × (before < n) × (n ≤ maxBlocks) ⌝ }
-    ensures { λ r. ⌜ r ≡ held n before ⌝ }
+    ensures { λ r. ⌜ r ≡ heldCount n before ⌝ }
 {
     let mut held: usize = 0;
     let mut at = before;
@@ -47,7 +48,7 @@ fn held_after(n: usize, before: usize) -> usize
 // with that block is deep.
 pub fn count(n: usize, before: usize) -> Counts
     requires { ⌜ (before < n) × (n ≤ maxBlocks) ⌝ }
-    ensures { λ r. ⌜ (r .held ≡ held n before) × (r .carried ≡ carried n (before + 1)) ⌝ }
+    ensures { λ r. ⌜ (r .held ≡ heldCount n before) × (r .carried ≡ carriedCount n (before + 1)) ⌝ }
 {
     if before == 0 {
         return Counts {

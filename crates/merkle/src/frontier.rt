@@ -11,7 +11,7 @@ ghost use lib.ListN.{length};
 ghost use Rattle.sha256.specs.Sha256 as sha;
 ghost use Rattle.merkle.specs.Limits.{maxBlocks, hashLength, heldBytes};
 ghost use Rattle.merkle.specs.Hash.{plain};
-ghost use Rattle.merkle.specs.Frontier.{carried};
+ghost use Rattle.merkle.specs.Frontier.{carriedCount};
 ghost use Rattle.merkle.specs.Held as spec;
 ghost use Rattle.merkle.specs.Held.{heldStart, begun, advanced};
 
@@ -28,7 +28,7 @@ pub fn begin(root: &[u8]) -> [u8; HELD_LEN]
 // Where the next hash needed stands. The next block's siblings have room up to its end.
 fn next_at(n: usize, before: usize) -> usize
     requires { ⌜ (before < n) × (n ≤ maxBlocks) ⌝ }
-    ensures { λ r. ⌜ (r ≡ heldStart n before) × (r + hashLength ≤ heldBytes) × (hashLength * carried n (before + 1) ≤ r + hashLength) ⌝ }
+    ensures { λ r. ⌜ (r ≡ heldStart n before) × (r + hashLength ≤ heldBytes) × (hashLength * carriedCount n (before + 1) ≤ r + hashLength) ⌝ }
 {
     let counts = count(n, before);
     HELD_LEN - HASH_LEN * counts.held
@@ -36,7 +36,7 @@ fn next_at(n: usize, before: usize) -> usize
 
 // Whether the hash worked out from the block after `before` of n and its siblings is the next one held.
 pub fn fits(hashes: &[u8], n: usize, before: usize, block: &[u8], siblings: &[u8]) -> bool
-    requires { ⌜ (length (now hashes) ≡ heldBytes) × (before < n) × (n ≤ maxBlocks) × (length (now siblings) ≡ hashLength * carried n (before + 1)) ⌝ }
+    requires { ⌜ (length (now hashes) ≡ heldBytes) × (before < n) × (n ≤ maxBlocks) × (length (now siblings) ≡ hashLength * carriedCount n (before + 1)) ⌝ }
     ensures { λ r. ⌜ r ≡ spec.fits (plain sha.digest) n before (now (hashes .entry)) (now (block .entry)) (now (siblings .entry)) ⌝ }
 {
     let start = next_at(n, before);
@@ -47,7 +47,7 @@ pub fn fits(hashes: &[u8], n: usize, before: usize, block: &[u8], siblings: &[u8
 
 // The siblings take the place of that one.
 pub fn advance(hashes: [u8; HELD_LEN], n: usize, before: usize, siblings: &[u8]) -> [u8; HELD_LEN]
-    requires { ⌜ (before < n) × (n ≤ maxBlocks) × (length (now siblings) ≡ hashLength * carried n (before + 1)) ⌝ }
+    requires { ⌜ (before < n) × (n ≤ maxBlocks) × (length (now siblings) ≡ hashLength * carriedCount n (before + 1)) ⌝ }
     ensures { λ r. ⌜ r ≡ advanced n before hashes (now (siblings .entry)) ⌝ }
 {
     let to = next_at(n, before) + HASH_LEN - siblings.len();

@@ -6,7 +6,6 @@ mod node;
 mod path;
 mod tree;
 
-pub use counting::Counts;
 pub use counting::count;
 pub use counting::message_len;
 pub use frontier::advance;
@@ -15,8 +14,5 @@ pub use frontier::fits;
 pub use limits::HASH_LEN;
 pub use limits::HELD_LEN;
 pub use limits::MAX_BLOCKS;
-pub use limits::MAX_HELD;
-pub use path::climb;
 pub use path::write_siblings;
-pub use tree::root;
 pub use tree::root_with;

@@ -6,7 +6,7 @@ pub const MAX_BLOCKS: usize = 4096;
 // The bytes of a hash.
 pub const HASH_LEN: usize = 32;
 
-// The most hashes that are held, and their bytes: 384.
+// The most hashes that are held, and their bytes.
 pub const MAX_HELD: usize = 12;
 
 pub const HELD_LEN: usize = MAX_HELD * HASH_LEN;

@@ -17,7 +17,7 @@ ghost use Rattle.merkle.specs.Blocks.{cut, overlay};
 ghost use Rattle.merkle.specs.Shape.{shape};
 ghost use Rattle.merkle.specs.Hash as spec;
 ghost use Rattle.merkle.specs.Hash.{plain};
-ghost use Rattle.merkle.specs.Frontier.{largest, carried};
+ghost use Rattle.merkle.specs.Frontier.{largest, carriedCount};
 ghost use Rattle.merkle.specs.Held.{hashesIn, sent};
 
 // The hash worked out from a block and the right siblings above it, lowest first.
@@ -64,8 +64,8 @@ pub fn write_siblings(
     at: usize,
     block: &[u8],
 )
-    requires { ⌜ (before < n) × (n ≤ maxBlocks) × ((n - 1) * len ≤ length (now flash)) × (hashLength * carried n (before + 1) ≤ length (now out)) ⌝ }
-    ensures { λ _. ⌜ now (out .exit) ≡ sent (plain sha.digest) n (overlay (cut len (now (flash .entry))) at (now (block .entry))) before ++ drop (hashLength * carried n (before + 1)) (now (out .entry)) ⌝ }
+    requires { ⌜ (before < n) × (n ≤ maxBlocks) × ((n - 1) * len ≤ length (now flash)) × (hashLength * carriedCount n (before + 1) ≤ length (now out)) ⌝ }
+    ensures { λ _. ⌜ now (out .exit) ≡ sent (plain sha.digest) n (overlay (cut len (now (flash .entry))) at (now (block .entry))) before ++ drop (hashLength * carriedCount n (before + 1)) (now (out .entry)) ⌝ }
 {
     let mut m = subtree(n, before);
     let counts = count(n, before);

@@ -22,7 +22,7 @@ fn leaf(flash: &[u8], len: usize, at: usize, block: &[u8]) -> [u8; 32]
     digest(flash)
 }
 
-// Block `at` of n, counted from block k on; n, which is none of them, where it comes before block k.
+// The index of block `at` among those of n blocks that begin with block k. A block before these has no index there: then the answer is n, which is past the last.
 pub fn behind(at: usize, k: usize, n: usize) -> usize
     ensures { λ r. ⌜ ((j : ℕ) → k + j < n → (j ≡ r → k + j ≡ at) × (k + j ≡ at → j ≡ r)) ⌝ }
 {
@@ -42,12 +42,4 @@ pub fn root_with(flash: &[u8], len: usize, n: usize, at: usize, block: &[u8]) ->
     let from = k * len;
     let right = root_with(&flash[from..], len, n - k, behind(at, k, n), block);
     node(&left, &right)
-}
-
-// The hash of the tree over n blocks of len bytes of the flash.
-pub fn root(flash: &[u8], len: usize, n: usize) -> [u8; 32]
-    requires { ⌜ (0 < n) × ((n - 1) * len ≤ length (now flash)) ⌝ }
-    ensures { λ r. ⌜ r ≡ rootOver (plain sha.digest) (cut len (now (flash .entry))) n ⌝ }
-{
-    root_with(flash, len, n, n, flash)
 }

@@ -8,7 +8,7 @@ use lib.ListN.{length, take, drop, getD, replicate, length-append, length-replic
 use lib.Seq.{paste, take-at, take-all, take-length, length-paste, take-paste, drop-at, drop-drop}
 use Rattle.octets.specs.Octets.{part, joined, upTo}
 
-pub joined-append : (xs ys : List (List ℕ)) → joined (xs ++ ys) ≡ joined xs ++ joined ys
+joined-append : (xs ys : List (List ℕ)) → joined (xs ++ ys) ≡ joined xs ++ joined ys
 unfolding joined
 joined-append [] ys = refl
 joined-append (x ∷ xs) ys = ap (λ (s : List ℕ). x ++ s) (joined-append xs ys) ∙ sym (append-assoc x (joined xs) (joined ys))

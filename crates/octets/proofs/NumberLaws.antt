@@ -9,6 +9,7 @@ use lib.Dec.{lit<}
 use lib.ListN.{length, length-append, drop, getD, take}
 use lib.Seq.{drop-cons, take-suc, take-length, getD-take, getD-drop}
 use Rattle.octets.specs.Octets.{Bytes, bytes, number, part}
+use Rattle.octets.specs.Claims.{NumberOfBytes, BytesOfNumber}
 use Rattle.octets.proofs.CopyLaws.{length-part}
 
 pub length-bytes : (k x : ℕ) → length (bytes k x) ≡ k
@@ -31,7 +32,7 @@ bytes-mod (suc k) x =
     (ap (λ (y : ℕ). y % 256) (digit k x) ∙ digits-mod (x / 256 % 256 ^ k) l)
     ∙ ap (λ (r : List ℕ). r ++ (x % 256 ∷ [])) (bytes-mod k (x / 256))
 
-pub number-snoc : (s : List ℕ) (b : ℕ) → number (s ++ (b ∷ [])) ≡ number s * 256 + b
+number-snoc : (s : List ℕ) (b : ℕ) → number (s ++ (b ∷ [])) ≡ number s * 256 + b
 unfolding number
 number-snoc [] b = omega arith
 number-snoc (a ∷ s) b =
@@ -42,7 +43,7 @@ number-snoc (a ∷ s) b =
     ∙ omega arith
 
 -- what k bytes of a number stand for
-pub number-bytes : (k x : ℕ) → number (bytes k x) ≡ x % 256 ^ k
+pub number-bytes : NumberOfBytes
 unfolding bytes number
 number-bytes zero x = omega arith
 number-bytes (suc k) x =
@@ -83,7 +84,7 @@ bytes-front s h (suc n) l =
     ∙ ap (λ (r : List ℕ). r ++ (x ∷ [])) (bytes-front s h n (omega arith)) ∙ sym e
 
 -- a string of bytes is that of its number
-pub bytes-number : (s : List ℕ) → Bytes s → bytes (length s) (number s) ≡ s
+pub bytes-number : BytesOfNumber
 bytes-number s h =
     ap (λ (t : List ℕ). bytes (length s) (number t)) (sym (take-length s)) ∙ bytes-front s h (length s) (omega arith) ∙ take-length s
 
@@ -98,7 +99,7 @@ pub bytes-part : (s : List ℕ) → Bytes s → (i k : ℕ) → i + k ≤ length
 bytes-part s h i k l = ap (λ (j : ℕ). bytes j (number (part i k s))) (sym (length-part s i k l)) ∙ bytes-number (part i k s) (part-bytes s h i k l)
 
 -- the number of a string of bytes is below 256 to the power of its length
-pub number-below : (s : List ℕ) → Bytes s → number s < 256 ^ length s
+number-below : (s : List ℕ) → Bytes s → number s < 256 ^ length s
 number-below s h =
     let e : number s ≡ number s % 256 ^ length s = ap number (sym (bytes-number s h)) ∙ number-bytes (length s) (number s) in
     rw e (mod-lt (number s) (one-le-pow (length s) 256 (lit< tt)))

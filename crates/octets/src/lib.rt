@@ -36,6 +36,7 @@ pub fn bytes32_at(s: &[u8], at: usize) -> [u8; 32]
     r
 }
 
+// Whether a and b have the same bytes.
 pub fn equal(a: &[u8], b: &[u8]) -> bool
     ensures { λ r. ⌜ r ≡ spec.equal (now (a .entry)) (now (b .entry)) ⌝ }
 {

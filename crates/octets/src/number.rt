@@ -4,12 +4,14 @@ ghost use Prim.Native.Nat.{_+_, _%_, _≤_};
 ghost use lib.ListN.{length};
 ghost use Rattle.octets.specs.Octets.{bytes, number, part};
 
+// The lowest byte of x.
 fn low(x: u64) -> u8
     ensures { λ r. ⌜ r ≡ x % 256 ⌝ }
 {
     (x % 256) as u8
 }
 
+// x as 2 bytes; the next two do so with 4 and 8.
 pub fn be16(x: u16) -> [u8; 2]
     ensures { λ r. ⌜ r ≡ bytes 2 x ⌝ }
 {
@@ -39,12 +41,14 @@ pub fn be64(x: u64) -> [u8; 8]
     ]
 }
 
+// A byte as a wider number.
 fn wide(x: u8) -> u32
     ensures { λ r. ⌜ (r ≡ x) × (r ≤ 255) ⌝ }
 {
     x as u32
 }
 
+// The number in the 2 bytes of s from index at on; the next one reads 4.
 pub fn u16_at(s: &[u8], at: usize) -> u16
     requires { ⌜ at + 2 ≤ length (now s) ⌝ }
     ensures { λ r. ⌜ r ≡ number (part at 2 (now (s .entry))) ⌝ }

@@ -14,12 +14,12 @@ use Rattle.merkle.specs.Limits.{maxBlocks}
 use Rattle.merkle.specs.Blocks.{blockCount, cut, overlay}
 use Rattle.merkle.specs.Shape.{shape}
 use Rattle.merkle.specs.Hash.{plain, rootOver}
-use Rattle.merkle.specs.Frontier.{carried, messageLength}
+use Rattle.merkle.specs.Frontier.{carriedCount, messageLength}
 use Rattle.merkle.specs.Held.{sent}
 use Rattle.merkle.proofs.ShapeLaws.{lt-or-le, size-shape}
 use Rattle.merkle.proofs.CountLaws.{message-length}
 use Rattle.merkle.proofs.HashLaws.{Same, hash-same}
-use Rattle.merkle.proofs.RunLaws.{sent-same}
+use Rattle.merkle.proofs.FitsLaws.{sent-same}
 use Rattle.merkle.proofs.BlockLaws.{overlay-same, overlay-other}
 use Rattle.wire.specs.Size.{wrongSize, outside}
 use Rattle.wire.specs.Image.{imageBlocks}
@@ -111,5 +111,5 @@ module _ (image : List ℕ) (len number n : ℕ) where
     due model serial =
         length-block (job image len model serial) (t .sized) number (t .low) (omega (arith, t .high, t .count)) ∙ ap (λ (x : ℕ). messageLength len x number) (sym (t .count))
 
-    pub parts : messageLength len n number ≡ 3 + len + 32 * carried n (number - 1 + 1)
-    parts = sym (message-length len n number (carried n (number - 1 + 1)) (t .low) refl)
+    pub parts : messageLength len n number ≡ 3 + len + 32 * carriedCount n (number - 1 + 1)
+    parts = sym (message-length len n number (carriedCount n (number - 1 + 1)) (t .low) refl)

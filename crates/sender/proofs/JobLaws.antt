@@ -8,12 +8,12 @@ use Rattle.sha256.specs.Sha256.{digest}
 use Rattle.sha256.proofs.DigestLaws.{length-digest}
 use Rattle.octets.specs.Octets.{bytes}
 use Rattle.octets.proofs.NumberLaws.{length-bytes}
-use Rattle.merkle.specs.Frontier.{carried, messageLength}
+use Rattle.merkle.specs.Frontier.{carriedCount, messageLength}
 use Rattle.merkle.specs.Held.{sent}
 use Rattle.merkle.specs.Shape.{shape}
 use Rattle.merkle.specs.Hash.{plain}
 use Rattle.merkle.proofs.HashLaws.{length-hash}
-use Rattle.merkle.proofs.RunLaws.{length-sent}
+use Rattle.merkle.proofs.FitsLaws.{length-sent}
 use Rattle.wire.specs.Manifest.{written}
 use Rattle.wire.specs.Image.{imageBlocks}
 use Rattle.wire.specs.Message.{programMessage, blockMessage, updateMessage}
@@ -48,7 +48,7 @@ module _ (j : Job) where
         let e : suc (pred i) ≡ i = omega arith in
         ap suc
         (length-append (bytes 2 i ++ blocks j (pred i)) s ∙ ap (λ (x : ℕ). x + length s) (length-append (bytes 2 i) (blocks j (pred i))))
-        ∙ omega (arith, length-bytes 2 i, length-one, length-sent (plain digest) length-digest (count j) (blocks j) (pred i), ap (carried (count j)) e)
+        ∙ omega (arith, length-bytes 2 i, length-one, length-sent (plain digest) length-digest (count j) (blocks j) (pred i), ap (carriedCount (count j)) e)
 
     pub length-update : (signature : List ℕ) → length (updateFor digest j i signature) ≡ 51 + j .block + length signature
     unfolding updateFor updateMessage

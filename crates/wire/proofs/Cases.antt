@@ -7,7 +7,7 @@ use Prim.Native.Nat.{ℕ, zero, suc}
 use Rattle.merkle.specs.Blocks.{blockCount}
 use Rattle.merkle.specs.Shape.{size, leastFrom, depth, split, build, shape}
 use Rattle.merkle.specs.Hash.{plain, rootOver, hash}
-use Rattle.merkle.specs.Frontier.{largest, rightSiblings, siblings, carried, messageLength, frontier, held}
+use Rattle.merkle.specs.Frontier.{largest, rightSiblings, siblings, carriedCount, messageLength, frontier, heldCount}
 use Rattle.wire.specs.declared.refusal.Refusal.the-variants.{Size}
 use Rattle.wire.specs.Refusal.{number}
 use Rattle.wire.specs.Size.{allowedLength, wrongSize}
@@ -18,13 +18,13 @@ values zero first f = []
 values (suc many) first f = f first ∷ values many (suc first) f
 
 pub starred :
-    (values 1 1 (carried 1) ≡ 0 ∷ [])
-    × (values 3 1 (carried 3) ≡ 2 ∷ 0 ∷ 0 ∷ [])
-    × (values 5 1 (carried 5) ≡ 3 ∷ 0 ∷ 1 ∷ 0 ∷ 0 ∷ [])
-    × (values 7 1 (carried 7) ≡ 3 ∷ 0 ∷ 1 ∷ 0 ∷ 2 ∷ 0 ∷ 0 ∷ [])
-    × (values 8 1 (carried 8) ≡ 3 ∷ 0 ∷ 1 ∷ 0 ∷ 2 ∷ 0 ∷ 1 ∷ 0 ∷ [])
-    × (values 9 0 (held 8) ≡ 1 ∷ 3 ∷ 2 ∷ 2 ∷ 1 ∷ 2 ∷ 1 ∷ 1 ∷ 0 ∷ [])
-    × (values 4 0 (held 3) ≡ 1 ∷ 2 ∷ 1 ∷ 0 ∷ [])
+    (values 1 1 (carriedCount 1) ≡ 0 ∷ [])
+    × (values 3 1 (carriedCount 3) ≡ 2 ∷ 0 ∷ 0 ∷ [])
+    × (values 5 1 (carriedCount 5) ≡ 3 ∷ 0 ∷ 1 ∷ 0 ∷ 0 ∷ [])
+    × (values 7 1 (carriedCount 7) ≡ 3 ∷ 0 ∷ 1 ∷ 0 ∷ 2 ∷ 0 ∷ 0 ∷ [])
+    × (values 8 1 (carriedCount 8) ≡ 3 ∷ 0 ∷ 1 ∷ 0 ∷ 2 ∷ 0 ∷ 1 ∷ 0 ∷ [])
+    × (values 9 0 (heldCount 8) ≡ 1 ∷ 3 ∷ 2 ∷ 2 ∷ 1 ∷ 2 ∷ 1 ∷ 1 ∷ 0 ∷ [])
+    × (values 4 0 (heldCount 3) ≡ 1 ∷ 2 ∷ 1 ∷ 0 ∷ [])
     × (blockCount 256 256 ≡ 1)
     × (blockCount 256 257 ≡ 2)
     × (wrongSize 256 1048576 ≡ false)
@@ -32,7 +32,7 @@ pub starred :
     × (number Size ≡ 5)
     × (messageLength 256 8 1 ≡ 355)
     × (messageLength 256 8 2 ≡ 259)
-unfolding values size leastFrom depth split build shape largest rightSiblings siblings carried messageLength frontier held blockCount allowedLength wrongSize
+unfolding values size leastFrom depth split build shape largest rightSiblings siblings carriedCount messageLength frontier heldCount blockCount allowedLength wrongSize
 starred = (refl, refl, refl, refl, refl, refl, refl, refl, refl, refl, refl, refl, refl, refl)
 
 -- "For n = 3 this is source document 000's figure 2": blocks 1 and 2 under one node, block 3 beside it.

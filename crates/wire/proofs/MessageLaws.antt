@@ -12,7 +12,7 @@ use Rattle.octets.proofs.CopyLaws.{length-part}
 use Rattle.octets.proofs.NumberLaws.{length-bytes, number-back}
 use Rattle.merkle.specs.Limits.{hashLength}
 use Rattle.merkle.specs.Blocks.{blockCount}
-use Rattle.merkle.specs.Frontier.{carried}
+use Rattle.merkle.specs.Frontier.{carriedCount}
 use Rattle.wire.specs.declared.kind.Kind.the-variants.{Program, Block, Update, Unknown}
 use Rattle.wire.specs.declared.manifest.Manifest.{Manifest}
 use Rattle.wire.specs.Manifest.{manifestLength, written}
@@ -122,11 +122,11 @@ module _ (i : ℕ) (few : i < 256 ^ 2) (block hashes : List ℕ) where
       }
 
 -- the due length, from the count of the hashes as the code finds it
-pub due-length : (L T i c : ℕ) → 0 < i → c ≡ carried (blockCount L T) (i - 1 + 1) → leastLength Block + blockLength L T i + hashLength * c ≡ dueLength L T i
+pub due-length : (L T i c : ℕ) → 0 < i → c ≡ carriedCount (blockCount L T) (i - 1 + 1) → leastLength Block + blockLength L T i + hashLength * c ≡ dueLength L T i
 unfolding dueLength
 due-length L T i c pos e =
     let z : i - 1 + 1 ≡ i = omega arith in
-    ap (λ (x : ℕ). leastLength Block + blockLength L T i + hashLength * x) (e ∙ ap (carried (blockCount L T)) z)
+    ap (λ (x : ℕ). leastLength Block + blockLength L T i + hashLength * x) (e ∙ ap (carriedCount (blockCount L T)) z)
 
 -- a block message up to its hashes, and with them
 pub block-start : (i : ℕ) (block : List ℕ) → 2 ∷ (bytes numberLength i ++ block) ≡ blockMessage i block []

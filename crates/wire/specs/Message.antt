@@ -7,7 +7,7 @@ use lib.ListN.{length, drop}
 use Rattle.octets.specs.Octets.{bytes, number, part}
 use Rattle.merkle.specs.Limits.{hashLength}
 use Rattle.merkle.specs.Blocks.{blockCount}
-use Rattle.merkle.specs.Frontier.{carried}
+use Rattle.merkle.specs.Frontier.{carriedCount}
 use Rattle.wire.specs.declared.kind.Kind.{Kind}
 use Rattle.wire.specs.declared.kind.Kind.the-variants.{Program, Block, Update, Unknown}
 use Rattle.wire.specs.declared.manifest.Manifest.{Manifest}
@@ -81,7 +81,7 @@ updateSignature k m = drop (leastLength Update + k) m
 
 -- Refusal 12. Kind 2: message i has exactly "3 + L + 32 × c(i) bytes"; with L = 256 and n = 8, message 1 has 355.
 unfoldable pub dueLength : (L T i : ℕ) → ℕ
-dueLength L T i = leastLength Block + blockLength L T i + hashLength * carried (blockCount L T) i
+dueLength L T i = leastLength Block + blockLength L T i + hashLength * carriedCount (blockCount L T) i
 
 -- Kind 3: an update of block i has at least "51 + L" bytes.
 unfoldable pub leastUpdate : (L T i : ℕ) → ℕ

@@ -5,7 +5,7 @@ use Prim.Native.Nat.{_-_, min}
 use native.Mathlib.Omega.{arith}
 use borrow.Author.Needs.{needs}
 use Rattle.merkle.proofs.CountLaws.{held-zero}
-use Rattle.merkle.proofs.StepLaws.{low-is, low-between, carried-depth, carried-later}
+use Rattle.merkle.proofs.LowBitLaws.{low-is, low-between, carried-depth, carried-later}
 use Rattle.merkle.proofs.counting.count.Statement.{statement}
 use Rattle.merkle.proofs.counting.count.Tie as tie
 

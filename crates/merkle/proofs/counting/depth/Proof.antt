@@ -3,7 +3,7 @@ use Prim.Native.Nat.{_-_}
 use native.Mathlib.Omega.{arith}
 use borrow.Author.Needs.{needs}
 use lib.Count.{leading-le}
-use Rattle.merkle.proofs.StepLaws.{depth-length}
+use Rattle.merkle.proofs.LowBitLaws.{depth-length}
 use Rattle.merkle.proofs.counting.depth.Statement.{statement}
 use Rattle.merkle.proofs.counting.depth.Tie as tie
 

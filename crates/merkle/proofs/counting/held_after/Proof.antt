@@ -2,13 +2,13 @@
 use mathlib.Core.Path.{_≡_}
 use Prim.Native.Nat.{_+_, _-_, _≤_, _<_}
 use native.Mathlib.Omega.{arith}
-use Rattle.merkle.specs.Frontier.{held}
-use Rattle.merkle.proofs.StepLaws.{low-is, low-between, step}
+use Rattle.merkle.specs.Frontier.{heldCount}
+use Rattle.merkle.proofs.LowBitLaws.{low-is, low-between, by-low-bit}
 use Rattle.merkle.proofs.counting.held_after.Statement.{statement}
 use Rattle.merkle.proofs.counting.held_after.Tie as tie
 
 abbrev Inv-loop : tie.InvT-loop
-Inv-loop n before held₀ at₀ sum at = (sum < at) × (at < n → sum + held n at ≡ held n before) × (n ≤ at → sum ≡ held n before)
+Inv-loop n before held₀ at₀ sum at = (sum < at) × (at < n → sum + heldCount n at ≡ heldCount n before) × (n ≤ at → sum ≡ heldCount n before)
 
 abbrev μ-loop : tie.MeasureT-loop
 μ-loop n before held₀ at₀ sum at = n - at
@@ -35,7 +35,7 @@ loop-again c =
     let at = k .loop .at in
     let l = c .low .result in
     let b = low-between at l (omega arith) (omega arith) (c .low .ensures) in
-    let s = step n (omega arith) at l (omega arith) (omega arith) (low-is at l (omega arith) (omega arith) (c .low .ensures)) in
+    let s = by-low-bit n (omega arith) at l (omega arith) (omega arith) (low-is at l (omega arith) (omega arith) (c .low .ensures)) in
     let sum = k .loop .inv .1 (omega arith) in
     (omega arith, λ h. omega (arith, s .more h), λ h. omega (arith, s .last h))
 

@@ -4,7 +4,7 @@ use Prim.Native.Nat.{ℕ, _*_, _%_, _^_, _≤_, _<_}
 use native.Mathlib.Nat.{mod-eq-of-lt, one-mul}
 use native.Mathlib.Omega.{arith}
 use lib.Count.{trailingZeros, trailing-le}
-use Rattle.merkle.proofs.StepLaws.{low-between, low-shift}
+use Rattle.merkle.proofs.LowBitLaws.{low-between, low-shift}
 use Rattle.merkle.proofs.counting.low.Statement.{statement}
 use Rattle.merkle.proofs.counting.low.Tie as tie
 

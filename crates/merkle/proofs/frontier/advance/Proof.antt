@@ -1,4 +1,5 @@
 -- `merkle::frontier::advance` meets its contract.
+use native.Mathlib.Omega.{arith}
 use borrow.Author.Needs.{needs}
 use Rattle.merkle.proofs.HeldLaws.{advanced-is}
 use Rattle.merkle.proofs.frontier.advance.Statement.{statement}
@@ -22,7 +23,7 @@ copy-requires c κs = search needs
 returns : tie.Need-returns
 returns c =
     let found = c .before .before .before in
-    advanced-is _ _ (found .next-at .result) _ _ _ (found .next-at .ensures .0) (c .before .copy .ensures)
+    advanced-is _ _ (found .next-at .result) _ _ _ (found .next-at .ensures .0) (omega arith) (c .before .copy .ensures)
 
 pub advance-spec : {M : Type 1} → statement M
 advance-spec =

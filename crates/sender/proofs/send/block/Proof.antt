@@ -7,10 +7,10 @@ use lib.ListN.{length, take, drop, length-take, length-drop}
 use Rattle.sha256.specs.Sha256.{digest}
 use Rattle.sha256.proofs.DigestLaws.{length-digest}
 use Rattle.merkle.specs.Blocks.{cut, overlay}
-use Rattle.merkle.specs.Frontier.{carried}
+use Rattle.merkle.specs.Frontier.{carriedCount}
 use Rattle.merkle.specs.Held.{sent}
 use Rattle.merkle.specs.Hash.{plain}
-use Rattle.merkle.proofs.RunLaws.{length-sent}
+use Rattle.merkle.proofs.FitsLaws.{length-sent}
 use Rattle.wire.proofs.SizeLaws.{sized}
 use Rattle.wire.proofs.ImageLaws as image
 use Rattle.sender.specs.Job.{job, count, blockFor}
@@ -148,7 +148,7 @@ returns-4 c =
     let blocks = overlay (cut (a .len) (a .image .now)) (n - 1) last in
     let hs = sent (plain digest) n blocks (a .number - 1) in
     let m = length-sent (plain digest) length-digest n blocks (a .number - 1) in
-    let h : 32 * carried n (a .number - 1 + 1) ≡ length hs = ap (λ (x : ℕ). 32 * carried n x) (add-one (a .number - 1)) ∙ sym m in
+    let h : 32 * carriedCount n (a .number - 1 + 1) ≡ length hs = ap (λ (x : ℕ). 32 * carriedCount n x) (add-one (a .number - 1)) ∙ sym m in
     let same = same-sent (a .len) (a .image .now) n (t .sized) (t .count) digest last (c .before .before .before .before .before .before .before .before .before .before .before .last-block .ensures .1) (a .number - 1) in
     let is = lengths.block-is j n (a .number) (b .result .now) hs (t .count) (b .ensures) same in
     let size : 3 + a .len + length hs ≡ k .result = omega (arith, h, k .ensures, parts _ _ _ _ t) in

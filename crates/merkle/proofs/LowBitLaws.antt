@@ -8,8 +8,8 @@ use native.Mathlib.Omega.{arith}
 use lib.Pow.{pow-add, pow-pos, pow-mono}
 use lib.Count.{trailingZeros, under, leadingZeros, leading-length}
 use Rattle.merkle.specs.Shape.{depth, split}
-use Rattle.merkle.specs.Frontier.{held, carried}
-use Rattle.merkle.proofs.ShapeLaws.{lt-or-le, depth-fits, depth-least, Split, split-known, by-halves}
+use Rattle.merkle.specs.Frontier.{heldCount, carriedCount}
+use Rattle.merkle.proofs.ShapeLaws.{lt-or-le, depth-is, depth-one, depth-halves, Split, split-known, by-halves}
 use Rattle.merkle.proofs.CountLaws.{held-zero, carried-leaf, carried-first, held-left, carried-left, held-right, carried-right}
 
 -- l is the lowest set bit of x: a power of two of which x is an odd multiple.
@@ -84,21 +84,21 @@ module _ (x l d k : ℕ) (b : Low x l) (is : k ≡ 2 ^ d) where
       }
 
 -- One subtree further: the largest one that starts after i blocks has l blocks, or all that are left where those are fewer.
-pub record Step (n i l : ℕ) : Type 0 where
-  pub more : i + l < n → held n i ≡ suc (held n (i + l))
-  pub last : n ≤ i + l → held n i ≡ 1
-  pub first : carried n (suc i) ≡ carried (min l (n - i)) 1
+pub record ByLowBit (n i l : ℕ) : Type 0 where
+  pub more : i + l < n → heldCount n i ≡ suc (heldCount n (i + l))
+  pub last : n ≤ i + l → heldCount n i ≡ 1
+  pub first : carriedCount n (suc i) ≡ carriedCount (min l (n - i)) 1
 
-abbrev pub Steps : ℕ → Type 0
-Steps n = (i l : ℕ) → 0 < i → i < n → Low i l → Step n i l
+abbrev pub ByLowBits : ℕ → Type 0
+ByLowBits n = (i l : ℕ) → 0 < i → i < n → Low i l → ByLowBit n i l
 
 -- From the halves, k the split: i is in the left one, at the split, or in the right one.
 module _ (n k i l : ℕ) (big : 1 < n) (is : k ≡ split n) (pos : 0 < i) (lt : i < n) (b : Low i l) where
   at : Split n k
   at = rw is (split-known n big)
 
-  step-left : Steps k → i < k → Step n i l
-  step-left ih h =
+  by-low-left : ByLowBits k → i < k → ByLowBit n i l
+  by-low-left ih h =
       let s = at in
       let within : i + l ≤ k = low-below i l (s .exponent) k b (s .power) (omega arith) h in
       let here = ih i l pos h b in
@@ -110,15 +110,15 @@ module _ (n k i l : ℕ) (big : 1 < n) (is : k ≡ split n) (pos : 0 < i) (lt : 
             (λ (w : k ≤ i + l).
             let z : i + l ≡ k = omega arith in
             let y : k - k ≡ 0 = omega arith in
-            let e : held n k ≡ 1 = held-right n k big is k (omega arith) (s .below) ∙ rw y (held-zero (n - k)) in
+            let e : heldCount n k ≡ 1 = held-right n k big is k (omega arith) (s .below) ∙ rw y (held-zero (n - k)) in
             rw z (omega (arith, here .last w)))
             (lt-or-le (i + l) k);
         last = λ g. absurd (omega arith);
-        first = carried-left n k big is i pos h ∙ here .first ∙ ap (λ m. carried m 1) z;
+        first = carried-left n k big is i pos h ∙ here .first ∙ ap (λ m. carriedCount m 1) z;
       }
 
-  step-here : i ≡ k → Step n i l
-  step-here e =
+  by-low-here : i ≡ k → ByLowBit n i l
+  by-low-here e =
       let s = at in
       let y : i - k ≡ 0 = omega arith in
       let long : n ≤ i + l =
@@ -137,8 +137,8 @@ module _ (n k i l : ℕ) (big : 1 < n) (is : k ≡ split n) (pos : 0 < i) (lt : 
   not-thrice zero e h o = omega (arith, mul-zero l)
   not-thrice (suc q) e h o = let s = at in omega (arith, mul-suc l q)
 
-  step-right : Steps (n - k) → k < i → Step n i l
-  step-right ih h =
+  by-low-right : ByLowBits (n - k) → k < i → ByLowBit n i l
+  by-low-right ih h =
       let s = at in
       let small : l < n = omega arith in
       let most : l ≤ k = rw (b .power) (s .largest (b .exponent) (rw (b .power) at small)) in
@@ -148,43 +148,30 @@ module _ (n k i l : ℕ) (big : 1 < n) (is : k ≡ split n) (pos : 0 < i) (lt : 
       let z : i + l - k ≡ i - k + l = omega arith in
       let y : n - k - (i - k) ≡ n - i = omega arith in
       record {
-        more = λ g. one ∙ here .more (omega arith) ∙ ap suc (ap (held (n - k)) (sym z) ∙ sym (held-right n k big is (i + l) (omega arith) g));
+        more = λ g. one ∙ here .more (omega arith) ∙ ap suc (ap (heldCount (n - k)) (sym z) ∙ sym (held-right n k big is (i + l) (omega arith) g));
         last = λ g. one ∙ here .last (omega arith);
-        first = carried-right n k big is i (omega arith) lt ∙ here .first ∙ ap (λ m. carried (min l m) 1) y;
+        first = carried-right n k big is i (omega arith) lt ∙ here .first ∙ ap (λ m. carriedCount (min l m) 1) y;
       }
 
-pub step : (n : ℕ) → 0 < n → Steps n
-step =
-    by-halves (λ n s. Steps n) (λ i l pos lt b. absurd (omega arith))
+pub by-low-bit : (n : ℕ) → 0 < n → ByLowBits n
+by-low-bit =
+    by-halves (λ n s. ByLowBits n) (λ i l pos lt b. absurd (omega arith))
     (λ n k big is below left right i l pos lt b.
-    ⊎-elim (step-left n k i l big is pos lt b left)
-    (λ (w : k ≤ i). ⊎-elim (step-right n k i l big is pos lt b right) (λ (v : i ≤ k). step-here n k i l big is pos lt b (omega arith)) (lt-or-le k i))
+    ⊎-elim (by-low-left n k i l big is pos lt b left)
+    (λ (w : k ≤ i). ⊎-elim (by-low-right n k i l big is pos lt b right) (λ (v : i ≤ k). by-low-here n k i l big is pos lt b (omega arith)) (lt-or-le k i))
     (lt-or-le i k))
 
--- the depth is the one exponent whose power of two is at least n and not twice n
-depth-is : (n d : ℕ) → n ≤ 2 ^ d → 2 ^ d < 2 * n → depth n ≡ d
-depth-is n d fits least =
-    ⊎-elim (λ (w : depth n < d). absurd (omega (arith, pow-mono w, pow-suc 2 (depth n), depth-fits n)))
-    (λ (w : d ≤ depth n). omega (arith, depth-least n d fits))
-    (lt-or-le (depth n) d)
-
 -- The first message carries as many hashes as the tree is deep.
-pub carried-depth : (n : ℕ) → 0 < n → carried n 1 ≡ depth n
+pub carried-depth : (n : ℕ) → 0 < n → carriedCount n 1 ≡ depth n
 carried-depth =
-    by-halves (λ n s. carried n 1 ≡ depth n) (carried-leaf 1 (omega arith) ∙ sym (depth-is 1 0 (omega (arith, pow-zero 2)) (omega (arith, pow-zero 2))))
-    (λ n k big is below left right.
-    let s = split-known n big in
-    let e = s .exponent in
-    let here : k ≡ 2 ^ e = is ∙ s .power in
-    let half : depth k ≡ e = depth-is k e (omega arith) (omega (arith, pow-pos e)) in
-    let whole : depth n ≡ suc e = depth-is n (suc e) (omega (arith, pow-suc 2 e)) (omega (arith, pow-suc 2 e)) in
-    carried-first n k big is ∙ omega arith)
+    by-halves (λ n s. carriedCount n 1 ≡ depth n) (carried-leaf 1 (omega arith) ∙ sym depth-one)
+    (λ n k big is below left right. omega (arith, carried-first n k big is, depth-halves n k big is))
 
 -- A later one carries as many as the largest subtree that starts with its block is deep.
-pub carried-later : (n i l m : ℕ) → 0 < i → i < n → Low i l → m ≡ min l (n - i) → carried n (i + 1) ≡ depth m
+pub carried-later : (n i l m : ℕ) → 0 < i → i < n → Low i l → m ≡ min l (n - i) → carriedCount n (i + 1) ≡ depth m
 carried-later n i l m pos lt b is =
     let z : i + 1 ≡ suc i = omega arith in
-    rw (z, is) (step n (omega arith) i l pos lt b .first ∙ carried-depth (min l (n - i)) (omega (arith, low-pos i l b)))
+    rw (z, is) (by-low-bit n (omega arith) i l pos lt b .first ∙ carried-depth (min l (n - i)) (omega (arith, low-pos i l b)))
 
 -- The depth is the length in bits of the number before n.
 pub depth-length : (n : ℕ) → 0 < n → n - 1 < 2 ^ 64 → 64 - leadingZeros 64 (n - 1) ≡ depth n

@@ -1,9 +1,8 @@
 -- A block message against the flat array: what an accepted one keeps, and that the sender's are accepted, one after the other.
 use mathlib.Core.Path.{_≡_, sym, ap, ap₂, _∙_}
-use mathlib.Core.Logic.{⊎-elim}
 use mathlib.Core.Bool.{true}
 use mathlib.Core.List.{List, [], _∷_, _++_, head-eq-of-cons-eq, tail-eq-of-cons-eq}
-use Prim.Native.Nat.{ℕ, zero, suc, _*_, _≤_, _<_}
+use Prim.Native.Nat.{ℕ, suc, _*_, _≤_, _<_}
 use native.Mathlib.Omega.{arith}
 use lib.ListN.{length}
 use Rattle.octets.proofs.EqualLaws.{equal-self, equal-true}
@@ -11,25 +10,26 @@ use Rattle.octets.specs.Octets.{joined}
 use Rattle.merkle.specs.Limits.{hashLength, maxBlocks, heldBytes}
 use Rattle.merkle.specs.Shape.{Place, shape, size}
 use Rattle.merkle.specs.Hash.{Hashing, hashes, climb}
-use Rattle.merkle.specs.Frontier.{siblings, frontier, carried}
-use Rattle.merkle.specs.Held.{hashesIn, heldIn, nextHeld, advanced, fits, sent, afterSent}
-use Rattle.merkle.proofs.ShapeLaws.{lt-or-le, size-shape}
+use Rattle.merkle.specs.Frontier.{siblings, frontier, carriedCount}
+use Rattle.merkle.specs.Held.{hashesIn, heldIn, nextHeld, advanced, fits, sent}
+use Rattle.merkle.specs.Claims.{Advance}
+use Rattle.merkle.proofs.ShapeLaws.{size-shape}
 use Rattle.merkle.proofs.HashLaws.{Same, length-hashes, siblings-same, length-hash}
-use Rattle.merkle.proofs.LoadingLaws.{Step, step, Loaded, loaded-step}
-use Rattle.merkle.proofs.HeldLaws.{length-hashesIn, Sized, none, more, length-joined, hashesIn-joined, Advance, advance}
+use Rattle.merkle.proofs.LoadingLaws.{NextHashes, next-hashes, Loaded, loaded-step}
+use Rattle.merkle.proofs.HeldLaws.{length-hashesIn, Sized, none, more, length-joined, hashesIn-joined, advance}
 
 module _ (H : Hashing) where
   -- A block that fits keeps the array loaded.
   pub loaded-fits : (n i : ℕ) (root array message : List ℕ) (before after : ℕ → List ℕ) → i < n → n ≤ maxBlocks → length array ≡ heldBytes
-      → length message ≡ hashLength * carried n (suc i) → ((j : ℕ) → j < i → after j ≡ before j) → fits H n i array (after i) message ≡ true
+      → length message ≡ hashLength * carriedCount n (suc i) → ((j : ℕ) → j < i → after j ≡ before j) → fits H n i array (after i) message ≡ true
       → Loaded H (shape n) root i before (heldIn n i array) → Loaded H (shape n) root (suc i) after (heldIn n (suc i) (advanced n i array message))
-  unfolding fits carried
+  unfolding fits carriedCount
   loaded-fits n i root array message before after h le la lm same ok loaded =
       let a : Advance n i array message = advance n i array message h le la lm in
-      let e : nextHeld n i array ≡ climb H (after i) (hashesIn (carried n (suc i)) message) = equal-true (nextHeld n i array) _ ok in
+      let e : nextHeld n i array ≡ climb H (after i) (hashesIn (carriedCount n (suc i)) message) = equal-true (nextHeld n i array) _ ok in
       rw (a .then)
-      (loaded-step H (shape n) root i before after (a .others) (hashesIn (carried n (suc i)) message) (rw (size-shape n (omega arith)) h) same
-      (length-hashesIn (carried n (suc i)) message) (rw (sym e) (rw (a .first) at loaded)))
+      (loaded-step H (shape n) root i before after (a .others) (hashesIn (carriedCount n (suc i)) message) (rw (size-shape n (omega arith)) h) same
+      (length-hashesIn (carriedCount n (suc i)) message) (rw (sym e) (rw (a .first) at loaded)))
 
   -- What the sender sends depends on the blocks alone.
   pub sent-same : (n : ℕ) {f g : ℕ → List ℕ} (i : ℕ) → Same f 0 g 0 (shape n) → sent H n f i ≡ sent H n g i
@@ -42,13 +42,13 @@ module _ (H : Hashing) where
     sized-hashes f [] = none
     sized-hashes f (x ∷ ps) = more (length-hash H sized f (x .0) (x .1)) (sized-hashes f ps)
 
-    pub length-sent : (n : ℕ) (f : ℕ → List ℕ) (i : ℕ) → length (sent H n f i) ≡ hashLength * carried n (suc i)
-    unfolding sent carried
+    pub length-sent : (n : ℕ) (f : ℕ → List ℕ) (i : ℕ) → length (sent H n f i) ≡ hashLength * carriedCount n (suc i)
+    unfolding sent carriedCount
     length-sent n f i =
         length-joined (sized-hashes f (siblings 0 (shape n) i)) ∙ ap (λ c. hashLength * c) (length-hashes H f (siblings 0 (shape n) i))
 
-    hashesIn-sent : (n : ℕ) (f : ℕ → List ℕ) (i : ℕ) → hashesIn (carried n (suc i)) (sent H n f i) ≡ hashes H f (siblings 0 (shape n) i)
-    unfolding sent carried
+    hashesIn-sent : (n : ℕ) (f : ℕ → List ℕ) (i : ℕ) → hashesIn (carriedCount n (suc i)) (sent H n f i) ≡ hashes H f (siblings 0 (shape n) i)
+    unfolding sent carriedCount
     hashesIn-sent n f i =
         ap (λ c. hashesIn c (joined (hashes H f (siblings 0 (shape n) i)))) (sym (length-hashes H f (siblings 0 (shape n) i)))
         ∙ hashesIn-joined (sized-hashes f (siblings 0 (shape n) i))
@@ -58,37 +58,19 @@ module _ (H : Hashing) where
     Holds n f i array = heldIn n i array ≡ hashes H f (frontier 0 (shape n) i)
 
     -- One honest step: the sender's message fits, and afterwards the image's hashes at the next frontier are held.
-    pub record Honest (n : ℕ) (f : ℕ → List ℕ) (i : ℕ) (array : List ℕ) : Type 0 where
+    pub record SentFits (n : ℕ) (f : ℕ → List ℕ) (i : ℕ) (array : List ℕ) : Type 0 where
       pub accepted : fits H n i array (f i) (sent H n f i) ≡ true
       pub holds : Holds n f (suc i) (advanced n i array (sent H n f i))
       pub size : length (advanced n i array (sent H n f i)) ≡ heldBytes
 
-    pub honest : (n : ℕ) (f : ℕ → List ℕ) (i : ℕ) (array : List ℕ) → i < n → n ≤ maxBlocks → length array ≡ heldBytes → Holds n f i array → Honest n f i array
+    pub sent-fits : (n : ℕ) (f : ℕ → List ℕ) (i : ℕ) (array : List ℕ) → i < n → n ≤ maxBlocks → length array ≡ heldBytes → Holds n f i array → SentFits n f i array
     unfolding fits
-    honest n f i array h le la holds =
+    sent-fits n f i array h le la holds =
         let a : Advance n i array (sent H n f i) = advance n i array (sent H n f i) h le la (length-sent n f i) in
-        let k : Step H f (shape n) i = step H f (shape n) i (rw (size-shape n (omega arith)) h) in
+        let k : NextHashes H f (shape n) i = next-hashes H f (shape n) i (rw (size-shape n (omega arith)) h) in
         let both = sym (a .first) ∙ holds ∙ k .first in
         record {
           accepted = rw (hashesIn-sent n f i, head-eq-of-cons-eq both) (equal-self _);
           holds = a .then ∙ ap₂ {C = List (List ℕ)} (λ x y. x ++ y) (hashesIn-sent n f i) (tail-eq-of-cons-eq both) ∙ sym (k .then);
           size = a .size;
-        }
-
-    -- The whole honest run: all of the first j messages fit, each after those before it, and then the image's hashes are held.
-    pub record HonestRun (n : ℕ) (f : ℕ → List ℕ) (j : ℕ) (array : List ℕ) : Type 0 where
-      pub accepted : (i : ℕ) → i < j → fits H n i (afterSent H n f i array) (f i) (sent H n f i) ≡ true
-      pub holds : Holds n f j (afterSent H n f j array)
-      pub size : length (afterSent H n f j array) ≡ heldBytes
-
-    pub honest-run : (n : ℕ) (f : ℕ → List ℕ) (j : ℕ) (array : List ℕ) → j ≤ n → n ≤ maxBlocks → length array ≡ heldBytes → Holds n f 0 array → HonestRun n f j array
-    unfolding afterSent
-    honest-run n f zero array h le la holds = record { accepted = λ i g. absurd (omega arith); holds = holds; size = la }
-    honest-run n f (suc j) array h le la holds =
-        let k = honest-run n f j array (omega arith) le la holds in
-        let s = honest n f j (afterSent H n f j array) h le (k .size) (k .holds) in
-        record {
-          accepted = λ i g. ⊎-elim (λ (w : i < j). k .accepted i w) (λ (w : j ≤ i). let e : i ≡ j = omega arith in rw e (s .accepted)) (lt-or-le i j);
-          holds = s .holds;
-          size = s .size;
         }

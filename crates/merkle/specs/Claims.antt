@@ -1,0 +1,92 @@
+-- What is shown of the definitions (in proofs/), in 01's order.
+use mathlib.Core.Path.{_≡_}
+use mathlib.Core.List.{List, _∷_, _++_, List·Memᴰ}
+use Prim.Native.Nat.{ℕ, suc, _+_, _-_, _*_, _^_, _≤_, _<_}
+use lib.ListN.{length}
+use Rattle.merkle.specs.Limits.{maxBlocks, hashLength, heldBytes}
+use Rattle.merkle.specs.Blocks.{blockCount}
+use Rattle.merkle.specs.Shape.{Shape, leaf, node, size, height, depth, split, shape, Place, places}
+use Rattle.merkle.specs.Hash.{Hashing, hash, hashes, climb}
+use Rattle.merkle.specs.Frontier.{largest, rightSiblings, siblings, carriedCount, frontier}
+use Rattle.merkle.specs.Held.{hashesIn, heldIn, nextHeld, advanced}
+
+-- "Its count n is T/L rounded up": n blocks hold the T bytes, and n - 1 do not.
+pub record Rounded (L T n : ℕ) : Type 0 where
+  pub some : 0 < n
+  pub below : (n - 1) * L < T
+  pub enough : T ≤ n * L
+
+abbrev pub CountRounded : Type 0
+CountRounded = (L T : ℕ) → 0 < L → 0 < T → Rounded L T (blockCount L T)
+
+-- "A label is 32 bytes", if the hash function's results are.
+abbrev pub HashesLong : Type 0
+HashesLong = (H : Hashing) → ((x : List ℕ) → length (H .function x) ≡ hashLength) → (f : ℕ → List ℕ) (o : ℕ) (s : Shape) → length (hash H f o s) ≡ hashLength
+
+-- "k, the largest power of two below n"
+pub record LargestPower (n k : ℕ) : Type 0 where
+  pub exponent : ℕ
+  pub power : k ≡ 2 ^ exponent
+  pub below : k < n
+  pub largest : (e : ℕ) → 2 ^ e < n → 2 ^ e ≤ k
+
+abbrev pub SplitLargest : Type 0
+SplitLargest = (n : ℕ) → 1 < n → LargestPower n (split n)
+
+-- "a tree over more blocks is split at k: blocks 1 to k on the left", the others on the right; and the tree over n blocks has n.
+abbrev pub ShapeHalves : Type 0
+ShapeHalves = (shape 1 ≡ leaf) × ((n : ℕ) → 1 < n → shape n ≡ node (shape (split n)) (shape (n - split n))) × ((n : ℕ) → 0 < n → size (shape n) ≡ n)
+
+-- "The depth of the tree is the least d with 2 to the power d at least n": so many nodes are above a block, at most.
+abbrev pub DepthLeast : Type 0
+DepthLeast = (n : ℕ) → (n ≤ 2 ^ depth n) × ((d : ℕ) → n ≤ 2 ^ d → depth n ≤ d) × (0 < n → height (shape n) ≡ depth n)
+
+-- "the largest subtree whose first block is i", i blocks before it
+pub record Largest (o : ℕ) (s : Shape) (i : ℕ) (p : Place) : Type 0 where
+  pub within : List·Memᴰ p (places o s)
+  pub starts : p .0 ≡ o + i
+  pub most : (q : Place) → List·Memᴰ q (places o s) → q .0 ≡ o + i → size (q .1) ≤ size (p .1)
+
+abbrev pub LargestSubtree : Type 0
+LargestSubtree = (o : ℕ) (s : Shape) (i : ℕ) → i < size s → Largest o s i (largest o s i)
+
+-- "worked out from the block and the message's labels": a tree's hash comes from its first block and the right siblings on the way up.
+abbrev pub Climbed : Type 0
+Climbed = (H : Hashing) (f : ℕ → List ℕ) (o : ℕ) (s : Shape) → hash H f o s ≡ climb H (f o) (hashes H f (rightSiblings o s))
+
+-- The places cover exactly the blocks from a up to b, b left out: each is a place of the tree and has no other block, and each block is in one.
+pub record Covers (tree : List Place) (a b : ℕ) (ps : List Place) : Type 0 where
+  pub within : (p : Place) → List·Memᴰ p ps → List·Memᴰ p tree
+  pub only : (p : Place) → List·Memᴰ p ps → (a ≤ p .0) × (p .0 + size (p .1) ≤ b)
+  pub all : (j : ℕ) → a ≤ j → j < b → (p : Place) × List·Memᴰ p ps × (p .0 ≤ j) × (j < p .0 + size (p .1))
+
+-- "the fewest subtrees that cover exactly blocks i + 1 to n": no shorter list covers them, in any order, overlapping or not.
+pub record Fewest (tree : List Place) (a b : ℕ) (ps : List Place) : Type 0 where
+  pub exactly : Covers tree a b ps
+  pub fewest : (qs : List Place) → Covers tree a b qs → length ps ≤ length qs
+
+abbrev pub FrontierFewest : Type 0
+FrontierFewest = (o : ℕ) (s : Shape) (i : ℕ) → i ≤ size s → Fewest (places o s) (o + i) (o + size s) (frontier o s i)
+
+-- "the held one is the held label of that subtree": the frontier begins with the largest subtree that starts there; after one block more its right siblings are
+-- in its place.
+pub record Next (o : ℕ) (s : Shape) (i : ℕ) : Type 0 where
+  pub others : List Place
+  pub first : frontier o s i ≡ largest o s i ∷ others
+  pub starts : largest o s i .0 ≡ o + i
+  pub then : frontier o s (suc i) ≡ siblings o s i ++ others
+
+abbrev pub FrontierNext : Type 0
+FrontierNext = (o : ℕ) (s : Shape) (i : ℕ) → i < size s → Next o s i
+
+-- "the message's labels take the place of that held label, the other held labels stay"
+pub record Advance (n i : ℕ) (array message : List ℕ) : Type 0 where
+  pub others : List (List ℕ)
+  pub first : heldIn n i array ≡ nextHeld n i array ∷ others
+  pub then : heldIn n (suc i) (advanced n i array message) ≡ hashesIn (carriedCount n (suc i)) message ++ others
+  pub size : length (advanced n i array message) ≡ heldBytes
+
+abbrev pub ArrayAdvance : Type 0
+ArrayAdvance =
+    (n i : ℕ) (array message : List ℕ) → i < n → n ≤ maxBlocks → length array ≡ heldBytes → length message ≡ hashLength * carriedCount n (suc i)
+    → Advance n i array message
