@@ -24,8 +24,9 @@ use Rattle.capi.specs.declared.state.Found.{Found}
 use Rattle.capi.specs.declared.state.Found.the-variants.{At, Nothing}
 use Rattle.capi.specs.Found.{found}
 use Rattle.capi.specs.State.{stateLength, encode, stageIn, deviceIn}
-use Rattle.capi.proofs.StateLaws.{Fits, decode-none, decode-some, decode-encode}
+use Rattle.capi.proofs.StateLaws.{decode-none, decode-some, decode-encode}
 use Rattle.capi.specs.Call.{sentNumber, sentLength, Sends, stateAfter, called, receive}
+use Rattle.capi.specs.Claims.{IsStep}
 
 pub sends : {s : Result} {a : Sent} {w r w′ : ℕ} {b : List ℕ} → Does s a b → (r ≡ sentNumber a) × (w′ ≡ sentLength a w) → Sends s w r w′ b
 sends {s} {a} {w} d e =
@@ -71,7 +72,6 @@ module _ (b : List ℕ) {f : Found} (e : f ≡ found (stageIn b)) where
       unfolding called stateAfter
       accepted {s} z es ls eb = taken ∙ rw (z, eb, paste-whole b s (length-found g ∙ sym ls), es)
 
--- The call on a state's own bytes is the device's step.
-pub receive-encode : (d : Device) (flash m : List ℕ) → Fits d → receive (encode d) flash m ≡ called (step digest valid d flash m) (encode d)
+pub receive-encode : IsStep
 unfolding receive
 receive-encode d flash m f = rw (decode-encode d f, receive)

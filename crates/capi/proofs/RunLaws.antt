@@ -3,7 +3,7 @@ use mathlib.Core.Path.{_≡_, refl, ap, _∙_}
 use mathlib.Core.Bool.{Bool, true, false, cond}
 use mathlib.Core.List.{List}
 use mathlib.Core.Option.{Option, none, some}
-use Prim.Native.Nat.{ℕ, suc, pred, _+_, _*_, _^_, _≤_, _<_}
+use Prim.Native.Nat.{ℕ, suc, pred, _+_, _*_, _≤_}
 use native.Mathlib.Omega.{arith}
 use lib.Dec.{ltb}
 use lib.ListN.{length, drop, length-drop, length-replicate}
@@ -19,6 +19,7 @@ use Rattle.wire.specs.declared.kind.Kind.{Kind}
 use Rattle.wire.specs.declared.kind.Kind.the-variants.{Program, Block, Update, Unknown}
 use Rattle.wire.specs.declared.refusal.Refusal.{Refusal}
 use Rattle.wire.specs.Message.{kind, manifestBytes, manifestIn, hashesAfter}
+use Rattle.wire.specs.Manifest as spec
 use Rattle.wire.proofs.SizeLaws.{sized}
 use Rattle.wire.proofs.ManifestLaws as manifest
 use Rattle.machine.specs.declared.state.Stage.the-variants.{Loading, Complete}
@@ -26,17 +27,17 @@ use Rattle.machine.specs.declared.state.Device.{Device}
 use Rattle.machine.specs.Device.{countOf, freshWith, Situation}
 use Rattle.machine.specs.Refusals.{badSize, nextOf}
 use Rattle.machine.specs.Step.{acceptProgram, stageAfter, acceptBlock, acceptUpdate, accept, outcome, refusalOf, step}
-use Rattle.guarantee.specs.Run.{Messages, empty, _▷_, after}
+use Rattle.guarantee.specs.Run.{empty, _▷_, after}
 use Rattle.machine.proofs.RefusalLaws.{BlockPassed, program-passed, block-passed, update-passed}
 use Rattle.capi.specs.State.{encode}
 use Rattle.capi.specs.Call.{called, stateAfter, receive}
 use Rattle.capi.specs.Run.{Memory, left, callsAfter, AllBytes}
-use Rattle.capi.proofs.StateLaws.{Fits}
+use Rattle.capi.specs.Claims.{Fits, FreshFits, RunsDevice}
 use Rattle.capi.proofs.CallLaws.{receive-encode}
 
 -- What an accepted message of bytes leaves still fits its bytes.
 module _ (d : Device) (flash m : List ℕ) (bytes : Bytes m) (f : Fits d) where
-  manifest-fits : 49 ≤ length m → manifest.Fits (manifestIn m)
+  manifest-fits : 49 ≤ length m → spec.Fits (manifestIn m)
   unfolding manifestIn manifestBytes
   manifest-fits h = manifest.read-fits (part 1 48 m) (length-part m 1 48 (omega arith)) (part-bytes m bytes 1 48 (omega arith))
 
@@ -86,7 +87,7 @@ module _ (d : Device) (flash m : List ℕ) (bytes : Bytes m) (f : Fits d) where
       go (some x) e = f
 
 -- so does a fresh device
-pub fresh-fits : (model : ℕ) (key : List ℕ) → model < 256 ^ 4 → length key ≡ 56 → Fits (freshWith model key)
+pub fresh-fits : FreshFits
 unfolding freshWith nextOf
 fresh-fits model key h l =
     record {
@@ -111,22 +112,14 @@ left-is d flash m = go (refusalOf digest valid d flash m)
     go none = refl
     go (some x) = refl
 
-module _ (d : Device) (flash : List ℕ) (f : Fits d) where
-  abbrev at : Messages → Situation
-  at ms = after (step digest valid) d flash ms
-
-  pub record Runs (ms : Messages) : Type 0 where
-    pub fits : Fits (at ms .device)
-    pub memory : callsAfter (encode d) flash ms ≡ record { state = encode (at ms .device); flash = at ms .flash }
-
-  pub runs : (ms : Messages) → AllBytes ms → Runs ms
-  unfolding callsAfter after AllBytes
-  runs empty b = record { fits = f; memory = refl }
-  runs (ms ▷ m) b =
-      let r = runs ms (b .0) in
-      let now : Device = at ms .device in
-      let held : List ℕ = at ms .flash in
-      record {
-        fits = fits-step now held m (b .1) (r .fits);
-        memory = ap (λ (x : Memory). left (receive (x .state) (x .flash) m)) (r .memory) ∙ ap left (receive-encode now held m (r .fits)) ∙ left-is now held m;
-      }
+pub runs : RunsDevice
+unfolding callsAfter after AllBytes
+runs d flash f empty b = record { fits = f; memory = refl }
+runs d flash f (ms ▷ m) b =
+    let r = runs d flash f ms (b .0) in
+    let s : Situation = after (step digest valid) d flash ms in
+    record {
+      fits = fits-step (s .device) (s .flash) m (b .1) (r .fits);
+      memory = ap (λ (x : Memory). left (receive (x .state) (x .flash) m)) (r .memory) ∙ ap left (receive-encode (s .device) (s .flash) m (r .fits))
+          ∙ left-is (s .device) (s .flash) m;
+    }

@@ -10,28 +10,22 @@ use Rattle.octets.specs.Octets.{bytes, number, part}
 use Rattle.merkle.specs.Limits.{heldBytes}
 use Rattle.octets.proofs.JoinedLaws.{total, joined-length, stands}
 use Rattle.octets.proofs.NumberLaws.{length-bytes, number-back}
-use Rattle.wire.specs.Manifest.{written, read}
+use Rattle.lms.specs.Lms.{keyLength}
+use Rattle.wire.specs.Manifest.{manifestLength, written, read}
 use Rattle.wire.proofs.ManifestLaws as manifest
 use Rattle.machine.specs.declared.state.Stage.{Stage}
 use Rattle.machine.specs.declared.state.Stage.the-variants.{Idle, Loading, Complete}
 use Rattle.machine.specs.declared.state.Device.{Device}
 use Rattle.machine.specs.Refusals.{nextOf}
-use Rattle.capi.specs.State.{stateLength, stageNumber, encode, stageFrom, stageIn, deviceIn, decode}
-
--- the fields fit their bytes
-pub record Fits (d : Device) : Type 0 where
-  pub model : d .model < 256 ^ 4
-  pub key : length (d .key) ≡ 56
-  pub next : nextOf (d .stage) < 256 ^ 2
-  pub manifest : manifest.Fits (d .manifest)
-  pub hashes : length (d .hashes) ≡ heldBytes
+use Rattle.capi.specs.State.{stageAt, nextAt, stateLength, stageNumber, encode, stageFrom, stageIn, deviceIn, decode}
+use Rattle.capi.specs.Claims.{Fits, GivesBack}
 
 -- what `stageIn` says of bytes by their length
 pub other-length : (b : List ℕ) → (length b ≡ stateLength → ⊥) → stageIn b ≡ none
 unfolding stageIn
 other-length b h = rw (ne-eqb (length b) stateLength h)
 
-pub right-length : (b : List ℕ) {k n : ℕ} → length b ≡ stateLength → k ≡ number (part 60 2 b) → n ≡ number (part 62 2 b) → stageIn b ≡ stageFrom k n
+pub right-length : (b : List ℕ) {k n : ℕ} → length b ≡ stateLength → k ≡ number (part stageAt 2 b) → n ≡ number (part nextAt 2 b) → stageIn b ≡ stageFrom k n
 unfolding stageIn
 right-length b l ek en = rw (l, ek, en)
 
@@ -57,7 +51,7 @@ small Complete = omega arith
 
 -- the lengths of the fields
 abbrev pub lengths : List ℕ
-lengths = 4 ∷ 56 ∷ 2 ∷ 2 ∷ 48 ∷ heldBytes ∷ []
+lengths = 4 ∷ keyLength ∷ 2 ∷ 2 ∷ manifestLength ∷ heldBytes ∷ []
 
 module _ (d : Device) (f : Fits d) where
   abbrev fields : List (List ℕ)
@@ -91,6 +85,5 @@ module _ (d : Device) (f : Fits d) where
         hashes = field 5 i;
       }
 
-  -- every state whose fields fit comes back
-  pub decode-encode : decode (encode d) ≡ some d
-  decode-encode = decode-some (encode d) stage-encode ∙ ap some device-encode
+pub decode-encode : GivesBack
+decode-encode d f = decode-some (encode d) (stage-encode d f) ∙ ap some (device-encode d f)

@@ -1,4 +1,4 @@
--- What the code finds in bytes that may encode a state, as its own type says it.
+-- For the code alone: what it finds in bytes that may encode a state, as its own type says it.
 use mathlib.Core.Option.{Option, none, some}
 use Rattle.machine.specs.declared.state.Stage.{Stage}
 use Rattle.capi.specs.declared.state.Found.{Found}

@@ -1,4 +1,5 @@
 pub mod State
 pub mod Call
-pub mod Found
 pub mod Run
+pub mod Claims
+pub mod Found

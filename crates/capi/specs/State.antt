@@ -7,19 +7,36 @@ use lib.Dec.{eqb}
 use lib.ListN.{length}
 use Rattle.octets.specs.Octets.{bytes, number, part, joined}
 use Rattle.merkle.specs.Limits.{heldBytes}
-use Rattle.wire.specs.Manifest.{written, read}
+use Rattle.lms.specs.Lms.{keyLength}
+use Rattle.wire.specs.Manifest.{manifestLength, written, read}
 use Rattle.machine.specs.declared.state.Stage.{Stage}
 use Rattle.machine.specs.declared.state.Stage.the-variants.{Idle, Loading, Complete}
 use Rattle.machine.specs.declared.state.Device.{Device}
 use Rattle.machine.specs.Refusals.{nextOf}
 
+-- Where its fields start: model (4 bytes), key, stage (2), next number (2), manifest, held hashes.
+abbrev pub keyAt : ℕ
+keyAt = 4
+
+abbrev pub stageAt : ℕ
+stageAt = keyAt + keyLength
+
+abbrev pub nextAt : ℕ
+nextAt = stageAt + 2
+
+abbrev pub manifestAt : ℕ
+manifestAt = nextAt + 2
+
+abbrev pub hashesAt : ℕ
+hashesAt = manifestAt + manifestLength
+
 abbrev pub stateLength : ℕ
-stateLength = 112 + heldBytes
+stateLength = hashesAt + heldBytes
 
 unfoldable pub stageNumber : Stage → ℕ
 stageNumber t = elim t [ Idle ↦ 0 | Loading i ↦ 1 | Complete ↦ 2 ]
 
--- model (4), key (56), stage (2), next number (2), which is 0 unless the device is loading, manifest (48), held hashes (384)
+-- The next number is 0 unless the device is loading.
 unfoldable pub encode : Device → List ℕ
 encode d =
     joined (bytes 4 (d .model) ∷ d .key ∷ bytes 2 (stageNumber (d .stage)) ∷ bytes 2 (nextOf (d .stage)) ∷ written (d .manifest) ∷ d .hashes ∷ [])
@@ -30,11 +47,18 @@ stageFrom k next = cond (eqb k 0) (some Idle) (cond (eqb k 1) (some (Loading nex
 
 -- the stage of the state that bytes encode; those of another length, or with an unknown stage, encode none
 unfoldable pub stageIn : List ℕ → Option Stage
-stageIn b = cond (eqb (length b) stateLength) (stageFrom (number (part 60 2 b)) (number (part 62 2 b))) none
+stageIn b = cond (eqb (length b) stateLength) (stageFrom (number (part stageAt 2 b)) (number (part nextAt 2 b))) none
 
 -- the device at this stage whose other fields stand in b
 unfoldable pub deviceIn : List ℕ → Stage → Device
-deviceIn b t = record { model = number (part 0 4 b); key = part 4 56 b; stage = t; manifest = read (part 64 48 b); hashes = part 112 heldBytes b }
+deviceIn b t =
+    record {
+      model = number (part 0 4 b);
+      key = part keyAt keyLength b;
+      stage = t;
+      manifest = read (part manifestAt manifestLength b);
+      hashes = part hashesAt heldBytes b;
+    }
 
 unfoldable pub decode : List ℕ → Option Device
 decode b = elim (stageIn b) [ none ↦ none | some t ↦ some (deviceIn b t) ]

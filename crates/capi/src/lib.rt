@@ -122,7 +122,7 @@ pub extern "C" fn lertxuno_update(
 
 // A fresh device's state.
 #[no_mangle]
-pub extern "C" fn lertxuno_fresh(model: u32, key: &[u8; 56], state: &mut [u8; STATE_LEN])
+pub extern "C" fn lertxuno_fresh(model: u32, key: &[u8; lms::KEY_LEN], state: &mut [u8; STATE_LEN])
     ensures { λ _. ⌜ now (state .exit) ≡ encode (freshWith model (now (key .entry))) ⌝ }
 {
     let k = *key;

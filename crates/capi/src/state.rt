@@ -6,7 +6,18 @@ ghost use lib.ListN.{length};
 ghost use Rattle.capi.specs.State.{encode, deviceIn, stageIn, stageNumber, stateLength};
 ghost use Rattle.capi.specs.Found.{found};
 
-pub const STATE_LEN: usize = 112 + merkle::HELD_LEN;
+// Where the fields start: model (4 bytes), key, stage (2), next number (2), manifest, held hashes. specs/State.antt has the same for the contracts.
+const KEY_AT: usize = 4;
+
+const STAGE_AT: usize = KEY_AT + lms::KEY_LEN;
+
+const NEXT_AT: usize = STAGE_AT + 2;
+
+const MANIFEST_AT: usize = NEXT_AT + 2;
+
+const HASHES_AT: usize = MANIFEST_AT + wire::MANIFEST_LEN;
+
+pub const STATE_LEN: usize = HASHES_AT + merkle::HELD_LEN;
 
 // The number that stands for a stage.
 pub fn stage_number(stage: Stage) -> u16
@@ -32,11 +43,11 @@ pub fn to_bytes(device: Device) -> [u8; STATE_LEN]
     let hashes = device.hashes;
     let mut s = [0u8; STATE_LEN];
     octets::copy(&mut s, 0, &model);
-    octets::copy(&mut s, 4, &key);
-    octets::copy(&mut s, 60, &stage);
-    octets::copy(&mut s, 62, &next);
-    octets::copy(&mut s, 64, &manifest);
-    octets::copy(&mut s, 112, &hashes);
+    octets::copy(&mut s, KEY_AT, &key);
+    octets::copy(&mut s, STAGE_AT, &stage);
+    octets::copy(&mut s, NEXT_AT, &next);
+    octets::copy(&mut s, MANIFEST_AT, &manifest);
+    octets::copy(&mut s, HASHES_AT, &hashes);
     s
 }
 
@@ -53,8 +64,8 @@ pub fn stage_in(s: &[u8]) -> Found
     if s.len() != STATE_LEN {
         return Found::Nothing;
     }
-    let next = octets::u16_at(s, 62);
-    match octets::u16_at(s, 60) {
+    let next = octets::u16_at(s, NEXT_AT);
+    match octets::u16_at(s, STAGE_AT) {
         0 => Found::At(Stage::Idle),
         1 => Found::At(Stage::Loading(next)),
         2 => Found::At(Stage::Complete),
@@ -67,15 +78,15 @@ pub fn device_in(s: &[u8], stage: Stage) -> Device
     requires { ⌜ length (now s) ≡ stateLength ⌝ }
     ensures { λ r. ⌜ r ≡ deviceIn (now (s .entry)) stage ⌝ }
 {
-    let mut key = [0u8; 56];
-    octets::copy(&mut key, 0, &s[4..60]);
+    let mut key = [0u8; lms::KEY_LEN];
+    octets::copy(&mut key, 0, &s[KEY_AT..STAGE_AT]);
     let mut hashes = [0u8; merkle::HELD_LEN];
-    octets::copy(&mut hashes, 0, &s[112..STATE_LEN]);
+    octets::copy(&mut hashes, 0, &s[HASHES_AT..STATE_LEN]);
     Device {
         model: octets::u32_at(s, 0),
         key,
         stage,
-        manifest: wire::read(s, 64),
+        manifest: wire::read(s, MANIFEST_AT),
         hashes,
     }
 }

@@ -14,11 +14,11 @@ use Rattle.merkle.specs.Hash.{plain}
 use Rattle.merkle.proofs.HashLaws.{length-hash}
 use Rattle.merkle.proofs.FitsLaws.{length-sent}
 use Rattle.wire.specs.declared.kind.Kind.the-variants.{Block}
-use Rattle.wire.specs.Manifest.{read, written}
+use Rattle.wire.specs.Manifest.{read, written, Fits}
 use Rattle.wire.specs.Image.{filled}
 use Rattle.wire.specs.Message.{kind, manifestBytes, manifestIn, numberIn, blockIn, hashesAfter}
 use Rattle.wire.proofs.SizeLaws.{Sized, sized}
-use Rattle.wire.proofs.ManifestLaws.{Fits, read-written}
+use Rattle.wire.proofs.ManifestLaws.{read-written}
 use Rattle.wire.proofs.ImageLaws.{length-filled, length-block}
 use Rattle.wire.proofs.MessageLaws.{of-block}
 use Rattle.sender.specs.Job.{Job, count, blocks, rootOf, manifestFor, blockFor}

@@ -1,7 +1,7 @@
 -- The manifest's bytes, written and read: each the other's inverse.
 use mathlib.Core.Path.{_≡_, sym, _∙_}
 use mathlib.Core.List.{List, [], _∷_, map}
-use Prim.Native.Nat.{ℕ, _^_, _<_}
+use Prim.Native.Nat.{ℕ}
 use native.Mathlib.Omega.{arith}
 use lib.ListN.{length, take, getD, replicate}
 use Rattle.octets.specs.Octets.{Bytes, bytes, part}
@@ -9,16 +9,7 @@ use Rattle.octets.proofs.CopyLaws.{length-part}
 use Rattle.octets.proofs.JoinedLaws.{total, Copies, joined-length, stands, copied, joined-parts}
 use Rattle.octets.proofs.NumberLaws.{length-bytes, number-back, bytes-part, part-below}
 use Rattle.wire.specs.declared.manifest.Manifest.{Manifest}
-use Rattle.wire.specs.Manifest.{written, read}
-
--- the fields fit their bytes
-pub record Fits (s : Manifest) : Type 0 where
-  pub version : s .version < 256 ^ 2
-  pub «block_len» : s .«block_len» < 256 ^ 2
-  pub model : s .model < 256 ^ 4
-  pub serial : s .serial < 256 ^ 4
-  pub «image_len» : s .«image_len» < 256 ^ 4
-  pub root : length (s .root) ≡ 32
+use Rattle.wire.specs.Manifest.{written, read, Fits}
 
 -- the lengths of the fields
 abbrev lengths : List ℕ

@@ -1,6 +1,8 @@
 -- The manifest (01: slip), 48 bytes: version (2), L (2), model (4), serial (4), T (4), root (32).
+use mathlib.Core.Path.{_≡_}
 use mathlib.Core.List.{List, [], _∷_}
-use Prim.Native.Nat.{ℕ}
+use Prim.Native.Nat.{ℕ, _^_, _<_}
+use lib.ListN.{length}
 use Rattle.octets.specs.Octets.{bytes, number, part, joined}
 use Rattle.wire.specs.declared.manifest.Manifest.{Manifest}
 
@@ -20,3 +22,12 @@ read b =
       «image_len» = number (part 12 4 b);
       root = part 16 32 b;
     }
+
+-- the fields fit their bytes
+pub record Fits (s : Manifest) : Type 0 where
+  pub version : s .version < 256 ^ 2
+  pub «block_len» : s .«block_len» < 256 ^ 2
+  pub model : s .model < 256 ^ 4
+  pub serial : s .serial < 256 ^ 4
+  pub «image_len» : s .«image_len» < 256 ^ 4
+  pub root : length (s .root) ≡ 32

@@ -3,8 +3,9 @@ use native.Mathlib.Omega.{arith}
 use lib.ListN.{replicate}
 use Rattle.octets.specs.Octets.{part}
 use Rattle.merkle.specs.Limits.{heldBytes}
+use Rattle.lms.specs.Lms.{keyLength}
 use Rattle.octets.proofs.CopyLaws.{length-part, paste-whole}
-use Rattle.capi.specs.State.{deviceIn}
+use Rattle.capi.specs.State.{keyAt, hashesAt, deviceIn}
 use borrow.Author.Needs.{needs}
 use Rattle.capi.proofs.state.device_in.Statement.{statement}
 use Rattle.capi.proofs.state.device_in.Tie as tie
@@ -50,8 +51,8 @@ unfolding deviceIn
 returns c =
     let start = c .before .before .before .before .before .before .before .before .before .before .before in
     let s = start .args .s .now in
-    let key = c .before .before .before .before .before .before .before .copy .ensures ∙ paste-whole (replicate 56 0) (part 4 56 s) (sym (length-part s 4 56 (omega arith))) in
-    let hashes = c .before .before .before .copy2 .ensures ∙ paste-whole (replicate heldBytes 0) (part 112 heldBytes s) (sym (length-part s 112 heldBytes (omega arith))) in
+    let key = c .before .before .before .before .before .before .before .copy .ensures ∙ paste-whole (replicate keyLength 0) (part keyAt keyLength s) (sym (length-part s keyAt keyLength (omega arith))) in
+    let hashes = c .before .before .before .copy2 .ensures ∙ paste-whole (replicate heldBytes 0) (part hashesAt heldBytes s) (sym (length-part s hashesAt heldBytes (omega arith))) in
     λ i. record { model = c .before .u32-at .ensures i; key = key i; stage = start .args .stage; manifest = c .read .ensures i; hashes = hashes i }
 
 pub device-in-spec : {M : Type 1} → statement M

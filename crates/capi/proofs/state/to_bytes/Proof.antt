@@ -5,6 +5,8 @@ use native.Mathlib.Omega.{arith}
 use lib.ListN.{length, length-map}
 use Rattle.octets.proofs.NumberLaws.{length-bytes}
 use Rattle.merkle.specs.Limits.{heldBytes}
+use Rattle.lms.specs.Lms.{keyLength}
+use Rattle.wire.specs.Manifest.{manifestLength}
 use Rattle.capi.specs.State.{encode}
 use Rattle.octets.proofs.JoinedLaws.{copied, copy, none}
 use Rattle.capi.proofs.StateLaws.{lengths}
@@ -12,7 +14,7 @@ use borrow.Author.Needs.{needs}
 use Rattle.capi.proofs.state.to_bytes.Statement.{statement}
 use Rattle.capi.proofs.state.to_bytes.Tie as tie
 
-key-length : (c : tie.Start) → length (c .args .device .key) ≡ 56
+key-length : (c : tie.Start) → length (c .args .device .key) ≡ keyLength
 key-length c = sym (length-map (c .args .device .key) (λ (v : ℕ). v)) ∙ c .good .0 .1 .1 .1 .0 .1 .0 .1
 
 hashes-length : (c : tie.Start) → length (c .args .device .hashes) ≡ heldBytes
@@ -105,7 +107,7 @@ returns c =
     let m = s .before .before in
     let a = m .before in
     let d = a .args .device in
-    let lw : length (w .to-bytes .result) ≡ 48 = omega (arith, w .to-bytes .ok) in
+    let lw : length (w .to-bytes .result) ≡ manifestLength = omega (arith, w .to-bytes .ok) in
     copied lengths (m .be32 .result ∷ d .key ∷ s .be16 .result ∷ n .be162 .result ∷ w .to-bytes .result ∷ d .hashes ∷ [])
     (rw (m .be32 .ensures, s .be16 .ensures, n .be162 .ensures, key-length a, lw, hashes-length a) (simp length-bytes))
     (copy (c1 .copy .ensures) (copy (c2 .copy2 .ensures) (copy (c3 .copy3 .ensures) (copy (c4 .copy4 .ensures) (copy (c5 .copy5 .ensures) (copy (c6 .copy6 .ensures) none))))))

@@ -1,0 +1,46 @@
+-- What is shown of the interface for C (in proofs/).
+use mathlib.Core.Path.{_≡_}
+use mathlib.Core.List.{List}
+use mathlib.Core.Option.{some}
+use Prim.Native.Nat.{ℕ, _^_, _<_}
+use lib.ListN.{length}
+use Rattle.sha256.specs.Sha256.{digest}
+use Rattle.merkle.specs.Limits.{heldBytes}
+use Rattle.lms.specs.Lms.{keyLength, valid}
+use Rattle.wire.specs.Manifest as manifest
+use Rattle.machine.specs.declared.state.Device.{Device}
+use Rattle.machine.specs.Device.{freshWith}
+use Rattle.machine.specs.Refusals.{nextOf}
+use Rattle.machine.specs.Step.{step}
+use Rattle.guarantee.specs.Run.{Messages, after}
+use Rattle.capi.specs.State.{encode, decode}
+use Rattle.capi.specs.Call.{called, receive}
+use Rattle.capi.specs.Run.{callsAfter, AllBytes}
+
+-- A state's fields fit their bytes: that of a fresh device, and every one that messages of bytes lead to from there.
+pub record Fits (d : Device) : Type 0 where
+  pub model : d .model < 256 ^ 4
+  pub key : length (d .key) ≡ keyLength
+  pub next : nextOf (d .stage) < 256 ^ 2
+  pub manifest : manifest.Fits (d .manifest)
+  pub hashes : length (d .hashes) ≡ heldBytes
+
+abbrev pub FreshFits : Type 0
+FreshFits = (model : ℕ) (key : List ℕ) → model < 256 ^ 4 → length key ≡ keyLength → Fits (freshWith model key)
+
+-- The state's bytes give back the state.
+abbrev pub GivesBack : Type 0
+GivesBack = (d : Device) → Fits d → decode (encode d) ≡ some d
+
+-- A call on a state's bytes is the device's step.
+abbrev pub IsStep : Type 0
+IsStep = (d : Device) (flash m : List ℕ) → Fits d → receive (encode d) flash m ≡ called (step digest valid d flash m) (encode d)
+
+-- A caller that keeps state and flash from call to call runs the device that demand 3 speaks of: after a list of messages the bytes are those of that device and
+-- its flash.
+pub record Runs (d : Device) (flash : List ℕ) (ms : Messages) : Type 0 where
+  pub fits : Fits (after (step digest valid) d flash ms .device)
+  pub memory : callsAfter (encode d) flash ms ≡ (let s = after (step digest valid) d flash ms in record { state = encode (s .device); flash = s .flash })
+
+abbrev pub RunsDevice : Type 0
+RunsDevice = (d : Device) (flash : List ℕ) → Fits d → (ms : Messages) → AllBytes ms → Runs d flash ms
