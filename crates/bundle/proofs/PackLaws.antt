@@ -17,80 +17,76 @@ use Rattle.octets.proofs.CopyLaws.{part-from}
 use Rattle.sha256.specs.Sha256.{digest}
 use Rattle.merkle.specs.Limits.{maxBlocks}
 use Rattle.merkle.specs.Blocks.{blockCount}
-use Rattle.merkle.specs.Frontier.{messageLength, heldCount}
+use Rattle.merkle.specs.Frontier.{heldCount}
 use Rattle.merkle.proofs.ShapeLaws.{lt-or-le}
 use Rattle.merkle.proofs.CountLaws.{held-zero, held-all, held-next}
 use Rattle.wire.specs.Refusal.{firstThatApplies}
 use Rattle.wire.specs.Size.{wrongSize}
+use Rattle.wire.specs.Message.{dueLength, atStart}
+use Rattle.wire.specs.Geometry.{blockLength}
 use Rattle.wire.proofs.SizeLaws.{Sized, sized, outside-not}
 use Rattle.sender.specs.declared.send.Sent.{Sent}
 use Rattle.sender.specs.declared.send.Sent.the-variants.{Written}
-use Rattle.sender.specs.Job.{Job, job, count, blocks, programFor, blockFor}
-use Rattle.sender.specs.Send.{lengthOf, Does, send, badSize, tooShort, unnumbered, numbered, sendProgram, sendBlock}
+use Rattle.sender.specs.Job.{Image, inBlocks, Job, job, count, programFor, blockFor}
+use Rattle.sender.specs.Send.{lengthOf, Does, asIs, send, tooShort, unnumbered, numbered, sendProgram, sendBlock}
 use Rattle.sender.proofs.JobLaws.{length-block, length-program}
-use Rattle.sender.proofs.PutLaws.{Put, put-more, length-put, put-part}
+use Rattle.wire.proofs.PutLaws.{Put, put-more, length-put, put-all, put-part}
 use Rattle.bundle.specs.Bundle.{blockMessages, bundleFor}
 use Rattle.bundle.specs.Claims.{MessagesLength}
 
--- a block message has neither model nor serial
-same-messages : (image : List ℕ) (L model serial i : ℕ) → blockMessages digest (job image L 0 0) i ≡ blockMessages digest (job image L model serial) i
-unfolding blockMessages blockFor blocks count
-same-messages image L model serial zero = refl
-same-messages image L model serial (suc i) = ap (λ (x : List ℕ). x ++ blockFor digest (job image L model serial) (suc i)) (same-messages image L model serial i)
-
-module _ (j : Job) where
-  more-messages : (i : ℕ) → length (blockMessages digest j (suc i)) ≡ length (blockMessages digest j i) + length (blockFor digest j (suc i))
+module _ (x : Image) where
+  more-messages : (i : ℕ) → length (blockMessages digest x (suc i)) ≡ length (blockMessages digest x i) + length (blockFor digest x (suc i))
   unfolding blockMessages
-  more-messages i = length-append (blockMessages digest j i) (blockFor digest j (suc i))
+  more-messages i = length-append (blockMessages digest x i) (blockFor digest x (suc i))
 
-  messages-grow : (i n : ℕ) → i ≤ n → length (blockMessages digest j i) ≤ length (blockMessages digest j n)
+  messages-grow : (i n : ℕ) → i ≤ n → length (blockMessages digest x i) ≤ length (blockMessages digest x n)
   messages-grow i zero h = let e : i ≡ 0 = omega arith in rw e (omega arith)
   messages-grow i (suc n) h = go (lt-or-le i (suc n)) (λ g. messages-grow i n g)
     where
-      go : (i < suc n) ⊎ (suc n ≤ i) → (i ≤ n → length (blockMessages digest j i) ≤ length (blockMessages digest j n))
-          → length (blockMessages digest j i) ≤ length (blockMessages digest j (suc n))
+      go : (i < suc n) ⊎ (suc n ≤ i) → (i ≤ n → length (blockMessages digest x i) ≤ length (blockMessages digest x n))
+          → length (blockMessages digest x i) ≤ length (blockMessages digest x (suc n))
       go (inl g) ih = omega (arith, ih (omega arith), more-messages n)
       go (inr g) ih = let e : i ≡ suc n = omega arith in rw e (omega arith)
 
-  pub no-messages : (d : List ℕ) → Put d d (blockMessages digest j 0) 0
+  pub no-messages : (d : List ℕ) → Put d d (blockMessages digest x 0) 0
   unfolding blockMessages
   no-messages d = record { is = refl; size = refl }
 
   -- Each message takes a held hash away and brings those that it carries: before the first the root is held, after the last nothing.
-  module _ (z : Sized (j .block) (length (j .image))) where
-    length-some : (i : ℕ) → i ≤ count j → length (blockMessages digest j i) + 32 ≡ i * (35 + j .block) + 32 * heldCount (count j) i
-    unfolding blockMessages messageLength
-    length-some zero h = omega (arith, held-zero (count j))
+  module _ (z : Sized (x .«block_len») (length (x .bytes))) where
+    length-some : (i : ℕ) → i ≤ count x → length (blockMessages digest x i) + 32 ≡ i * (35 + x .«block_len») + 32 * heldCount (count x) i
+    unfolding blockMessages dueLength blockLength count
+    length-some zero h = omega (arith, held-zero (count x))
     length-some (suc i) h =
-        let e : suc i * (35 + j .block) ≡ i * (35 + j .block) + (35 + j .block) = omega arith in
-        omega (arith, more-messages i, length-some i (omega arith), length-block j z (suc i) (omega arith) h, held-next (count j) i h)
+        let e : suc i * (35 + x .«block_len») ≡ i * (35 + x .«block_len») + (35 + x .«block_len») = omega arith in
+        omega (arith, more-messages i, length-some i (omega arith), length-block x z (suc i) (omega arith) h, held-next (count x) i h)
 
     -- so all n together carry n - 1
-    length-all : length (blockMessages digest j (count j)) ≡ count j * (3 + j .block) + 32 * (count j - 1)
+    length-all : length (blockMessages digest x (count x)) ≡ count x * (3 + x .«block_len») + 32 * (count x - 1)
     length-all =
-        let some : 0 < count j = unfold count in z .first in
-        let e : count j * (35 + j .block) ≡ count j * (3 + j .block) + 32 * count j = omega arith in
-        omega (arith, length-some (count j) (omega arith), held-all (count j) some)
+        let some : 0 < count x = unfold count in z .first in
+        let e : count x * (35 + x .«block_len») ≡ count x * (3 + x .«block_len») + 32 * count x = omega arith in
+        omega (arith, length-some (count x) (omega arith), held-all (count x) some)
 
 pub length-messages : MessagesLength
-unfolding badSize
-length-messages j e = length-all j (sized (j .block) (length (j .image)) e)
+length-messages x e = length-all x (sized (x .«block_len») (length (x .bytes)) e)
 
 -- A call of the sender that has nothing to refuse writes the bytes to the start of the buffer, and answers their length.
 abbrev Wrote : (bytes buffer : List ℕ) → Sent → List ℕ → Type 0
-Wrote bytes buffer answer r = (answer ≡ Written (length bytes)) × (r ≡ bytes ++ drop (length bytes) buffer)
+Wrote bytes buffer answer r = (answer ≡ Written (length bytes)) × (r ≡ atStart bytes buffer)
 
-module _ (j : Job) (z : badSize j ≡ false) (buffer : List ℕ) {answer : Sent} {r : List ℕ} where
-  block-wrote : (i : ℕ) → 0 < i → i ≤ count j → length (blockFor digest j i) ≤ length buffer → Does (sendBlock j i buffer) answer r → Wrote (blockFor digest j i) buffer answer r
+module _ (x : Image) (z : wrongSize (x .«block_len») (length (x .bytes)) ≡ false) (buffer : List ℕ) {answer : Sent} {r : List ℕ} where
+  block-wrote : (i : ℕ) → 0 < i → i ≤ count x → length (blockFor digest x i) ≤ length buffer → Does asIs (sendBlock x i buffer) answer r → Wrote (blockFor digest x i) buffer answer r
   unfolding sendBlock numbered send firstThatApplies tooShort
   block-wrote i low high room d =
-      let w = rw (z, outside-not (count j) i (λ e. absurd (omega arith)) high, le-ltb (length buffer) (length (blockFor digest j i)) room) at d in
+      let w = rw (z, outside-not (count x) i (λ e. absurd (omega arith)) high, le-ltb (length buffer) (length (blockFor digest x i)) room) at d in
       (w .answered, w .left)
 
-  program-wrote : (signature : List ℕ) → length (programFor digest j signature) ≤ length buffer → Does (sendProgram j signature buffer) answer r
-      → Wrote (programFor digest j signature) buffer answer r
+  program-wrote : (model serial : ℕ) (signature : List ℕ) → (let j = job x model serial in length (programFor digest j signature) ≤ length buffer → Does asIs (sendProgram j signature buffer) answer r
+      → Wrote (programFor digest j signature) buffer answer r)
   unfolding sendProgram unnumbered send firstThatApplies tooShort
-  program-wrote signature room d =
+  program-wrote model serial signature room d =
+      let j = job x model serial in
       let w = rw (z, le-ltb (length buffer) (length (programFor digest j signature)) room) at d in
       (w .answered, w .left)
 
@@ -112,22 +108,24 @@ module _ {d r p : List ℕ} {at : ℕ} (b : Put d r p at) where
     },
   )
 
-module _ (j : Job) (z : badSize j ≡ false) {d r : List ℕ} {at : ℕ} {answer : Sent} {mid : List ℕ} {k : ℕ} (wrote : k ≡ lengthOf answer) where
+module _ (x : Image) (z : wrongSize (x .«block_len») (length (x .bytes)) ≡ false) {d r : List ℕ} {at : ℕ} {answer : Sent} {mid : List ℕ} {k : ℕ} (wrote : k ≡ lengthOf answer) where
   -- one block message more
-  pub block-behind : (i : ℕ) (b : Put d r (blockMessages digest j i) at) → i < count j → length (blockMessages digest j (count j)) ≤ length d
-      → Does (sendBlock j (i + 1) (rest b)) answer mid → (at + k ≤ length d) × Put d (putMid at (length r - at) r mid) (blockMessages digest j (i + 1)) (at + k)
+  pub block-behind : (i : ℕ) (b : Put d r (blockMessages digest x i) at) → i < count x → length (blockMessages digest x (count x)) ≤ length d
+      → Does asIs (sendBlock x (i + 1) (rest b)) answer mid → (at + k ≤ length d) × Put d (putMid at (length r - at) r mid) (blockMessages digest x (i + 1)) (at + k)
   unfolding blockMessages
   block-behind i b h room does =
-      let fits : at + length (blockFor digest j (suc i)) ≤ length d = omega (arith, b .size, more-messages j i, messages-grow j (suc i) (count j) h) in
-      let w = block-wrote j z (rest b) (suc i) (omega arith) h (omega (arith, length-rest b (omega arith))) (rw (add-one i) at does) in
-      rw (add-one i) (wrote-behind b (blockFor digest j (suc i)) mid k fits (w .1) (wrote ∙ ap lengthOf (w .0)))
+      let fits : at + length (blockFor digest x (suc i)) ≤ length d = omega (arith, b .size, more-messages x i, messages-grow x (suc i) (count x) h) in
+      let w = block-wrote x z (rest b) (suc i) (omega arith) h (omega (arith, length-rest b (omega arith))) (rw (add-one i) at does) in
+      rw (add-one i) (wrote-behind b (blockFor digest x (suc i)) mid k fits (w .1) (wrote ∙ ap lengthOf (w .0)))
 
   -- the kind 1 message
-  pub program-behind : {p : List ℕ} (b : Put d r p at) (signature : List ℕ) → at + (49 + length signature) ≤ length d → Does (sendProgram j signature (rest b)) answer mid
-      → (k ≡ 49 + length signature) × Put d (putMid at (length r - at) r mid) (p ++ programFor digest j signature) (at + k)
-  program-behind b signature room does =
+  pub program-behind : {p : List ℕ} (b : Put d r p at) (model serial : ℕ) (signature : List ℕ) → (let j = job x model serial in
+      at + (49 + length signature) ≤ length d → Does asIs (sendProgram j signature (rest b)) answer mid
+      → (k ≡ 49 + length signature) × Put d (putMid at (length r - at) r mid) (p ++ programFor digest j signature) (at + k))
+  program-behind b model serial signature room does =
+      let j = job x model serial in
       let l = length-program j signature in
-      let w = program-wrote j z (rest b) signature (omega (arith, length-rest b (omega arith))) does in
+      let w = program-wrote x z (rest b) model serial signature (omega (arith, length-rest b (omega arith))) does in
       let is = wrote ∙ ap lengthOf (w .0) in
       (is ∙ l, wrote-behind b (programFor digest j signature) mid k (omega arith) (w .1) is .1)
 
@@ -138,7 +136,7 @@ pub record Ready (image : List ℕ) (L n : ℕ) : Type 0 where
   pub some : 0 < n
   pub few : n ≤ maxBlocks
   pub small : n * (3 + L) ≤ maxBlocks * 1027
-  pub blocks : length (blockMessages digest (job image L 0 0) n) ≡ n * (3 + L) + 32 * (n - 1)
+  pub blocks : length (blockMessages digest (inBlocks image L) n) ≡ n * (3 + L) + 32 * (n - 1)
 
 pub ready : (image : List ℕ) (L : ℕ) {n : ℕ} → wrongSize L (length image) ≡ false → n ≡ blockCount L (length image) → Ready image L n
 unfolding count
@@ -152,16 +150,16 @@ ready image L {n} z e =
       some = omega (arith, s .first);
       few = few;
       small = le-trans (mul-le-mul-right (3 + L) few) (mul-le-mul-left maxBlocks short);
-      blocks = rw e (length-all (job image L 0 0) s);
+      blocks = rw e (length-all (inBlocks image L) s);
     }
 
 module _ {image : List ℕ} {L n : ℕ} (y : Ready image L n) (model serial : ℕ) (signature : List ℕ) where
   abbrev this : Job
-  this = job image L model serial
+  this = job (inBlocks image L) model serial
 
   -- all but the trailer
   abbrev front : List ℕ
-  front = blockMessages digest (job image L 0 0) n ++ programFor digest this signature
+  front = blockMessages digest (inBlocks image L) n ++ programFor digest this signature
 
   abbrev trailer : List ℕ
   trailer = bytes 4 (length (programFor digest this signature))
@@ -170,7 +168,7 @@ module _ {image : List ℕ} {L n : ℕ} (y : Ready image L n) (model serial : �
   unfolding bundleFor count
   bundle-is =
       ap (λ (x : List ℕ). (x ++ programFor digest this signature) ++ trailer)
-      (same-messages image L model serial n ∙ ap (blockMessages digest this) (y .counted) ∙ sym (append-nil (blockMessages digest this (blockCount L (length image)))))
+      (ap (blockMessages digest (this .image)) (y .counted) ∙ sym (append-nil (blockMessages digest (this .image) (blockCount L (length image)))))
 
   length-trailer : length trailer ≡ 4
   length-trailer = length-bytes 4 (length (programFor digest this signature))
@@ -178,12 +176,12 @@ module _ {image : List ℕ} {L n : ℕ} (y : Ready image L n) (model serial : �
   pub length-bundle : length (bundleFor digest this [] signature) ≡ n * (3 + L) + 32 * (n - 1) + 49 + 4 + length signature
   length-bundle =
       ap length (sym bundle-is) ∙ length-append front trailer
-      ∙ omega (arith, length-append (blockMessages digest (job image L 0 0) n) (programFor digest this signature), y .blocks, length-program this signature, length-trailer)
+      ∙ omega (arith, length-append (blockMessages digest (inBlocks image L) n) (programFor digest this signature), y .blocks, length-program this signature, length-trailer)
 
   -- the trailer behind the rest: t, which the code works out from the distance k
   pub trailer-behind : {d r r′ : List ℕ} {at k : ℕ} {t : List ℕ} → Put d r front at → k ≡ 49 + length signature → t ≡ bytes 4 (k % 4294967296) → at + 4 ≤ length d
-      → r′ ≡ paste r at t (length t) → r′ ≡ bundleFor digest this [] signature ++ drop (at + 4) d
+      → r′ ≡ paste r at t (length t) → r′ ≡ atStart (bundleFor digest this [] signature) d
   trailer-behind {d} {r} {r′} {at} {k} {t} b e f room g =
       let is : t ≡ trailer = f ∙ bytes-mod 4 k ∙ ap (bytes 4) (e ∙ sym (length-program this signature)) in
       let four : length t ≡ 4 = ap length is ∙ length-trailer in
-      put-more b t (at + 4) (omega arith) (omega arith) g .is ∙ ap (λ (x : List ℕ). x ++ drop (at + 4) d) (ap (λ (x : List ℕ). front ++ x) is ∙ bundle-is)
+      put-all (put-more b t (at + 4) (omega arith) (omega arith) g) ∙ ap (λ (x : List ℕ). atStart x d) (ap (λ (x : List ℕ). front ++ x) is ∙ bundle-is)

@@ -50,14 +50,14 @@ module _ (job : Job) where
   -- the messages after the first j
   messagesAfter : ℕ → ℕ → List ℕ
   messagesAfter j zero = []
-  messagesAfter j (suc left) = blockFor digest job (suc j) ++ messagesAfter (suc j) left
+  messagesAfter j (suc left) = blockFor digest (job .image) (suc j) ++ messagesAfter (suc j) left
 
-  messages-after : (left j : ℕ) → blockMessages digest job (j + left) ≡ blockMessages digest job j ++ messagesAfter j left
+  messages-after : (left j : ℕ) → blockMessages digest (job .image) (j + left) ≡ blockMessages digest (job .image) j ++ messagesAfter j left
   unfolding blockMessages messagesAfter
-  messages-after zero j = let e : j + 0 ≡ j = omega arith in ap (blockMessages digest job) e ∙ sym (append-nil (blockMessages digest job j))
+  messages-after zero j = let e : j + 0 ≡ j = omega arith in ap (blockMessages digest (job .image)) e ∙ sym (append-nil (blockMessages digest (job .image) j))
   messages-after (suc left) j =
       let e : j + suc left ≡ suc j + left = omega arith in
-      ap (blockMessages digest job) e ∙ messages-after left (suc j) ∙ append-assoc (blockMessages digest job j) (blockFor digest job (suc j)) (messagesAfter (suc j) left)
+      ap (blockMessages digest (job .image)) e ∙ messages-after left (suc j) ∙ append-assoc (blockMessages digest (job .image) j) (blockFor digest (job .image) (suc j)) (messagesAfter (suc j) left)
 
 module _ (job : Job) (ok : Sendable job) (old : List ℕ) where
   abbrev Loading : ℕ → Situation → Type 0
@@ -66,17 +66,17 @@ module _ (job : Job) (ok : Sendable job) (old : List ℕ) where
   -- the loader's loop over the messages after the first j
   record Runs (left j : ℕ) (p : Printed) : Type 0 where
     text : p .text ≡ acceptedFrom left (suc j)
-    here : Loading (count job) (record { device = p .device; flash = p .flash })
+    here : Loading (count (job .image)) (record { device = p .device; flash = p .flash })
 
-  one : (left j : ℕ) (s : Situation) (rest : List ℕ) → j < count job → Loading j s
-      → (let t = accept Block (s .device) (s .flash) (blockFor digest job (suc j)) in
-      blocksFrom (job .block) (count job) (suc left) (suc j) (s .device) (s .flash) (blockFor digest job (suc j) ++ rest)
-      ≡ blockLine (suc j) 0 before blocksFrom (job .block) (count job) left (suc (suc j)) (t .device) (t .flash) rest)
+  one : (left j : ℕ) (s : Situation) (rest : List ℕ) → j < count (job .image) → Loading j s
+      → (let t = accept Block (s .device) (s .flash) (blockFor digest (job .image) (suc j)) in
+      blocksFrom (job .image .«block_len») (count (job .image)) (suc left) (suc j) (s .device) (s .flash) (blockFor digest (job .image) (suc j) ++ rest)
+      ≡ blockLine (suc j) 0 before blocksFrom (job .image .«block_len») (count (job .image)) left (suc (suc j)) (t .device) (t .flash) rest)
   unfolding blocksFrom ifAccepted
   one left j s rest h w =
-      let m : List ℕ = blockFor digest job (suc j) in
+      let m : List ℕ = blockFor digest (job .image) (suc j) in
       let b = block-sent digest length-digest job ok j h in
-      let due : ℕ = messageLength (job .block) (count job) (suc j) in
+      let due : ℕ = messageLength (job .image .«block_len») (count (job .image)) (suc j) in
       let first : take due (m ++ rest) ≡ m = take-at m rest due (b .size) in
       let behind : drop due (m ++ rest) ≡ rest = drop-at m rest due (b .size) in
       let o : step digest valid (s .device) (s .flash) m ≡ (let t = accept Block (s .device) (s .flash) m in record { answer = Accepted; device = t .device; flash = t .flash }) =
@@ -84,16 +84,16 @@ module _ (job : Job) (ok : Sendable job) (old : List ℕ) where
       ∙ ap (λ k. let t = accept k (s .device) (s .flash) m in record { answer = Accepted; device = t .device; flash = t .flash }) (b .is) in
       rw (first, behind, o) refl
 
-  runs : (left j : ℕ) (s : Situation) (filler : List ℕ) → j + left ≡ count job → Loading j s
-      → Runs left j (blocksFrom (job .block) (count job) left (suc j) (s .device) (s .flash) (messagesAfter job j left ++ filler))
+  runs : (left j : ℕ) (s : Situation) (filler : List ℕ) → j + left ≡ count (job .image) → Loading j s
+      → Runs left j (blocksFrom (job .image .«block_len») (count (job .image)) left (suc j) (s .device) (s .flash) (messagesAfter job j left ++ filler))
   unfolding blocksFrom acceptedFrom _before_ messagesAfter
-  runs zero j s filler e w = let z : j ≡ count job = omega arith in record { text = refl; here = subst (λ k. Loading k s) z w }
+  runs zero j s filler e w = let z : j ≡ count (job .image) = omega arith in record { text = refl; here = subst (λ k. Loading k s) z w }
   runs (suc left) j s filler e w =
-      let h : j < count job = omega arith in
-      let m : List ℕ = blockFor digest job (suc j) in
+      let h : j < count (job .image) = omega arith in
+      let m : List ℕ = blockFor digest (job .image) (suc j) in
       let t : Situation = accept Block (s .device) (s .flash) m in
       let r = runs left (suc j) t filler (omega arith) (next-here digest length-digest valid job ok old j s w h) in
-      let same = ap (blocksFrom (job .block) (count job) (suc left) (suc j) (s .device) (s .flash)) (append-assoc m (messagesAfter job (suc j) left) filler)
+      let same = ap (blocksFrom (job .image .«block_len») (count (job .image)) (suc left) (suc j) (s .device) (s .flash)) (append-assoc m (messagesAfter job (suc j) left) filler)
       ∙ one left j s (messagesAfter job (suc j) left ++ filler) h w in
       subst (Runs (suc left) j) (sym same) (record { text = ap (λ x. blockLine (suc j) 0 ++ x) (r .text); here = r .here })
 
@@ -137,7 +137,7 @@ module _ (key flash : List ℕ) (job : Job) (filler signature : List ℕ) (h : L
   program = programFor digest job signature
 
   abbrev front : List ℕ
-  front = blockMessages digest job (count job) ++ filler
+  front = blockMessages digest (job .image) (count (job .image)) ++ filler
 
   -- the kind 1 message, accepted
   abbrev begun : Situation
@@ -160,19 +160,19 @@ module _ (key flash : List ℕ) (job : Job) (filler signature : List ℕ) (h : L
   here : Here digest length-digest valid job ok flash 0 begun
   here = first-here digest length-digest valid job ok d flash program (is-sent .manifest) (program-passed digest valid d flash program (is-sent .is) none-applies)
 
-  ran : Runs job ok flash (count job) 0 (blocks (begun .device) (begun .flash) front)
+  ran : Runs job ok flash (count (job .image)) 0 (blocks (begun .device) (begun .flash) front)
   unfolding blocks
-  ran = subst (Runs job ok flash (count job) 0) (sym (of-manifest ∙ of-messages)) (runs job ok flash (count job) 0 begun filler (zero-add (count job)) here)
+  ran = subst (Runs job ok flash (count (job .image)) 0) (sym (of-manifest ∙ of-messages)) (runs job ok flash (count (job .image)) 0 begun filler (zero-add (count (job .image))) here)
     where
       from : (L n : ℕ) → List ℕ → Printed
       from L n b = blocksFrom L n n 1 (begun .device) (begun .flash) (b ++ filler)
 
-      of-manifest : blocks (begun .device) (begun .flash) front ≡ from (job .block) (count job) (blockMessages digest job (count job))
-      of-manifest = unfold countOf manifestFor count in ap (λ (s : Manifest). from (s .«block_len») (countOf s) (blockMessages digest job (count job))) (here .manifest)
+      of-manifest : blocks (begun .device) (begun .flash) front ≡ from (job .image .«block_len») (count (job .image)) (blockMessages digest (job .image) (count (job .image)))
+      of-manifest = unfold countOf manifestFor count in ap (λ (s : Manifest). from (s .«block_len») (countOf s) (blockMessages digest (job .image) (count (job .image)))) (here .manifest)
 
-      of-messages : from (job .block) (count job) (blockMessages digest job (count job)) ≡ from (job .block) (count job) (messagesAfter job 0 (count job))
+      of-messages : from (job .image .«block_len») (count (job .image)) (blockMessages digest (job .image) (count (job .image))) ≡ from (job .image .«block_len») (count (job .image)) (messagesAfter job 0 (count (job .image)))
       of-messages = unfold blockMessages in
-          ap (from (job .block) (count job)) (ap (blockMessages digest job) (sym (zero-add (count job))) ∙ messages-after job (count job) 0)
+          ap (from (job .image .«block_len») (count (job .image))) (ap (blockMessages digest (job .image)) (sym (zero-add (count (job .image)))) ∙ messages-after job (count (job .image)) 0)
 
   taken : messages d flash (bundle front program) ≡ slipLine 0 before blocks (begun .device) (begun .flash) front
   unfolding messages ifAccepted
@@ -182,11 +182,11 @@ module _ (key flash : List ℕ) (job : Job) (filler signature : List ℕ) (h : L
       accepted-step d flash program none-applies ∙ ap (λ k. let t = accept k d flash program in record { answer = Accepted; device = t .device; flash = t .flash }) (is-sent .is) in
       rw (f .somewhere, f .program-is, f .front-is, o, messages) refl
 
-  state-is : (p : Printed) → Runs job ok flash (count job) 0 p → stateLine (p .device) ≡ line (ascii "state complete ") (count job)
+  state-is : (p : Printed) → Runs job ok flash (count (job .image)) 0 p → stateLine (p .device) ≡ line (ascii "state complete ") (count (job .image))
   unfolding stateLine stateWords acceptedBlocks
   state-is p r =
       let s : Situation = record { device = p .device; flash = p .flash } in
-      let c = is-complete digest length-digest valid job ok flash (count job) s (r .here) refl in
+      let c = is-complete digest length-digest valid job ok flash (count (job .image)) s (r .here) refl in
       rw (c, r .here .manifest) (unfold countOf manifestFor count in refl)
 
   whole : Whole job (bundleFor digest job filler signature) flash (loaded key (bundleFor digest job filler signature) flash)
@@ -198,16 +198,16 @@ module _ (key flash : List ℕ) (job : Job) (filler signature : List ℕ) (h : L
       let first : List ℕ = bundleLine (length b) in
       let second : List ℕ = slipLine 0 in
       let is : loaded key b flash ≡ first before withState (second before p) = all-printed key b flash (h .key-long) (h .fits) ∙ ap (λ (q : Printed). first before withState q) taken in
-      let text : first ++ (second ++ p .text ++ stateLine (p .device)) ≡ first ++ second ++ acceptedFrom (count job) 1 ++ line (ascii "state complete ") (count job) =
+      let text : first ++ (second ++ p .text ++ stateLine (p .device)) ≡ first ++ second ++ acceptedFrom (count (job .image)) 1 ++ line (ascii "state complete ") (count (job .image)) =
       ap₂ (λ x y. first ++ (second ++ x ++ y)) (ran .text) (state-is p ran)
-      ∙ sym (append-assoc first (second ++ acceptedFrom (count job) 1) (line (ascii "state complete ") (count job)))
-      ∙ ap (λ x. x ++ line (ascii "state complete ") (count job)) (sym (append-assoc first second (acceptedFrom (count job) 1))) in
+      ∙ sym (append-assoc first (second ++ acceptedFrom (count (job .image)) 1) (line (ascii "state complete ") (count (job .image))))
+      ∙ ap (λ x. x ++ line (ascii "state complete ") (count (job .image))) (sym (append-assoc first second (acceptedFrom (count (job .image)) 1))) in
       subst (Whole job b flash) (sym is)
       (record {
         text = text;
-        stage = is-complete digest length-digest valid job ok flash (count job) s (ran .here) refl;
+        stage = is-complete digest length-digest valid job ok flash (count (job .image)) s (ran .here) refl;
         manifest = ran .here .manifest;
-        image = flash-is digest length-digest valid job ok flash (count job) s (ran .here) refl;
+        image = flash-is digest length-digest valid job ok flash (count (job .image)) s (ran .here) refl;
       })
 
 pub loads-whole : LoadsWhole

@@ -4,22 +4,22 @@ use Prim.Native.Nat.{ℕ, zero, suc}
 use lib.ListN.{length}
 use Rattle.octets.specs.Octets.{bytes}
 use Rattle.sha256.specs.Sha256.{digest}
-use Rattle.sender.specs.Job.{Job, count, programFor, blockFor}
+use Rattle.sender.specs.Job.{Image, Job, count, programFor, blockFor}
 use Rattle.sender.specs.Send.{Result, unnumbered}
 
 module _ (H : List ℕ → List ℕ) where
   -- the sender's block messages from 1 to j, one behind the other
-  unfoldable pub blockMessages : Job → ℕ → List ℕ
-  blockMessages job zero = []
-  blockMessages job (suc j) = blockMessages job j ++ blockFor H job (suc j)
+  unfoldable pub blockMessages : Image → ℕ → List ℕ
+  blockMessages image zero = []
+  blockMessages image (suc j) = blockMessages image j ++ blockFor H image (suc j)
 
   -- "the n block messages, any filler, the kind 1 message, and a 4-byte trailer: the distance back from the trailer's first byte to the kind 1 message's first
   -- byte"
   unfoldable pub bundleFor : Job → (filler signature : List ℕ) → List ℕ
   bundleFor job filler signature =
       let program = programFor H job signature in
-      blockMessages job (count job) ++ filler ++ program ++ bytes 4 (length program)
+      blockMessages (job .image) (count (job .image)) ++ filler ++ program ++ bytes 4 (length program)
 
 -- What `pack` answers, and what it leaves in the caller's buffer: a bundle without filler. It refuses 5 and 8, as the sender does.
 unfoldable pub sendBundle : Job → (signature buffer : List ℕ) → Result
-sendBundle job signature buffer = unnumbered job (bundleFor digest job [] signature) buffer
+sendBundle job signature buffer = unnumbered (job .image) (bundleFor digest job [] signature) buffer

@@ -7,10 +7,12 @@ use lib.ListN.{length, drop}
 use Rattle.sha256.specs.Sha256.{digest}
 use Rattle.merkle.specs.Limits.{hashLength}
 use Rattle.lms.specs.Lms.{valid}
+use Rattle.wire.specs.declared.kind.Kind.the-variants.{Block}
+use Rattle.wire.specs.Size.{wrongSize}
 use Rattle.wire.specs.Image.{filled}
 use Rattle.wire.specs.Manifest.{written}
-use Rattle.sender.specs.Job.{Job, count, manifestFor}
-use Rattle.sender.specs.Send.{badSize}
+use Rattle.wire.specs.Message.{leastLength}
+use Rattle.sender.specs.Job.{Image, Job, count, manifestFor}
 use Rattle.machine.specs.declared.state.Stage.the-variants.{Complete}
 use Rattle.guarantee.specs.Demand3.{Sendable}
 use Rattle.bundle.specs.Text.{ascii, line, bundleLine, slipLine, blockLine}
@@ -23,7 +25,8 @@ Sample = (key flash : List ℕ) → length key ≡ keyFileLength → loaded key 
 
 -- All n block messages together carry n - 1 hashes.
 abbrev pub MessagesLength : Type 0
-MessagesLength = (job : Job) → badSize job ≡ false → length (blockMessages digest job (count job)) ≡ count job * (3 + job .block) + hashLength * (count job - 1)
+MessagesLength = (x : Image) → wrongSize (x .«block_len») (length (x .bytes)) ≡ false
+    → length (blockMessages digest x (count x)) ≡ count x * (leastLength Block + x .«block_len») + hashLength * (count x - 1)
 
 -- The sender's job suits the device of key.bin, the signature is valid under its key, and program and bundle have room.
 pub record Loadable (key flash : List ℕ) (job : Job) (filler signature : List ℕ) : Type 0 where
@@ -31,7 +34,7 @@ pub record Loadable (key flash : List ℕ) (job : Job) (filler signature : List 
   pub sendable : Sendable job
   pub model : job .model ≡ deviceFor key .model
   pub serial : 0 < job .serial
-  pub room : count job * job .block ≤ length flash
+  pub room : count (job .image) * job .image .«block_len» ≤ length flash
   pub signed : valid (deviceFor key .key) (written (manifestFor digest job)) signature ≡ true
   pub fits : length (bundleFor digest job filler signature) ≤ maxBundle
 
@@ -43,10 +46,10 @@ acceptedFrom (suc left) i = blockLine i 0 ++ acceptedFrom left (suc i)
 -- The loader took the job's bundle whole: it printed that each message was accepted and that the device is complete, with the job's manifest and image, and the
 -- flash beyond is as before.
 pub record Whole (job : Job) (bundle flash : List ℕ) (p : Printed) : Type 0 where
-  pub text : p .text ≡ bundleLine (length bundle) ++ slipLine 0 ++ acceptedFrom (count job) 1 ++ line (ascii "state complete ") (count job)
+  pub text : p .text ≡ bundleLine (length bundle) ++ slipLine 0 ++ acceptedFrom (count (job .image)) 1 ++ line (ascii "state complete ") (count (job .image))
   pub stage : p .device .stage ≡ Complete
   pub manifest : p .device .manifest ≡ manifestFor digest job
-  pub image : p .flash ≡ filled (job .block) (job .image) ++ drop (count job * job .block) flash
+  pub image : p .flash ≡ filled (job .image .«block_len») (job .image .bytes) ++ drop (count (job .image) * job .image .«block_len») flash
 
 -- The showroom's bundle for an image, with any filler, loads to complete with that image.
 abbrev pub LoadsWhole : Type 0

@@ -6,12 +6,13 @@ use wire::block_count;
 use wire::wrong_size;
 ghost use mathlib.Core.Path.{_≡_};
 ghost use mathlib.Core.Bool.{false};
-ghost use mathlib.Core.List.{_++_};
 ghost use Prim.Native.Nat.{_≤_};
-ghost use lib.ListN.{length, drop};
+ghost use lib.ListN.{length};
 ghost use Rattle.sha256.specs.Sha256.{digest};
-ghost use Rattle.sender.specs.Job.{job, count};
-ghost use Rattle.sender.specs.Send.{lengthOf, Does, badSize};
+ghost use Rattle.wire.specs.Size.{wrongSize};
+ghost use Rattle.wire.specs.Message.{atStart};
+ghost use Rattle.sender.specs.Job.{inBlocks, job, count};
+ghost use Rattle.sender.specs.Send.{lengthOf, Does, asIs};
 ghost use Rattle.bundle.specs.Bundle.{blockMessages, sendBundle};
 
 // How many bytes the sender wrote.
@@ -26,10 +27,10 @@ fn written(sent: Sent) -> usize
 
 // The n block messages, from the start of `out`, and the index behind them. Only `pack` calls this, and nothing is left to refuse.
 fn put_blocks(image: &[u8], len: u32, n: u32, out: &mut [u8]) -> usize
-    requires { ⌜ (badSize (job (now image) len 0 0) ≡ false) × (n ≡ count (job (now image) len 0 0))
-        × (length (blockMessages digest (job (now image) len 0 0) n) ≤ length (now out)) ⌝ }
-    ensures { λ r. ⌜ (r ≡ length (blockMessages digest (job (now (image .entry)) len 0 0) n))
-        × (now (out .exit) ≡ blockMessages digest (job (now (image .entry)) len 0 0) n ++ drop r (now (out .entry))) ⌝ }
+    requires { ⌜ (wrongSize len (length (now image)) ≡ false) × (n ≡ count (inBlocks (now image) len))
+        × (length (blockMessages digest (inBlocks (now image) len) n) ≤ length (now out)) ⌝ }
+    ensures { λ r. ⌜ (r ≡ length (blockMessages digest (inBlocks (now (image .entry)) len) n))
+        × (now (out .exit) ≡ atStart (blockMessages digest (inBlocks (now (image .entry)) len) n) (now (out .entry))) ⌝ }
 {
     let mut at: usize = 0;
     let mut number: u32 = 0;
@@ -49,7 +50,7 @@ pub fn pack(
     signature: &[u8],
     out: &mut [u8],
 ) -> Sent
-    ensures { λ r. ⌜ Does (sendBundle (job (now (image .entry)) len model serial) (now (signature .entry)) (now (out .entry))) r (now (out .exit)) ⌝ }
+    ensures { λ r. ⌜ Does asIs (sendBundle (job (inBlocks (now (image .entry)) len) model serial) (now (signature .entry)) (now (out .entry))) r (now (out .exit)) ⌝ }
 {
     let block = len as usize;
     if wrong_size(block, image.len()) {

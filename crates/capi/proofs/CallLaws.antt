@@ -11,8 +11,6 @@ use borrow.Author.Tests.{eqb-true}
 use Rattle.octets.proofs.CopyLaws.{paste-whole}
 use Rattle.sha256.specs.Sha256.{digest}
 use Rattle.lms.specs.Lms.{valid}
-use Rattle.sender.specs.declared.send.Sent.{Sent}
-use Rattle.sender.specs.Send.{Result, Does}
 use Rattle.machine.specs.declared.state.Stage.{Stage}
 use Rattle.machine.specs.declared.state.Device.{Device}
 use Rattle.machine.specs.declared.state.Answer.the-variants.{Accepted, Refused}
@@ -25,12 +23,8 @@ use Rattle.capi.specs.declared.state.Found.the-variants.{At, Nothing}
 use Rattle.capi.specs.Found.{found}
 use Rattle.capi.specs.State.{stateLength, encode, stageIn, deviceIn}
 use Rattle.capi.proofs.StateLaws.{decode-none, decode-some, decode-encode}
-use Rattle.capi.specs.Call.{sentNumber, sentLength, Sends, stateAfter, called, receive}
+use Rattle.capi.specs.Call.{stateAfter, called, receive}
 use Rattle.capi.specs.Claims.{IsStep}
-
-pub sends : {s : Result} {a : Sent} {w r w′ : ℕ} {b : List ℕ} → Does s a b → (r ≡ sentNumber a) × (w′ ≡ sentLength a w) → Sends s w r w′ b
-sends {s} {a} {w} d e =
-    record { answered = e .0 ∙ ap sentNumber (d .answered); counted = e .1 ∙ ap (λ (x : Sent). sentLength x w) (d .answered); left = d .left }
 
 found-none : (o : Option Stage) → found o ≡ Nothing → o ≡ none
 unfolding found

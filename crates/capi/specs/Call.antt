@@ -1,5 +1,4 @@
 -- What the functions for C return, and what they leave in the caller's memory: 0 or a refusal's number.
-use mathlib.Core.Path.{_≡_}
 use mathlib.Core.Bool.{Bool, cond}
 use mathlib.Core.List.{List}
 use mathlib.Core.Option.{none, some}
@@ -10,7 +9,6 @@ use Rattle.wire.specs.declared.refusal.Refusal.the-variants as refusal
 use Rattle.wire.specs.Refusal.{number}
 use Rattle.sender.specs.declared.send.Sent.{Sent}
 use Rattle.sender.specs.declared.send.Sent.the-variants as sent
-use Rattle.sender.specs.Send.{Result}
 use Rattle.machine.specs.declared.state.Device.{Device}
 use Rattle.machine.specs.declared.state.Answer.{Answer}
 use Rattle.machine.specs.declared.state.Answer.the-variants.{Accepted, Refused}
@@ -23,19 +21,14 @@ use Rattle.capi.specs.State.{encode, decode}
 unfoldable pub verdict : Bool → ℕ
 verdict ok = cond ok 0 (number refusal.Unsigned)
 
--- The sender: the answer as a number, and the length that it reports through a pointer; after a refusal that is as before.
-abbrev pub sentNumber : Sent → ℕ
-sentNumber (sent.Written n) = 0
-sentNumber (sent.Refused r) = number r
+-- The sender's answer: the number that is returned, and the length that is written through a pointer; after a refusal that is as before.
+pub record Told : Type 0 where
+  pub answer : ℕ
+  pub written : ℕ
 
-abbrev pub sentLength : Sent → ℕ → ℕ
-sentLength (sent.Written n) before = n
-sentLength (sent.Refused r) before = before
-
-pub record Sends (s : Result) (before answer after : ℕ) (buffer : List ℕ) : Type 0 where
-  pub answered : answer ≡ sentNumber (s .answer)
-  pub counted : after ≡ sentLength (s .answer) before
-  pub left : buffer ≡ s .buffer
+abbrev pub told : ℕ → Sent → Told
+told before (sent.Written n) = record { answer = 0; written = n }
+told before (sent.Refused r) = record { answer = number r; written = before }
 
 -- The device: answer, state bytes and flash after a message.
 pub record Called : Type 0 where

@@ -9,11 +9,11 @@ use state::STATE_LEN;
 ghost use mathlib.Core.Path.{_≡_};
 ghost use Rattle.sha256.specs.Sha256.{digest};
 ghost use Rattle.lms.specs.Lms.{valid};
-ghost use Rattle.sender.specs.Job.{job};
-ghost use Rattle.sender.specs.Send.{sendManifest, sendProgram, sendBlock, sendUpdate};
+ghost use Rattle.sender.specs.Job.{inBlocks, job};
+ghost use Rattle.sender.specs.Send.{Does, sendManifest, sendProgram, sendBlock, sendUpdate};
 ghost use Rattle.machine.specs.Device.{freshWith};
 ghost use Rattle.capi.specs.State.{encode};
-ghost use Rattle.capi.specs.Call.{verdict, sentNumber, sentLength, Sends, receive};
+ghost use Rattle.capi.specs.Call.{verdict, told, receive};
 
 // SHA-256 of the message.
 #[no_mangle]
@@ -43,7 +43,7 @@ fn wide(number: u8) -> u32
 
 // What the sender answered: its number, and the bytes written.
 fn report(sent: Sent, written: &mut usize) -> u32
-    ensures { λ r. ⌜ (r ≡ sentNumber sent) × (now (written .exit) ≡ sentLength sent (now (written .entry))) ⌝ }
+    ensures { λ r. ⌜ record { answer = r; written = now (written .exit) } ≡ told (now (written .entry)) sent ⌝ }
 {
     match sent {
         Sent::Written(n) => {
@@ -64,7 +64,7 @@ pub extern "C" fn lertxuno_manifest(
     out: &mut [u8],
     written: &mut usize,
 ) -> u32
-    ensures { λ r. ⌜ Sends (sendManifest (job (now (image .entry)) len model serial) (now (out .entry))) (now (written .entry)) r (now (written .exit)) (now (out .exit)) ⌝ }
+    ensures { λ r. ⌜ Does (told (now (written .entry))) (sendManifest (job (inBlocks (now (image .entry)) len) model serial) (now (out .entry))) (record { answer = r; written = now (written .exit) }) (now (out .exit)) ⌝ }
 {
     let sent = sender::manifest(image, len, model, serial, out);
     report(sent, written)
@@ -81,7 +81,7 @@ pub extern "C" fn lertxuno_program(
     out: &mut [u8],
     written: &mut usize,
 ) -> u32
-    ensures { λ r. ⌜ Sends (sendProgram (job (now (image .entry)) len model serial) (now (signature .entry)) (now (out .entry))) (now (written .entry)) r (now (written .exit)) (now (out .exit)) ⌝ }
+    ensures { λ r. ⌜ Does (told (now (written .entry))) (sendProgram (job (inBlocks (now (image .entry)) len) model serial) (now (signature .entry)) (now (out .entry))) (record { answer = r; written = now (written .exit) }) (now (out .exit)) ⌝ }
 {
     let sent = sender::program(image, len, model, serial, signature, out);
     report(sent, written)
@@ -96,7 +96,7 @@ pub extern "C" fn lertxuno_block(
     out: &mut [u8],
     written: &mut usize,
 ) -> u32
-    ensures { λ r. ⌜ Sends (sendBlock (job (now (image .entry)) len 0 0) number (now (out .entry))) (now (written .entry)) r (now (written .exit)) (now (out .exit)) ⌝ }
+    ensures { λ r. ⌜ Does (told (now (written .entry))) (sendBlock (inBlocks (now (image .entry)) len) number (now (out .entry))) (record { answer = r; written = now (written .exit) }) (now (out .exit)) ⌝ }
 {
     let sent = sender::block(image, len, number, out);
     report(sent, written)
@@ -114,7 +114,7 @@ pub extern "C" fn lertxuno_update(
     out: &mut [u8],
     written: &mut usize,
 ) -> u32
-    ensures { λ r. ⌜ Sends (sendUpdate (job (now (image .entry)) len model serial) number (now (signature .entry)) (now (out .entry))) (now (written .entry)) r (now (written .exit)) (now (out .exit)) ⌝ }
+    ensures { λ r. ⌜ Does (told (now (written .entry))) (sendUpdate (job (inBlocks (now (image .entry)) len) model serial) number (now (signature .entry)) (now (out .entry))) (record { answer = r; written = now (written .exit) }) (now (out .exit)) ⌝ }
 {
     let sent = sender::update(image, len, model, serial, number, signature, out);
     report(sent, written)

@@ -49,33 +49,33 @@ loadingAt H job model key j array = record { model = model; key = key; stage = L
 module _ (H : List ℕ → List ℕ) (hash-long : (x : List ℕ) → length (H x) ≡ hashLength) (valid : (key message signature : List ℕ) → Bool) (job : Job) (ok : Sendable job) where
   -- after j blocks of the job, over an old flash
   pub record Here (old : List ℕ) (j : ℕ) (s : Situation) : Type 0 where
-    pub within : j ≤ count job
-    pub stage : s .device .stage ≡ stageAfter (count job) j
+    pub within : j ≤ count (job .image)
+    pub stage : s .device .stage ≡ stageAfter (count (job .image)) j
     pub manifest : s .device .manifest ≡ manifestFor H job
     pub array : length (s .device .hashes) ≡ heldBytes
-    pub holds : heldIn (count job) j (s .device .hashes) ≡ hashes (plain H) (blocks job) (frontier 0 (shape (count job)) j)
-    pub room : count job * job .block ≤ length old
-    pub flash : s .flash ≡ take (j * job .block) (filled (job .block) (job .image)) ++ drop (j * job .block) old
+    pub holds : heldIn (count (job .image)) j (s .device .hashes) ≡ hashes (plain H) (blocks (job .image)) (frontier 0 (shape (count (job .image))) j)
+    pub room : count (job .image) * job .image .«block_len» ≤ length old
+    pub flash : s .flash ≡ take (j * job .image .«block_len») (filled (job .image .«block_len») (job .image .bytes)) ++ drop (j * job .image .«block_len») old
 
   -- the sender's next block, to a device that loads the job
-  module _ (j : ℕ) (array : List ℕ) (below : j < count job) (array-long : length array ≡ heldBytes)
-      (holds : heldIn (count job) j array ≡ hashes (plain H) (blocks job) (frontier 0 (shape (count job)) j)) where
-    run : SentFits (plain H) hash-long (count job) (blocks job) j array
-    run = sent-fits (plain H) hash-long (count job) (blocks job) j array below (count-most H hash-long job ok) array-long holds
+  module _ (j : ℕ) (array : List ℕ) (below : j < count (job .image)) (array-long : length array ≡ heldBytes)
+      (holds : heldIn (count (job .image)) j array ≡ hashes (plain H) (blocks (job .image)) (frontier 0 (shape (count (job .image))) j)) where
+    run : SentFits (plain H) hash-long (count (job .image)) (blocks (job .image)) j array
+    run = sent-fits (plain H) hash-long (count (job .image)) (blocks (job .image)) j array below (count-most H hash-long job ok) array-long holds
 
-    is-sent : Sent H hash-long job ok j (blockFor H job (suc j))
+    is-sent : Sent H hash-long job ok j (blockFor H (job .image) (suc j))
     is-sent = block-sent H hash-long job ok j below
 
-    matches : fits (plain H) (count job) j array (blockIn (job .block) (blockFor H job (suc j))) (hashesAfter (job .block) (blockFor H job (suc j))) ≡ true
+    matches : fits (plain H) (count (job .image)) j array (blockIn (job .image .«block_len») (blockFor H (job .image) (suc j))) (hashesAfter (job .image .«block_len») (blockFor H (job .image) (suc j))) ≡ true
     matches = rw (is-sent .block, is-sent .after) (run .accepted)
 
-    is-due : (model : ℕ) (key f : List ℕ) → count job * job .block ≤ length f → NextDue H valid (loadingAt H job model key j array) f (blockFor H job (suc j))
+    is-due : (model : ℕ) (key f : List ℕ) → count (job .image) * job .image .«block_len» ≤ length f → NextDue H valid (loadingAt H job model key j array) f (blockFor H (job .image) (suc j))
     unfolding senseless short leastLength notLoading tooSmall nextOf notNext wrongLength mismatch wrongVersion badSize outside countOf count loadingAt manifestFor messageLength
     is-due model key f room =
-        let m : List ℕ = blockFor H job (suc j) in
+        let m : List ℕ = blockFor H (job .image) (suc j) in
         record {
           is = is-sent .is;
-          sense = both-false _ _ (ok .size) (both-false (eqb (suc j) 0) _ (eqb·suc-zero j) (le-ltb (count job) (suc j) (omega arith)));
+          sense = both-false _ _ (ok .size) (both-false (eqb (suc j) 0) _ (eqb·suc-zero j) (le-ltb (count (job .image)) (suc j) (omega arith)));
           head = le-ltb (length m) 3 (omega (arith, is-sent .size));
           loading = refl;
           area = le-ltb (length f) _ room;
@@ -85,38 +85,38 @@ module _ (H : List ℕ → List ℕ) (hash-long : (x : List ℕ) → length (H x
         }
 
   module _ (old : List ℕ) (j : ℕ) (s : Situation) (w : Here old j s) where
-    room-now : count job * job .block ≤ length (s .flash)
+    room-now : count (job .image) * job .image .«block_len» ≤ length (s .flash)
     room-now =
-        let L = job .block in
-        let front = length-take-le (j * L) (filled L (job .image)) (omega (arith, job-length H hash-long job ok, mul-le-mul-right L (w .within))) in
-        rw (w .flash, length-append (take (j * L) (filled L (job .image))) (drop (j * L) old), length-drop (j * L) old) (omega (arith, w .room))
+        let L = job .image .«block_len» in
+        let front = length-take-le (j * L) (filled L (job .image .bytes)) (omega (arith, job-length H hash-long job ok, mul-le-mul-right L (w .within))) in
+        rw (w .flash, length-append (take (j * L) (filled L (job .image .bytes))) (drop (j * L) old), length-drop (j * L) old) (omega (arith, w .room))
 
-    is-loading : j < count job → s .device ≡ loadingAt H job (s .device .model) (s .device .key) j (s .device .hashes)
+    is-loading : j < count (job .image) → s .device ≡ loadingAt H job (s .device .model) (s .device .key) j (s .device .hashes)
     unfolding stageAfter loadingAt
     is-loading h =
-        let t : s .device .stage ≡ Loading (suc j) = w .stage ∙ rw (lt-ltb j (count job) h) in
+        let t : s .device .stage ≡ Loading (suc j) = w .stage ∙ rw (lt-ltb j (count (job .image)) h) in
         λ i. record { model = s .device .model; key = s .device .key; stage = t i; manifest = w .manifest i; hashes = s .device .hashes }
 
-    pub next-due : j < count job → NextDue H valid (s .device) (s .flash) (blockFor H job (suc j))
+    pub next-due : j < count (job .image) → NextDue H valid (s .device) (s .flash) (blockFor H (job .image) (suc j))
     next-due h =
-        subst (λ d. NextDue H valid d (s .flash) (blockFor H job (suc j))) (sym (is-loading h))
+        subst (λ d. NextDue H valid d (s .flash) (blockFor H (job .image) (suc j))) (sym (is-loading h))
         (is-due j (s .device .hashes) h (w .array) (w .holds) (s .device .model) (s .device .key) (s .flash) room-now)
 
-    pub next-accepted : j < count job → refusalOf H valid (s .device) (s .flash) (blockFor H job (suc j)) ≡ none
-    next-accepted h = due-unrefused H valid (s .device) (s .flash) (blockFor H job (suc j)) (next-due h)
+    pub next-accepted : j < count (job .image) → refusalOf H valid (s .device) (s .flash) (blockFor H (job .image) (suc j)) ≡ none
+    next-accepted h = due-unrefused H valid (s .device) (s .flash) (blockFor H (job .image) (suc j)) (next-due h)
 
-    next-flash : j < count job → withBlock (job .block) (s .flash) (suc j) (blockIn (job .block) (blockFor H job (suc j)))
-        ≡ take (suc j * job .block) (filled (job .block) (job .image)) ++ drop (suc j * job .block) old
+    next-flash : j < count (job .image) → withBlock (job .image .«block_len») (s .flash) (suc j) (blockIn (job .image .«block_len») (blockFor H (job .image) (suc j)))
+        ≡ take (suc j * job .image .«block_len») (filled (job .image .«block_len») (job .image .bytes)) ++ drop (suc j * job .image .«block_len») old
     unfolding blocks imageBlocks
     next-flash h =
-        let L = job .block in
+        let L = job .image .«block_len» in
         ap₂ (λ x b. withBlock L x (suc j) b) (w .flash) (block-sent H hash-long job ok j h .block)
-        ∙ more-blocks L j (filled L (job .image)) old (omega (arith, job-length H hash-long job ok, mul-le-mul-right L (w .within))) (block-length H hash-long job ok j h)
+        ∙ more-blocks L j (filled L (job .image .bytes)) old (omega (arith, job-length H hash-long job ok, mul-le-mul-right L (w .within))) (block-length H hash-long job ok j h)
 
-    pub next-here : j < count job → Here old (suc j) (accept Block (s .device) (s .flash) (blockFor H job (suc j)))
-    next-here h = subst (λ d. Here old (suc j) (accept Block d (s .flash) (blockFor H job (suc j)))) (sym (is-loading h)) go
+    pub next-here : j < count (job .image) → Here old (suc j) (accept Block (s .device) (s .flash) (blockFor H (job .image) (suc j)))
+    next-here h = subst (λ d. Here old (suc j) (accept Block d (s .flash) (blockFor H (job .image) (suc j)))) (sym (is-loading h)) go
       where
-        go : Here old (suc j) (accept Block (loadingAt H job (s .device .model) (s .device .key) j (s .device .hashes)) (s .flash) (blockFor H job (suc j)))
+        go : Here old (suc j) (accept Block (loadingAt H job (s .device .model) (s .device .key) j (s .device .hashes)) (s .flash) (blockFor H (job .image) (suc j)))
         go = unfold accept acceptBlock loadingAt nextOf manifestFor countOf count in
             let r = block-sent H hash-long job ok j h in
             let k = run j (s .device .hashes) h (w .array) (w .holds) in
@@ -124,40 +124,40 @@ module _ (H : List ℕ → List ℕ) (hash-long : (x : List ℕ) → length (H x
               within = h;
               stage = refl;
               manifest = refl;
-              array = ap (λ x. length (advanced (count job) j (s .device .hashes) x)) (r .after) ∙ k .size;
-              holds = ap (λ x. heldIn (count job) (suc j) (advanced (count job) j (s .device .hashes) x)) (r .after) ∙ k .holds;
+              array = ap (λ x. length (advanced (count (job .image)) j (s .device .hashes) x)) (r .after) ∙ k .size;
+              holds = ap (λ x. heldIn (count (job .image)) (suc j) (advanced (count (job .image)) j (s .device .hashes) x)) (r .after) ∙ k .holds;
               room = w .room;
               flash = next-flash h;
             }
 
-    pub is-complete : j ≡ count job → s .device .stage ≡ Complete
+    pub is-complete : j ≡ count (job .image) → s .device .stage ≡ Complete
     unfolding stageAfter
-    is-complete e = w .stage ∙ rw (le-ltb j (count job) (omega arith))
+    is-complete e = w .stage ∙ rw (le-ltb j (count (job .image)) (omega arith))
 
-    pub holding : heldBy (s .device) ≡ hashes (plain H) (blocks job) (frontier 0 (shape (count job)) j)
+    pub holding : heldBy (s .device) ≡ hashes (plain H) (blocks (job .image)) (frontier 0 (shape (count (job .image))) j)
     unfolding heldBy
-    holding = go (lt-or-le j (count job))
+    holding = go (lt-or-le j (count (job .image)))
       where
-        go : (j < count job) ⊎ (count job ≤ j) → heldBy (s .device) ≡ hashes (plain H) (blocks job) (frontier 0 (shape (count job)) j)
+        go : (j < count (job .image)) ⊎ (count (job .image) ≤ j) → heldBy (s .device) ≡ hashes (plain H) (blocks (job .image)) (frontier 0 (shape (count (job .image))) j)
         go (inl h) = unfold loadingAt manifestFor countOf count in (ap heldBy (is-loading h) ∙ w .holds)
         go (inr h) =
-            let e : j ≡ count job = omega (arith, w .within) in
+            let e : j ≡ count (job .image) = omega (arith, w .within) in
             rw (is-complete e, heldBy)
-            (sym (all-held (count job) (s .device .hashes) (count-some H hash-long job ok)) ∙ ap (λ x. heldIn (count job) x (s .device .hashes)) (sym e) ∙ w .holds)
+            (sym (all-held (count (job .image)) (s .device .hashes) (count-some H hash-long job ok)) ∙ ap (λ x. heldIn (count (job .image)) x (s .device .hashes)) (sym e) ∙ w .holds)
 
-    pub held-few : length (heldBy (s .device)) ≤ max 1 (depth (count job))
+    pub held-few : length (heldBy (s .device)) ≤ max 1 (depth (count (job .image)))
     unfolding heldCount
-    held-few = rw (holding, length-hashes (plain H) (blocks job) (frontier 0 (shape (count job)) j)) (held-depth (count job) j (count-some H hash-long job ok))
+    held-few = rw (holding, length-hashes (plain H) (blocks (job .image)) (frontier 0 (shape (count (job .image))) j)) (held-depth (count (job .image)) j (count-some H hash-long job ok))
 
-    pub none-held : j ≡ count job → heldBy (s .device) ≡ []
+    pub none-held : j ≡ count (job .image) → heldBy (s .device) ≡ []
     unfolding heldBy
     none-held e = rw (is-complete e, heldBy)
 
-    pub flash-is : j ≡ count job → s .flash ≡ filled (job .block) (job .image) ++ drop (count job * job .block) old
+    pub flash-is : j ≡ count (job .image) → s .flash ≡ filled (job .image .«block_len») (job .image .bytes) ++ drop (count (job .image) * job .image .«block_len») old
     flash-is e =
-        let L = job .block in
-        w .flash ∙ ap (λ x. take (x * L) (filled L (job .image)) ++ drop (x * L) old) e
-        ∙ ap (λ x. x ++ drop (count job * L) old) (take-all (count job * L) (filled L (job .image)) (omega (arith, job-length H hash-long job ok)))
+        let L = job .image .«block_len» in
+        w .flash ∙ ap (λ x. take (x * L) (filled L (job .image .bytes)) ++ drop (x * L) old) e
+        ∙ ap (λ x. x ++ drop (count (job .image) * L) old) (take-all (count (job .image) * L) (filled L (job .image .bytes)) (omega (arith, job-length H hash-long job ok)))
 
   -- the manifest came
   pub first-here : (d : Device) (f m : List ℕ) → manifestBytes m ≡ written (manifestFor H job) → ProgramPassed H valid d f m → Here f 0 (accept Program d f m)
@@ -176,10 +176,10 @@ module _ (H : List ℕ → List ℕ) (hash-long : (x : List ℕ) → length (H x
       go =
           record {
             within = omega arith;
-            stage = unfold stageAfter in rw (lt-ltb 0 (count job) (count-some H hash-long job ok));
+            stage = unfold stageAfter in rw (lt-ltb 0 (count (job .image)) (count-some H hash-long job ok));
             manifest = refl;
             array = length-begun (manifestFor H job .root) root;
-            holds = begun-held (count job) (manifestFor H job .root) root ∙ (unfold manifestFor rootOf in sym (hashes-zero (plain H) (blocks job) (shape (count job))));
+            holds = begun-held (count (job .image)) (manifestFor H job .root) root ∙ (unfold manifestFor rootOf in sym (hashes-zero (plain H) (blocks (job .image)) (shape (count (job .image)))));
             room = unfold manifestFor countOf count in (rw is at (p .room));
-            flash = rw (zero-mul (job .block));
+            flash = rw (zero-mul (job .image .«block_len»));
           }

@@ -32,7 +32,7 @@ module _ (H : List ℕ → List ℕ) (hash-long : (x : List ℕ) → length (H x
   is-program = of-program (manifestFor H job) (root-long H hash-long job ok) signature
 
   module _ (d : Device) (flash : List ℕ) (sense : senseless d ≡ false) (model : job .model ≡ d .model) (newer : serialOf d < job .serial)
-      (room : count job * job .block ≤ length flash) (signed : valid (d .key) (written (manifestFor H job)) signature ≡ true) where
+      (room : count (job .image) * job .image .«block_len» ≤ length flash) (signed : valid (d .key) (written (manifestFor H job)) signature ≡ true) where
     pub program-accepted : refusalOf H valid d flash m ≡ none
     unfolding refusalOf refusals always ofKind ofManifest ofProgram noKind short leastLength wrongVersion badSize otherModel notNewer tooSmall unsigned countOf count manifestFor firstThatApplies
     program-accepted =

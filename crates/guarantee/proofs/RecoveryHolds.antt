@@ -113,7 +113,7 @@ module _ (H : List ℕ → List ℕ) (valid : (key message signature : List ℕ)
 module _ (H : List ℕ → List ℕ) (hash-long : (x : List ℕ) → length (H x) ≡ hashLength) (valid : (key message signature : List ℕ) → Bool)
     (any : Device → List ℕ → List ℕ → Outcome) (d : Device) (flash : List ℕ) (ms : Messages) (job : Job) (signature : List ℕ) where
   -- the list with nothing between
-  plain : (j : ℕ) → j ≤ count job → Honest H valid any d flash job ms (programFor H job signature) j (thenBlocks H job (ms ▷ programFor H job signature) j)
+  plain : (j : ℕ) → j ≤ count (job .image) → Honest H valid any d flash job ms (programFor H job signature) j (thenBlocks H (job .image) (ms ▷ programFor H job signature) j)
   unfolding thenBlocks
   plain zero h = begin
   plain (suc j) h = next h (plain j (omega arith))
@@ -121,7 +121,7 @@ module _ (H : List ℕ → List ℕ) (hash-long : (x : List ℕ) → length (H x
   recovers : Calls H valid any d flash ms → length (after any d flash ms .flash) ≡ length flash → ((list : Messages) → SecondHalf H valid any d flash list)
       → senseless (after any d flash ms .device) ≡ false → Offered H valid any d flash ms job signature → Recovers H valid any d flash ms job signature
   recovers calls long second sense o =
-      record { taken = accepts; loaded = loads; none-between = loads (thenBlocks H job (ms ▷ programFor H job signature) (count job)) (plain (count job) (omega arith)) }
+      record { taken = accepts; loaded = loads; none-between = loads (thenBlocks H (job .image) (ms ▷ programFor H job signature) (count (job .image))) (plain (count (job .image)) (omega arith)) }
     where
       at : Situation
       at = after any d flash ms
@@ -138,8 +138,8 @@ module _ (H : List ℕ → List ℕ) (hash-long : (x : List ℕ) → length (H x
           let p = is-program H hash-long valid job (o .sendable) signature in
           record { sendable = o .sendable; program = p .is; carries = p .manifest; taken = accepts }
 
-      loads : (list : Messages) → Honest H valid any d flash job ms (programFor H job signature) (count job) list → Loaded H valid any d flash job ms list
-      loads list h = second list .loads job ms (programFor H job signature) (count job) begun h .done refl
+      loads : (list : Messages) → Honest H valid any d flash job ms (programFor H job signature) (count (job .image)) list → Loaded H valid any d flash job ms list
+      loads list h = second list .loads job ms (programFor H job signature) (count (job .image)) begun h .done refl
 
 pub recovery : (H : List ℕ → List ℕ) → ((x : List ℕ) → length (H x) ≡ hashLength) → (valid : (key message signature : List ℕ) → Bool)
     (any : Device → List ℕ → List ℕ → Outcome) → Demand3 H valid any → Recovery H valid any

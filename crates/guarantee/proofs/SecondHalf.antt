@@ -23,7 +23,7 @@ module _ (H : List ℕ → List ℕ) (hash-long : (x : List ℕ) → length (H x
   -- after j blocks: the device loads the job, and since the manifest these blocks were accepted
   record Run (j : ℕ) (ms : Messages) : Type 0 where
     here : Here H hash-long valid job (b .sendable) (now H valid d flash before .flash) j (now H valid d flash ms)
-    all : taken H valid d flash ms ≡ thenBlocks H job (taken H valid d flash before ▷ m) j
+    all : taken H valid d flash ms ≡ thenBlocks H (job .image) (taken H valid d flash before ▷ m) j
 
   run : {j : ℕ} {ms : Messages} → Honest H valid (step H valid) d flash job before m j ms → Run j ms
   unfolding thenBlocks
@@ -39,7 +39,7 @@ module _ (H : List ℕ → List ℕ) (hash-long : (x : List ℕ) → length (H x
   run (next {j} {ms} h x) =
       let s : Situation = now H valid d flash ms in
       let old : List ℕ = now H valid d flash before .flash in
-      let y : List ℕ = blockFor H job (suc j) in
+      let y : List ℕ = blockFor H (job .image) (suc j) in
       let w = run x in
       let e = next-accepted H hash-long valid job (b .sendable) old j s (w .here) h in
       let a = more H valid d flash ms y e in

@@ -15,6 +15,7 @@ use Rattle.merkle.proofs.HashLaws.{length-hash}
 use Rattle.merkle.proofs.FitsLaws.{length-sent}
 use Rattle.wire.specs.declared.kind.Kind.the-variants.{Block}
 use Rattle.wire.specs.Manifest.{read, written, Fits}
+use Rattle.wire.specs.Geometry.{blockLength}
 use Rattle.wire.specs.Image.{filled}
 use Rattle.wire.specs.Message.{kind, manifestBytes, manifestIn, numberIn, blockIn, hashesAfter}
 use Rattle.wire.proofs.SizeLaws.{Sized, sized}
@@ -25,34 +26,34 @@ use Rattle.sender.specs.Job.{Job, count, blocks, rootOf, manifestFor, blockFor}
 use Rattle.guarantee.specs.Demand3.{Sendable}
 
 module _ (H : List ℕ → List ℕ) (hash-long : (x : List ℕ) → length (H x) ≡ hashLength) (job : Job) (ok : Sendable job) where
-  pub job-sized : Sized (job .block) (length (job .image))
-  job-sized = sized (job .block) (length (job .image)) (ok .size)
+  pub job-sized : Sized (job .image .«block_len») (length (job .image .bytes))
+  job-sized = sized (job .image .«block_len») (length (job .image .bytes)) (ok .size)
 
-  pub count-some : 0 < count job
+  pub count-some : 0 < count (job .image)
   unfolding count
   count-some = job-sized .first
 
-  pub count-most : count job ≤ maxBlocks
+  pub count-most : count (job .image) ≤ maxBlocks
   unfolding count
   count-most = job-sized .count
 
-  pub job-length : length (filled (job .block) (job .image)) ≡ count job * job .block
+  pub job-length : length (filled (job .image .«block_len») (job .image .bytes)) ≡ count (job .image) * job .image .«block_len»
   unfolding count
-  job-length = length-filled (job .block) (job .image) job-sized
+  job-length = length-filled (job .image .«block_len») (job .image .bytes) job-sized
 
-  pub block-length : (j : ℕ) → j < count job → length (blocks job j) ≡ job .block
-  unfolding count blocks
-  block-length j h = length-block (job .block) (job .image) job-sized j h
+  pub block-length : (j : ℕ) → j < count (job .image) → length (blocks (job .image) j) ≡ job .image .«block_len»
+  unfolding count blocks blockLength
+  block-length j h = length-block (job .image .«block_len») (job .image .bytes) job-sized j h
 
   pub root-long : length (manifestFor H job .root) ≡ hashLength
   unfolding manifestFor rootOf
-  root-long = length-hash (plain H) hash-long (blocks job) 0 (shape (count job))
+  root-long = length-hash (plain H) hash-long (blocks (job .image)) 0 (shape (count (job .image)))
 
   manifest-fits : Fits (manifestFor H job)
   unfolding manifestFor
   manifest-fits =
       let z = job-sized in
-      let m : blockCount (job .block) (length (job .image)) * job .block ≤ maxBlocks * job .block = mul-le-mul-right (job .block) (z .count) in
+      let m : blockCount (job .image .«block_len») (length (job .image .bytes)) * job .image .«block_len» ≤ maxBlocks * job .image .«block_len» = mul-le-mul-right (job .image .«block_len») (z .count) in
       record { version = omega arith; «block_len» = omega arith; model = ok .model; serial = ok .serial; «image_len» = omega arith; root = root-long }
 
   -- a message with exactly the job's manifest
@@ -64,20 +65,20 @@ module _ (H : List ℕ → List ℕ) (hash-long : (x : List ℕ) → length (H x
   pub record Sent (j : ℕ) (m : List ℕ) : Type 0 where
     pub is : kind m ≡ Block
     pub number : numberIn m ≡ suc j
-    pub block : blockIn (job .block) m ≡ blocks job j
-    pub after : hashesAfter (job .block) m ≡ sent (plain H) (count job) (blocks job) j
-    pub size : length m ≡ messageLength (job .block) (count job) (suc j)
+    pub block : blockIn (job .image .«block_len») m ≡ blocks (job .image) j
+    pub after : hashesAfter (job .image .«block_len») m ≡ sent (plain H) (count (job .image)) (blocks (job .image)) j
+    pub size : length m ≡ messageLength (job .image .«block_len») (count (job .image)) (suc j)
 
-  pub block-sent : (j : ℕ) → j < count job → Sent j (blockFor H job (suc j))
+  pub block-sent : (j : ℕ) → j < count (job .image) → Sent j (blockFor H (job .image) (suc j))
   unfolding blockFor messageLength
   block-sent j h =
       let most = count-most in
       let long = block-length j h in
-      let r = of-block (suc j) (omega arith) (blocks job j) (sent (plain H) (count job) (blocks job) j) in
+      let r = of-block (suc j) (blocks (job .image) j) (sent (plain H) (count (job .image)) (blocks (job .image)) j) (omega arith) in
       record {
         is = r .is;
         number = r .number;
         block = rw long at (r .blocks);
         after = rw long at (r .after);
-        size = r .size ∙ omega (arith, length-sent (plain H) hash-long (count job) (blocks job) j);
+        size = r .size ∙ omega (arith, length-sent (plain H) hash-long (count (job .image)) (blocks (job .image)) j);
       }

@@ -50,10 +50,10 @@ nobody k m s = false
 
 -- an image of two blocks of 64 bytes, and its successor, with another second block
 job : Job
-job = record { image = replicate 128 3; block = 64; model = 7; serial = 1 }
+job = record { image = record { bytes = replicate 128 3; «block_len» = 64 }; model = 7; serial = 1 }
 
 newer : Job
-newer = record { image = replicate 64 3 ++ replicate 64 4; block = 64; model = 7; serial = 2 }
+newer = record { image = record { bytes = replicate 64 3 ++ replicate 64 4; «block_len» = 64 }; model = 7; serial = 2 }
 
 fresh : Device
 fresh = record { model = 7; key = []; stage = Idle; manifest = record { version = 0; «block_len» = 0; model = 0; serial = 0; «image_len» = 0; root = [] }; hashes = replicate heldBytes 0 }
@@ -107,13 +107,13 @@ unfolding tree-computes wire-computes sender-computes refusals-compute run-compu
 computing = 0
 
 abbrev loaded : Messages
-loaded = empty ▷ program ▷ blockFor toy job 1 ▷ blockFor toy job 2
+loaded = empty ▷ program ▷ blockFor toy (job .image) 1 ▷ blockFor toy (job .image) 2
 
 -- the right device in these runs: complete, and the update taken
 right-runs : (after right fresh flash loaded .device .stage ≡ Complete)
     × (after right fresh flash loaded .flash ≡ replicate 128 3 ++ (5 ∷ 5 ∷ []))
     × (answerTo right fresh flash loaded (updateFor toy newer 2 []) ≡ Accepted)
-    × (answerTo right fresh flash (empty ▷ program ▷ blockFor toy job 1) (blockFor toy newer 2) ≡ Refused refusal.Mismatch)
+    × (answerTo right fresh flash (empty ▷ program ▷ blockFor toy (job .image) 1) (blockFor toy (newer .image) 2) ≡ Refused refusal.Mismatch)
 unfolding computing
 right-runs = (refl, refl, refl, refl)
 
@@ -130,7 +130,7 @@ careless : Step
 careless = byKind right (λ d f m. cond (ltb 1 (nextOf (d .stage))) (taking d f m) (right d f m)) right
 
 careless-list : Messages
-careless-list = empty ▷ program ▷ blockFor toy job 1 ▷ blockFor toy newer 2
+careless-list = empty ▷ program ▷ blockFor toy (job .image) 1 ▷ blockFor toy (newer .image) 2
 
 careless-caught : FirstHalf toy any careless fresh flash careless-list → ⊥
 unfolding computing careless careless-list
@@ -184,7 +184,7 @@ early : Step
 early = byKind right (λ d f m. but (right d f m) (record { model = d .model; key = d .key; stage = Complete; manifest = d .manifest; hashes = d .hashes })) right
 
 early-list : Messages
-early-list = empty ▷ program ▷ blockFor toy job 1
+early-list = empty ▷ program ▷ blockFor toy (job .image) 1
 
 early-runs : (after early fresh flash early-list .device .stage ≡ Complete) × (blocksSince (accepted early fresh flash early-list) ≡ 1)
     × (lastProgram (accepted early fresh flash early-list) ≡ some (manifestFor toy job)) × (countOf (manifestFor toy job) ≡ 2)
@@ -227,7 +227,7 @@ begun-by wrong e = record { sendable = record { size = refl; model = lit< tt; se
 deaf : Step
 deaf = byKind right refusing right
 
-deaf-caught : SecondHalf toy any deaf fresh flash (empty ▷ program ▷ blockFor toy job 1) → ⊥
+deaf-caught : SecondHalf toy any deaf fresh flash (empty ▷ program ▷ blockFor toy (job .image) 1) → ⊥
 unfolding computing deaf
 deaf-caught h =
     let r = h .loads job empty program 1 (begun-by deaf refl) (next (lit< tt) begin) .all in
@@ -249,7 +249,7 @@ still-caught h =
 hoarding : Step
 hoarding = byKind right (λ d f m. but (right d f m) (record { model = d .model; key = d .key; stage = stageAfter 2 (nextOf (d .stage)); manifest = d .manifest; hashes = d .hashes })) right
 
-hoarding-caught : SecondHalf toy any hoarding fresh flash (empty ▷ program ▷ blockFor toy job 1) → ⊥
+hoarding-caught : SecondHalf toy any hoarding fresh flash (empty ▷ program ▷ blockFor toy (job .image) 1) → ⊥
 unfolding computing hoarding
 hoarding-caught h =
     let r = h .loads job empty program 1 (begun-by hoarding refl) (next (lit< tt) begin) .held in
@@ -260,7 +260,7 @@ hoarding-caught h =
 skipping : Step
 skipping = byKind right (λ d f m. but (right d f m) (record { model = d .model; key = d .key; stage = Loading 3; manifest = d .manifest; hashes = right d f m .device .hashes })) right
 
-skipping-caught : SecondHalf toy any skipping fresh flash (empty ▷ program ▷ blockFor toy job 1) → ⊥
+skipping-caught : SecondHalf toy any skipping fresh flash (empty ▷ program ▷ blockFor toy (job .image) 1) → ⊥
 unfolding computing skipping
 skipping-caught h =
     let r = h .loads job empty program 1 (begun-by skipping refl) (next (lit< tt) begin) .held in

@@ -17,7 +17,7 @@ use Rattle.wire.specs.Size.{wrongSize}
 use Rattle.wire.specs.Manifest.{written}
 use Rattle.wire.specs.Image.{filled, imageBlocks}
 use Rattle.wire.specs.Message.{kind, manifestBytes, manifestIn}
-use Rattle.sender.specs.Job.{Job, count, blocks, manifestFor, blockFor}
+use Rattle.sender.specs.Job.{Image, Job, count, blocks, manifestFor, blockFor}
 use Rattle.machine.specs.declared.state.Stage.the-variants.{Idle, Loading, Complete}
 use Rattle.machine.specs.declared.state.Device.{Device}
 use Rattle.machine.specs.declared.state.Answer.{Answer}
@@ -29,14 +29,14 @@ use Rattle.guarantee.specs.Run.{Messages, _▷_, after, answerTo, accept
 
 -- The sender writes a manifest for the job: it does not refuse 5, and model and serial have four bytes.
 pub record Sendable (job : Job) : Type 0 where
-  pub size : wrongSize (job .block) (length (job .image)) ≡ false
+  pub size : wrongSize (job .image .«block_len») (length (job .image .bytes)) ≡ false
   pub model : job .model < 2 ^ 32
   pub serial : job .serial < 2 ^ 32
 
 -- the list, and after it the sender's block messages from 1 to j
-unfoldable pub thenBlocks : (List ℕ → List ℕ) → Job → Messages → ℕ → Messages
-thenBlocks H job ms zero = ms
-thenBlocks H job ms (suc j) = thenBlocks H job ms j ▷ blockFor H job (suc j)
+unfoldable pub thenBlocks : (List ℕ → List ℕ) → Image → Messages → ℕ → Messages
+thenBlocks H image ms zero = ms
+thenBlocks H image ms (suc j) = thenBlocks H image ms j ▷ blockFor H image (suc j)
 
 module _ (H : List ℕ → List ℕ) (valid : (key message signature : List ℕ) → Bool) (step : Device → List ℕ → List ℕ → Outcome) (d : Device) (flash : List ℕ) where
   -- device, flash and accepted messages after a list, and the answer to one message more
@@ -100,7 +100,7 @@ module _ (H : List ℕ → List ℕ) (valid : (key message signature : List ℕ)
   -- after that slip was refused."
   pub data Honest (job : Job) (before : Messages) (m : List ℕ) : ℕ → Messages → Type 0 where
     begin : Honest job before m 0 (before ▷ m)
-    next : {j : ℕ} {ms : Messages} → j < count job → Honest job before m j ms → Honest job before m (suc j) (ms ▷ blockFor H job (suc j))
+    next : {j : ℕ} {ms : Messages} → j < count (job .image) → Honest job before m j ms → Honest job before m (suc j) (ms ▷ blockFor H (job .image) (suc j))
     other : {j : ℕ} {ms : Messages} (x : List ℕ) (r : Refusal) → answer ms x ≡ Refused r → Honest job before m j ms → Honest job before m j (ms ▷ x)
 
   -- "For j = n the stage is then complete with this slip, the area begins with the filled image, and its bytes beyond are as when the slip came", and no hash is held.
@@ -108,16 +108,16 @@ module _ (H : List ℕ → List ℕ) (valid : (key message signature : List ℕ)
     pub stage : deviceAfter ms .stage ≡ Complete
     pub manifest : deviceAfter ms .manifest ≡ manifestFor H job
     pub none-held : heldBy (deviceAfter ms) ≡ []
-    pub image : flashAfter ms ≡ filled (job .block) (job .image) ++ drop (count job * job .block) (flashAfter before)
+    pub image : flashAfter ms ≡ filled (job .image .«block_len») (job .image .bytes) ++ drop (count (job .image) * job .image .«block_len») (flashAfter before)
 
   pub record Loads (job : Job) (before : Messages) (m : List ℕ) (j : ℕ) (ms : Messages) : Type 0 where
     -- "Then all j were accepted": since the manifest these, and nothing else
-    pub all : acceptedOf ms ≡ thenBlocks H job (acceptedOf before ▷ m) j
+    pub all : acceptedOf ms ≡ thenBlocks H (job .image) (acceptedOf before ▷ m) j
     -- "the labels held are those of the image's tree at the subtrees named above for i = j"
-    pub held : heldBy (deviceAfter ms) ≡ hashes (plain H) (blocks job) (frontier 0 (shape (count job)) j)
+    pub held : heldBy (deviceAfter ms) ≡ hashes (plain H) (blocks (job .image)) (frontier 0 (shape (count (job .image))) j)
     -- "never more labels were held than the tree's depth, or one at depth 0"
-    pub few : length (heldBy (deviceAfter ms)) ≤ max 1 (depth (count job))
-    pub done : j ≡ count job → Loaded job before ms
+    pub few : length (heldBy (deviceAfter ms)) ≤ max 1 (depth (count (job .image)))
+    pub done : j ≡ count (job .image) → Loaded job before ms
 
   -- The second half: the honest run. "This counts for each beginning of a list as well": it is said of every list, and a beginning is one.
   pub record SecondHalf (ms : Messages) : Type 0 where

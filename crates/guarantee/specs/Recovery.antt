@@ -22,15 +22,15 @@ module _ (H : List ℕ → List ℕ) (valid : (key message signature : List ℕ)
     pub sendable : Sendable job
     pub model : job .model ≡ d .model
     pub newer : serialOf (after step d flash ms .device) < job .serial
-    pub room : count job * job .block ≤ length flash
+    pub room : count (job .image) * job .image .«block_len» ≤ length flash
     pub signed : valid (d .key) (written (manifestFor H job)) signature ≡ true
 
   -- Then the sender's messages for it load it: the new program is accepted, and its blocks in order complete it, whatever refused messages come between, and
   -- with none between too.
   pub record Recovers (ms : Messages) (job : Job) (signature : List ℕ) : Type 0 where
     pub taken : answerTo step d flash ms (programFor H job signature) ≡ Accepted
-    pub loaded : (list : Messages) → Honest H valid step d flash job ms (programFor H job signature) (count job) list → Loaded H valid step d flash job ms list
-    pub none-between : Loaded H valid step d flash job ms (thenBlocks H job (ms ▷ programFor H job signature) (count job))
+    pub loaded : (list : Messages) → Honest H valid step d flash job ms (programFor H job signature) (count (job .image)) list → Loaded H valid step d flash job ms list
+    pub none-between : Loaded H valid step d flash job ms (thenBlocks H (job .image) (ms ▷ programFor H job signature) (count (job .image)))
 
 -- after every list of messages to a fresh device
 abbrev pub Recovery : (H : List ℕ → List ℕ) (valid : (key message signature : List ℕ) → Bool) (step : Device → List ℕ → List ℕ → Outcome) → Type 0

@@ -1,19 +1,9 @@
 -- For the code alone: what it learns from the sender's answer.
-use mathlib.Core.Path.{_≡_}
-use mathlib.Core.Bool.{Bool, true, false}
-use mathlib.Core.List.{List}
-use Prim.Native.Nat.{ℕ}
+use mathlib.Core.Bool.{true, false}
 use Rattle.sender.specs.declared.send.Sent.{Sent}
 use Rattle.sender.specs.declared.send.Sent.the-variants.{Written, Refused}
-use Rattle.sender.specs.Send.{Result, lengthOf}
+use Rattle.pack.specs.declared.make.Made.{Made}
 
--- whether anything was written
-abbrev pub wrote : Sent → Bool
-wrote (Written k) = true
-wrote (Refused r) = false
-
--- that, the length and the buffer are those of the result
-pub record Makes (s : Result) (done : Bool) (len : ℕ) (buffer : List ℕ) : Type 0 where
-  pub told : done ≡ wrote (s .answer)
-  pub counted : len ≡ lengthOf (s .answer)
-  pub left : buffer ≡ s .buffer
+abbrev pub made : Sent → Made
+made (Written k) = record { len = k; done = true }
+made (Refused r) = record { len = 0; done = false }

@@ -4,10 +4,10 @@ use sender::Sent;
 use wire::Refusal;
 ghost use mathlib.Core.Path.{_≡_};
 ghost use Rattle.io.specs.Counts.{Counts};
-ghost use Rattle.sender.specs.Job.{job};
-ghost use Rattle.sender.specs.Send.{lengthOf, sendManifest};
+ghost use Rattle.sender.specs.Job.{inBlocks, job};
+ghost use Rattle.sender.specs.Send.{Does, sendManifest};
 ghost use Rattle.bundle.specs.Bundle.{sendBundle};
-ghost use Rattle.pack.specs.Make.{wrote, Makes};
+ghost use Rattle.pack.specs.Make.{made};
 
 // So many bytes, or, where nothing is done, none.
 pub struct Made {
@@ -39,7 +39,7 @@ fn refuse(refusal: Refusal) {
 }
 
 fn outcome(sent: Sent) -> Made
-    ensures { λ r. ⌜ (r .done ≡ wrote sent) × (r .len ≡ lengthOf sent) ⌝ }
+    ensures { λ r. ⌜ r ≡ made sent ⌝ }
 {
     match sent {
         Sent::Written(len) => Made { len, done: true },
@@ -55,7 +55,7 @@ fn outcome(sent: Sent) -> Made
 
 // The manifest, for signing.
 pub fn manifest(image: &[u8], len: u32, model: u32, serial: u32, out: &mut [u8]) -> Made
-    ensures { λ r. ⌜ Makes (sendManifest (job (now (image .entry)) len model serial) (now (out .entry))) (r .done) (r .len) (now (out .exit)) ⌝ }
+    ensures { λ r. ⌜ Does made (sendManifest (job (inBlocks (now (image .entry)) len) model serial) (now (out .entry))) r (now (out .exit)) ⌝ }
 {
     outcome(sender::manifest(image, len, model, serial, out))
 }
@@ -69,7 +69,7 @@ pub fn bundle(
     signature: &[u8],
     out: &mut [u8],
 ) -> Made
-    ensures { λ r. ⌜ Makes (sendBundle (job (now (image .entry)) len model serial) (now (signature .entry)) (now (out .entry))) (r .done) (r .len) (now (out .exit)) ⌝ }
+    ensures { λ r. ⌜ Does made (sendBundle (job (inBlocks (now (image .entry)) len) model serial) (now (signature .entry)) (now (out .entry))) r (now (out .exit)) ⌝ }
     ensures { λ r. ⌜ Counts (r .len) (now (out .exit)) ⌝ }
 {
     outcome(bundle::pack(image, len, model, serial, signature, out))

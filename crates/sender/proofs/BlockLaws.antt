@@ -1,5 +1,5 @@
 -- The blocks that the sender takes from the image and its filled last block.
-use mathlib.Core.Path.{_≡_, refl, sym, ap, ap₂, subst, _∙_}
+use mathlib.Core.Path.{_≡_, sym, ap, ap₂, subst, _∙_}
 use mathlib.Core.Logic.{_⊎_, inl, inr}
 use mathlib.Core.Bool.{Bool, false}
 use mathlib.Core.List.{List, _++_, append-assoc}
@@ -10,23 +10,26 @@ use lib.ListN.{length, take, drop, replicate, length-append, length-drop, length
 use lib.Seq.{paste, take-length, take-at, drop-at}
 use Rattle.octets.proofs.CopyLaws.{part-between}
 use Rattle.sha256.specs.Sha256.{digest}
-use Rattle.merkle.specs.Limits.{maxBlocks}
+use Rattle.merkle.specs.Limits.{maxBlocks, hashLength}
 use Rattle.merkle.specs.Blocks.{blockCount, cut, overlay}
 use Rattle.merkle.specs.Shape.{shape}
 use Rattle.merkle.specs.Hash.{plain, rootOver}
-use Rattle.merkle.specs.Frontier.{carriedCount, messageLength}
+use Rattle.merkle.specs.Frontier.{carriedCount}
 use Rattle.merkle.specs.Held.{sent}
 use Rattle.merkle.proofs.ShapeLaws.{lt-or-le, size-shape}
-use Rattle.merkle.proofs.CountLaws.{message-length}
 use Rattle.merkle.proofs.HashLaws.{Same, hash-same}
 use Rattle.merkle.proofs.FitsLaws.{sent-same}
 use Rattle.merkle.proofs.BlockLaws.{overlay-same, overlay-other}
+use Rattle.wire.specs.declared.kind.Kind.the-variants.{Block}
 use Rattle.wire.specs.Size.{wrongSize, outside}
+use Rattle.wire.specs.Geometry.{blockLength}
 use Rattle.wire.specs.Image.{imageBlocks}
+use Rattle.wire.specs.Message.{leastLength, dueLength}
 use Rattle.wire.proofs.SizeLaws.{Sized, sized, inside}
-use Rattle.wire.proofs.ImageLaws.{block-early, block-last}
-use Rattle.sender.specs.Job.{job, count, blockFor}
-use Rattle.sender.proofs.JobLaws.{length-block}
+use Rattle.wire.proofs.ImageLaws.{length-block, block-early, block-last}
+use Rattle.wire.proofs.MessageLaws.{due-length}
+use Rattle.sender.specs.Job.{inBlocks, count, blockFor}
+use Rattle.sender.proofs.JobLaws as job
 
 module _ (L : ℕ) (image : List ℕ) (n : ℕ) (z : Sized L (length image)) (c : n ≡ blockCount L (length image)) where
   -- n blocks hold the image, n - 1 do not
@@ -104,12 +107,16 @@ module _ (image : List ℕ) (len number n : ℕ) where
       let i = inside n number (sym eo ∙ o) in
       record { size = size; sized = z; count = e; inside = sym eo ∙ o; low = i .0; high = i .1; few = rw e (z .count) }
 
-  -- the message's length, and the hashes in it
+  -- the block's length, the message's, and the hashes in it
   module _ (t : Tested) where
-    pub due : (model serial : ℕ) → length (blockFor digest (job image len model serial) number) ≡ messageLength len n number
-    unfolding count
-    due model serial =
-        length-block (job image len model serial) (t .sized) number (t .low) (omega (arith, t .high, t .count)) ∙ ap (λ (x : ℕ). messageLength len x number) (sym (t .count))
+    pub one : (block : List ℕ) → block ≡ imageBlocks len image (number - 1) → length block ≡ blockLength len (length image) number
+    one block e =
+        let z : suc (number - 1) ≡ number = omega (arith, t .low) in
+        ap length e ∙ length-block len image (t .sized) (number - 1) (omega (arith, t .low, t .high, t .count)) ∙ ap (blockLength len (length image)) z
 
-    pub parts : messageLength len n number ≡ 3 + len + 32 * carriedCount n (number - 1 + 1)
-    parts = sym (message-length len n number (carriedCount n (number - 1 + 1)) (t .low) refl)
+    pub due : length (blockFor digest (inBlocks image len) number) ≡ dueLength len (length image) number
+    unfolding count
+    due = job.length-block (inBlocks image len) (t .sized) number (t .low) (omega (arith, t .high, t .count))
+
+    pub parts : dueLength len (length image) number ≡ leastLength Block + blockLength len (length image) number + hashLength * carriedCount n (number - 1 + 1)
+    parts = sym (due-length len (length image) number (carriedCount n (number - 1 + 1)) (t .low) (ap (λ (x : ℕ). carriedCount x (number - 1 + 1)) (t .count)))

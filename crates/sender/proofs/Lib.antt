@@ -1,4 +1,3 @@
 pub mod BlockLaws
 pub mod JobLaws
-pub mod PutLaws
 pub mod SendLaws

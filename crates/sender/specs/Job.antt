@@ -9,40 +9,49 @@ use Rattle.wire.specs.declared.manifest.Manifest.{Manifest}
 use Rattle.wire.specs.Image.{imageBlocks}
 use Rattle.wire.specs.Message.{programMessage, blockMessage, updateMessage}
 
+-- an image and its L: all that a block message is made of
+pub record Image : Type 0 where
+  pub bytes : List ℕ
+  pub «block_len» : ℕ
+
+abbrev pub inBlocks : List ℕ → ℕ → Image
+inBlocks bytes L = record { bytes = bytes; «block_len» = L }
+
 -- image, L, model and serial
 pub record Job : Type 0 where
-  pub image : List ℕ
-  pub block : ℕ
+  pub image : Image
   pub model : ℕ
   pub serial : ℕ
 
-abbrev pub job : List ℕ → ℕ → ℕ → ℕ → Job
-job image block model serial = record { image = image; block = block; model = model; serial = serial }
+abbrev pub job : Image → ℕ → ℕ → Job
+job image model serial = record { image = image; model = model; serial = serial }
 
 -- n
-unfoldable pub count : Job → ℕ
-count j = blockCount (j .block) (length (j .image))
+unfoldable pub count : Image → ℕ
+count x = blockCount (x .«block_len») (length (x .bytes))
 
 -- its blocks, the last one filled, by the number of blocks before
-unfoldable pub blocks : Job → ℕ → List ℕ
-blocks j = imageBlocks (j .block) (j .image)
+unfoldable pub blocks : Image → ℕ → List ℕ
+blocks x = imageBlocks (x .«block_len») (x .bytes)
 
 -- H is SHA-256; the tree's laws hold for any hash function
 module _ (H : List ℕ → List ℕ) where
   -- the root of the tree over them
-  unfoldable pub rootOf : Job → List ℕ
-  rootOf j = rootOver (plain H) (blocks j) (count j)
+  unfoldable pub rootOf : Image → List ℕ
+  rootOf x = rootOver (plain H) (blocks x) (count x)
 
   unfoldable pub manifestFor : Job → Manifest
-  manifestFor j = record { version = 1; «block_len» = j .block; model = j .model; serial = j .serial; «image_len» = length (j .image); root = rootOf j }
+  manifestFor j =
+      let x = j .image in
+      record { version = 1; «block_len» = x .«block_len»; model = j .model; serial = j .serial; «image_len» = length (x .bytes); root = rootOf x }
 
   unfoldable pub programFor : Job → List ℕ → List ℕ
   programFor j signature = programMessage (manifestFor j) signature
 
   -- message i, from 1
-  unfoldable pub blockFor : Job → ℕ → List ℕ
-  blockFor j i = blockMessage i (blocks j (pred i)) (sent (plain H) (count j) (blocks j) (pred i))
+  unfoldable pub blockFor : Image → ℕ → List ℕ
+  blockFor x i = blockMessage i (blocks x (pred i)) (sent (plain H) (count x) (blocks x) (pred i))
 
   -- the update to this image of block i, from 1
   unfoldable pub updateFor : Job → ℕ → List ℕ → List ℕ
-  updateFor j i signature = updateMessage (manifestFor j) i (blocks j (pred i)) signature
+  updateFor j i signature = updateMessage (manifestFor j) i (blocks (j .image) (pred i)) signature

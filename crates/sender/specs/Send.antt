@@ -1,20 +1,21 @@
 -- What the sender answers, and what it leaves in the caller's buffer. It refuses 5, 11, 8 in this order.
 use mathlib.Core.Path.{_≡_}
 use mathlib.Core.Bool.{Bool}
-use mathlib.Core.List.{List, [], _∷_, _++_}
+use mathlib.Core.List.{List, [], _∷_}
 use mathlib.Core.Option.{none, some}
 use Prim.Native.Nat.{ℕ}
 use lib.Dec.{ltb}
-use lib.ListN.{length, drop}
+use lib.ListN.{length}
 use Rattle.sha256.specs.Sha256.{digest}
 use Rattle.wire.specs.declared.refusal.Refusal.{Refusal}
 use Rattle.wire.specs.declared.refusal.Refusal.the-variants.{Size, Turn, Area}
 use Rattle.wire.specs.Refusal.{firstThatApplies}
 use Rattle.wire.specs.Size.{wrongSize, outside}
 use Rattle.wire.specs.Manifest.{written}
+use Rattle.wire.specs.Message.{atStart}
 use Rattle.sender.specs.declared.send.Sent.{Sent}
 use Rattle.sender.specs.declared.send.Sent.the-variants.{Written, Refused}
-use Rattle.sender.specs.Job.{Job, count, manifestFor, programFor, blockFor, updateFor}
+use Rattle.sender.specs.Job.{Image, Job, count, manifestFor, programFor, blockFor, updateFor}
 
 pub record Result : Type 0 where
   pub answer : Sent
@@ -25,41 +26,43 @@ abbrev pub lengthOf : Sent → ℕ
 lengthOf (Written k) = k
 lengthOf (Refused r) = 0
 
--- the answer and the buffer at exit are those of the result
-pub record Does (s : Result) (answer : Sent) (buffer : List ℕ) : Type 0 where
-  pub answered : answer ≡ s .answer
+-- The answer and the buffer at exit are those of the result. `form` is the form in which the caller gets the answer.
+pub record Does {A : Type 0} (form : Sent → A) (s : Result) (answer : A) (buffer : List ℕ) : Type 0 where
+  pub answered : answer ≡ form (s .answer)
   pub left : buffer ≡ s .buffer
+
+-- the answer itself
+abbrev pub asIs : Sent → Sent
+asIs answer = answer
 
 -- the bytes at the start of the buffer and nothing else written; after a refusal nothing
 unfoldable pub send : List (Refusal × Bool) → (bytes buffer : List ℕ) → Result
 send refusals bytes buffer =
     elim (firstThatApplies refusals) [
-      | none ↦ record { answer = Written (length bytes); buffer = bytes ++ drop (length bytes) buffer }
+      | none ↦ record { answer = Written (length bytes); buffer = atStart bytes buffer }
       | some r ↦ record { answer = Refused r; buffer = buffer }
     ]
-
-unfoldable pub badSize : Job → Bool
-badSize j = wrongSize (j .block) (length (j .image))
 
 unfoldable pub tooShort : (bytes buffer : List ℕ) → Bool
 tooShort bytes buffer = ltb (length buffer) (length bytes)
 
 -- manifest and message of kind 1 have no number
-unfoldable pub unnumbered : Job → (bytes buffer : List ℕ) → Result
-unnumbered j bytes buffer = send ((Size, badSize j) ∷ (Area, tooShort bytes buffer) ∷ []) bytes buffer
+unfoldable pub unnumbered : Image → (bytes buffer : List ℕ) → Result
+unnumbered x bytes buffer = send ((Size, wrongSize (x .«block_len») (length (x .bytes))) ∷ (Area, tooShort bytes buffer) ∷ []) bytes buffer
 
-unfoldable pub numbered : Job → ℕ → (bytes buffer : List ℕ) → Result
-numbered j i bytes buffer = send ((Size, badSize j) ∷ (Turn, outside (count j) i) ∷ (Area, tooShort bytes buffer) ∷ []) bytes buffer
+unfoldable pub numbered : Image → ℕ → (bytes buffer : List ℕ) → Result
+numbered x i bytes buffer =
+    send ((Size, wrongSize (x .«block_len») (length (x .bytes))) ∷ (Turn, outside (count x) i) ∷ (Area, tooShort bytes buffer) ∷ []) bytes buffer
 
 -- the bare manifest, for signing, and a message of each kind
 unfoldable pub sendManifest : Job → List ℕ → Result
-sendManifest j buffer = unnumbered j (written (manifestFor digest j)) buffer
+sendManifest j buffer = unnumbered (j .image) (written (manifestFor digest j)) buffer
 
 unfoldable pub sendProgram : Job → (signature buffer : List ℕ) → Result
-sendProgram j signature buffer = unnumbered j (programFor digest j signature) buffer
+sendProgram j signature buffer = unnumbered (j .image) (programFor digest j signature) buffer
 
-unfoldable pub sendBlock : Job → ℕ → List ℕ → Result
-sendBlock j i buffer = numbered j i (blockFor digest j i) buffer
+unfoldable pub sendBlock : Image → ℕ → List ℕ → Result
+sendBlock x i buffer = numbered x i (blockFor digest x i) buffer
 
 unfoldable pub sendUpdate : Job → ℕ → (signature buffer : List ℕ) → Result
-sendUpdate j i signature buffer = numbered j i (updateFor digest j i signature) buffer
+sendUpdate j i signature buffer = numbered (j .image) i (updateFor digest j i signature) buffer

@@ -8,7 +8,7 @@ ghost use Rattle.sha256.specs.Sha256.{digest};
 ghost use Rattle.merkle.specs.Blocks.{blockCount};
 ghost use Rattle.wire.specs.Size.{wrongSize};
 ghost use Rattle.wire.specs.Image.{imageBlocks};
-ghost use Rattle.sender.specs.Job.{job, manifestFor};
+ghost use Rattle.sender.specs.Job.{inBlocks, job, manifestFor};
 
 // The last of n blocks of len bytes, filled with 0xFF: the first len bytes.
 pub fn last_block(image: &[u8], len: usize, n: usize) -> [u8; 1024]
@@ -41,14 +41,15 @@ pub fn block_of<'a>(
     last
 }
 
+// The manifest for these values.
 pub fn manifest_for(image: &[u8], len: u32, model: u32, serial: u32) -> Manifest
     requires { ⌜ wrongSize len (length (now image)) ≡ false ⌝ }
-    ensures { λ r. ⌜ r ≡ manifestFor digest (job (now (image .entry)) len model serial) ⌝ }
+    ensures { λ r. ⌜ r ≡ manifestFor digest (job (inBlocks (now (image .entry)) len) model serial) ⌝ }
 {
-    let block = len as usize;
-    let n = wire::block_count(block, image.len());
-    let last = last_block(image, block, n);
-    let root = merkle::root_with(image, block, n, n - 1, &last[..block]);
+    let block_len = len as usize;
+    let n = wire::block_count(block_len, image.len());
+    let last = last_block(image, block_len, n);
+    let root = merkle::root_with(image, block_len, n, n - 1, &last[..block_len]);
     Manifest {
         version: 1,
         block_len: len as u16,

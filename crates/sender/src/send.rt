@@ -2,17 +2,22 @@
 use crate::image::block_of;
 use crate::image::last_block;
 use crate::image::manifest_for;
-use crate::put::put_block;
-use crate::put::put_program;
-use crate::put::put_update;
-use octets::copy;
+use wire::Kind;
+use wire::MANIFEST_LEN;
 use wire::Refusal;
 use wire::block_count;
+use wire::due_len;
+use wire::least_len;
+use wire::least_update;
 use wire::outside;
-use wire::to_bytes;
+use wire::put_block;
+use wire::put_manifest;
+use wire::put_program;
+use wire::put_update;
+use wire::too_short;
 use wire::wrong_size;
-ghost use Rattle.sender.specs.Job.{job};
-ghost use Rattle.sender.specs.Send.{Does, sendManifest, sendProgram, sendBlock, sendUpdate};
+ghost use Rattle.sender.specs.Job.{inBlocks, job};
+ghost use Rattle.sender.specs.Send.{Does, asIs, sendManifest, sendProgram, sendBlock, sendUpdate};
 
 pub enum Sent {
     // So many bytes.
@@ -22,17 +27,16 @@ pub enum Sent {
 
 // The manifest, for signing.
 pub fn manifest(image: &[u8], len: u32, model: u32, serial: u32, out: &mut [u8]) -> Sent
-    ensures { λ r. ⌜ Does (sendManifest (job (now (image .entry)) len model serial) (now (out .entry))) r (now (out .exit)) ⌝ }
+    ensures { λ r. ⌜ Does asIs (sendManifest (job (inBlocks (now (image .entry)) len) model serial) (now (out .entry))) r (now (out .exit)) ⌝ }
 {
     if wrong_size(len as usize, image.len()) {
         return Sent::Refused(Refusal::Size);
     }
-    if out.len() < 48 {
+    if out.len() < MANIFEST_LEN {
         return Sent::Refused(Refusal::Area);
     }
-    let bytes = to_bytes(manifest_for(image, len, model, serial));
-    copy(out, 0, &bytes);
-    Sent::Written(48)
+    put_manifest(manifest_for(image, len, model, serial), out);
+    Sent::Written(MANIFEST_LEN)
 }
 
 // Kind 1, new program.
@@ -44,54 +48,48 @@ pub fn program(
     signature: &[u8],
     out: &mut [u8],
 ) -> Sent
-    ensures { λ r. ⌜ Does (sendProgram (job (now (image .entry)) len model serial) (now (signature .entry)) (now (out .entry))) r (now (out .exit)) ⌝ }
+    ensures { λ r. ⌜ Does asIs (sendProgram (job (inBlocks (now (image .entry)) len) model serial) (now (signature .entry)) (now (out .entry))) r (now (out .exit)) ⌝ }
 {
     if wrong_size(len as usize, image.len()) {
         return Sent::Refused(Refusal::Size);
     }
-    if out.len() < 49 {
+    let least = least_len(Kind::Program);
+    if too_short(out.len(), least, signature.len()) {
         return Sent::Refused(Refusal::Area);
     }
-    if out.len() - 49 < signature.len() {
-        return Sent::Refused(Refusal::Area);
-    }
-    let bytes = to_bytes(manifest_for(image, len, model, serial));
-    put_program(&bytes, signature, out);
-    Sent::Written(49 + signature.len())
+    put_program(manifest_for(image, len, model, serial), signature, out);
+    Sent::Written(least + signature.len())
 }
 
 // Kind 2, block `number`, from 1. It has neither model nor serial.
 pub fn block(image: &[u8], len: u32, number: u32, out: &mut [u8]) -> Sent
-    ensures { λ r. ⌜ Does (sendBlock (job (now (image .entry)) len 0 0) number (now (out .entry))) r (now (out .exit)) ⌝ }
+    ensures { λ r. ⌜ Does asIs (sendBlock (inBlocks (now (image .entry)) len) number (now (out .entry))) r (now (out .exit)) ⌝ }
 {
-    let block = len as usize;
-    if wrong_size(block, image.len()) {
+    let block_len = len as usize;
+    if wrong_size(block_len, image.len()) {
         return Sent::Refused(Refusal::Size);
     }
-    let n = block_count(block, image.len());
+    let n = block_count(block_len, image.len());
     let i = number as usize;
     if outside(n, i) {
         return Sent::Refused(Refusal::Turn);
     }
-    let due = merkle::message_len(block, n, i);
+    let due = due_len(block_len, image.len(), i);
     if out.len() < due {
         return Sent::Refused(Refusal::Area);
     }
-    let last = last_block(image, block, n);
-    put_block(
-        number as u16,
-        block_of(image, &last[..block], block, n, i - 1),
-        out,
-    );
-    let from = 3 + block;
+    let last = last_block(image, block_len, n);
+    let block = block_of(image, &last[..block_len], block_len, n, i - 1);
+    put_block(number as u16, block, out);
+    let from = least_len(Kind::Block) + block.len();
     merkle::write_siblings(
         &mut out[from..],
         image,
-        block,
+        block_len,
         n,
         i - 1,
         n - 1,
-        &last[..block],
+        &last[..block_len],
     );
     Sent::Written(due)
 }
@@ -106,31 +104,27 @@ pub fn update(
     signature: &[u8],
     out: &mut [u8],
 ) -> Sent
-    ensures { λ r. ⌜ Does (sendUpdate (job (now (image .entry)) len model serial) number (now (signature .entry)) (now (out .entry))) r (now (out .exit)) ⌝ }
+    ensures { λ r. ⌜ Does asIs (sendUpdate (job (inBlocks (now (image .entry)) len) model serial) number (now (signature .entry)) (now (out .entry))) r (now (out .exit)) ⌝ }
 {
-    let block = len as usize;
-    if wrong_size(block, image.len()) {
+    let block_len = len as usize;
+    if wrong_size(block_len, image.len()) {
         return Sent::Refused(Refusal::Size);
     }
-    let n = block_count(block, image.len());
+    let n = block_count(block_len, image.len());
     let i = number as usize;
     if outside(n, i) {
         return Sent::Refused(Refusal::Turn);
     }
-    let least = 51 + block;
-    if out.len() < least {
-        return Sent::Refused(Refusal::Area);
-    }
-    if out.len() - least < signature.len() {
+    let least = least_update(block_len, image.len(), i);
+    if too_short(out.len(), least, signature.len()) {
         return Sent::Refused(Refusal::Area);
     }
     let total = least + signature.len();
-    let bytes = to_bytes(manifest_for(image, len, model, serial));
-    let last = last_block(image, block, n);
+    let last = last_block(image, block_len, n);
     put_update(
-        &bytes,
+        manifest_for(image, len, model, serial),
         number as u16,
-        block_of(image, &last[..block], block, n, i - 1),
+        block_of(image, &last[..block_len], block_len, n, i - 1),
         signature,
         out,
     );

@@ -7,6 +7,7 @@ use native.Mathlib.Omega.{arith}
 use lib.ListN.{length, take, drop, replicate, length-append, length-drop, length-replicate}
 use lib.Seq.{take-all, take-append-le, drop-append-le, length-take-le}
 use Rattle.merkle.specs.Blocks.{blockCount, cut}
+use Rattle.wire.specs.Geometry.{blockLength}
 use Rattle.wire.specs.Image.{filled, imageBlocks}
 use Rattle.wire.proofs.SizeLaws.{Sized}
 
@@ -27,9 +28,9 @@ module _ (L : ℕ) (image : List ℕ) (z : Sized L (length image)) where
       ap (take L) (drop-append-le (k * L) (filled L image) rest (omega arith))
       ∙ take-append-le L (drop (k * L) (filled L image)) rest (rw (length-drop (k * L) (filled L image)) (omega arith))
 
-  -- each has L bytes
-  pub length-block : (k : ℕ) → k < blockCount L (length image) → length (imageBlocks L image k) ≡ L
-  unfolding cut imageBlocks
+  -- each has its length
+  pub length-block : (k : ℕ) → k < blockCount L (length image) → length (imageBlocks L image k) ≡ blockLength L (length image) (suc k)
+  unfolding cut imageBlocks blockLength
   length-block k h =
       let m : suc k * L ≤ blockCount L (length image) * L = mul-le-mul-right L h in
       let e : suc k * L ≡ k * L + L = omega arith in

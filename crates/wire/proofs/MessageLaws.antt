@@ -48,12 +48,16 @@ module _ (k : ℕ) (m : List ℕ) where
   unfolding updateBlock
   length-update-block h = length-part m (leastLength Update) k h
 
-module _ (s : Manifest) (root : length (s .root) ≡ 32) (signature : List ℕ) where
+module _ (s : Manifest) (root : length (s .root) ≡ hashLength) (signature : List ℕ) where
+  pub program-size : length (programMessage s signature) ≡ leastLength Program + length signature
+  unfolding programMessage
+  program-size = ap suc (length-append (written s) signature) ∙ omega (arith, length-written s root)
+
   pub record OfProgram (m : List ℕ) : Type 0 where
     pub is : kind m ≡ Program
     pub manifest : manifestBytes m ≡ written s
     pub signed : programSignature m ≡ signature
-    pub size : length m ≡ 49 + length signature
+    pub size : length m ≡ leastLength Program + length signature
 
   pub of-program : OfProgram (programMessage s signature)
   unfolding kind programMessage manifestBytes programSignature
@@ -61,64 +65,83 @@ module _ (s : Manifest) (root : length (s .root) ≡ 32) (signature : List ℕ) 
       let l = length-written s root in
       record {
         is = refl;
-        manifest = take-at (written s) signature 48 l;
-        signed = drop-at (written s) signature 48 l;
-        size = ap suc (length-append (written s) signature) ∙ omega arith;
+        manifest = take-at (written s) signature manifestLength l;
+        signed = drop-at (written s) signature manifestLength l;
+        size = program-size;
       }
 
-  module _ (i : ℕ) (few : i < 256 ^ 2) (block : List ℕ) where
+  module _ (i : ℕ) (block : List ℕ) where
+    abbrev head : List ℕ
+    head = written s ++ bytes numberLength i
+
+    length-head : length head ≡ manifestLength + numberLength
+    length-head = length-append (written s) (bytes numberLength i) ∙ omega (arith, length-written s root, length-bytes numberLength i)
+
+    length-most : length (head ++ block) ≡ manifestLength + numberLength + length block
+    length-most = length-append head block ∙ omega (arith, length-head)
+
+    pub update-size : length (updateMessage s i block signature) ≡ leastLength Update + length block + length signature
+    unfolding updateMessage
+    update-size = ap suc (length-append (head ++ block) signature) ∙ omega (arith, length-most)
+
     pub record OfUpdate (m : List ℕ) : Type 0 where
       pub is : kind m ≡ Update
       pub manifest : manifestBytes m ≡ written s
       pub number : updateNumber m ≡ i
       pub blocks : updateBlock (length block) m ≡ block
       pub signed : updateSignature (length block) m ≡ signature
-      pub size : length m ≡ 51 + length block + length signature
+      pub size : length m ≡ leastLength Update + length block + length signature
 
-    pub of-update : OfUpdate (updateMessage s i block signature)
+    pub of-update : i < 256 ^ numberLength → OfUpdate (updateMessage s i block signature)
     unfolding kind updateMessage manifestBytes updateNumber updateBlock updateSignature
-    of-update =
+    of-update few =
         let l = length-written s root in
-        let n = length-bytes 2 i in
-        let head : length (written s ++ bytes 2 i) ≡ 50 = length-append (written s) (bytes 2 i) ∙ omega arith in
-        let most : length (written s ++ bytes 2 i ++ block) ≡ 50 + length block = length-append (written s ++ bytes 2 i) block ∙ omega arith in
-        let all = written s ++ bytes 2 i ++ block ++ signature in
-        let apart : all ≡ written s ++ (bytes 2 i ++ (block ++ signature)) = simp append-assoc in
-        let behind : drop 50 all ≡ block ++ signature = ap (drop 50) (append-assoc (written s ++ bytes 2 i) block signature) ∙ drop-at (written s ++ bytes 2 i) (block ++ signature) 50 head in
-        let end : 3 + 48 + length block ≡ suc (50 + length block) = omega arith in
+        let rest = block ++ signature in
+        let apart : head ++ block ++ signature ≡ written s ++ (bytes numberLength i ++ rest) = simp append-assoc in
+        let behind : drop (manifestLength + numberLength) (head ++ block ++ signature) ≡ rest =
+        ap (drop (manifestLength + numberLength)) (append-assoc head block signature) ∙ drop-at head rest (manifestLength + numberLength) length-head in
+        let end : leastLength Update + length block ≡ suc (manifestLength + numberLength + length block) = omega arith in
         record {
           is = refl;
-          manifest = ap (take 48) apart ∙ take-at (written s) (bytes 2 i ++ (block ++ signature)) 48 l;
+          manifest = ap (take manifestLength) apart ∙ take-at (written s) (bytes numberLength i ++ rest) manifestLength l;
           number =
-              number-back 2 i
-              (ap (λ (x : List ℕ). take 2 (drop 48 x)) apart ∙ ap (take 2) (drop-at (written s) (bytes 2 i ++ (block ++ signature)) 48 l)
-              ∙ take-at (bytes 2 i) (block ++ signature) 2 n) few;
+              number-back numberLength i
+              (ap (λ (x : List ℕ). take numberLength (drop manifestLength x)) apart
+              ∙ ap (take numberLength) (drop-at (written s) (bytes numberLength i ++ rest) manifestLength l)
+              ∙ take-at (bytes numberLength i) rest numberLength (length-bytes numberLength i)) few;
           blocks = ap (take (length block)) behind ∙ take-at block signature (length block) refl;
-          signed = rw end (drop-at (written s ++ bytes 2 i ++ block) signature (50 + length block) most);
-          size = ap suc (length-append (written s ++ bytes 2 i ++ block) signature) ∙ omega arith;
+          signed = rw end (drop-at (head ++ block) signature (manifestLength + numberLength + length block) length-most);
+          size = update-size;
         }
 
-module _ (i : ℕ) (few : i < 256 ^ 2) (block hashes : List ℕ) where
+module _ (i : ℕ) (block hashes : List ℕ) where
+  pub block-size : length (blockMessage i block hashes) ≡ leastLength Block + length block + length hashes
+  unfolding blockMessage
+  block-size =
+      ap suc (length-append (bytes numberLength i ++ block) hashes) ∙ omega (arith, length-append (bytes numberLength i) block, length-bytes numberLength i)
+
   pub record OfBlock (m : List ℕ) : Type 0 where
     pub is : kind m ≡ Block
     pub number : numberIn m ≡ i
     pub blocks : blockIn (length block) m ≡ block
     pub after : hashesAfter (length block) m ≡ hashes
-    pub size : length m ≡ 3 + length block + length hashes
+    pub size : length m ≡ leastLength Block + length block + length hashes
 
-  pub of-block : OfBlock (blockMessage i block hashes)
+  pub of-block : i < 256 ^ numberLength → OfBlock (blockMessage i block hashes)
   unfolding kind blockMessage numberIn blockIn hashesAfter
-  of-block =
-      let n = length-bytes 2 i in
-      let most : length (bytes 2 i ++ block) ≡ 2 + length block = length-append (bytes 2 i) block ∙ omega arith in
-      let apart : bytes 2 i ++ block ++ hashes ≡ bytes 2 i ++ (block ++ hashes) = append-assoc (bytes 2 i) block hashes in
-      let end : 3 + length block ≡ suc (2 + length block) = omega arith in
+  of-block few =
+      let n = length-bytes numberLength i in
+      let most : length (bytes numberLength i ++ block) ≡ numberLength + length block = length-append (bytes numberLength i) block ∙ omega arith in
+      let apart : bytes numberLength i ++ block ++ hashes ≡ bytes numberLength i ++ (block ++ hashes) = append-assoc (bytes numberLength i) block hashes in
+      let end : leastLength Block + length block ≡ suc (numberLength + length block) = omega arith in
       record {
         is = refl;
-        number = number-back 2 i (ap (take 2) apart ∙ take-at (bytes 2 i) (block ++ hashes) 2 n) few;
-        blocks = ap (λ (x : List ℕ). take (length block) (drop 2 x)) apart ∙ ap (take (length block)) (drop-at (bytes 2 i) (block ++ hashes) 2 n) ∙ take-at block hashes (length block) refl;
-        after = rw end (drop-at (bytes 2 i ++ block) hashes (2 + length block) most);
-        size = ap suc (length-append (bytes 2 i ++ block) hashes) ∙ omega arith;
+        number = number-back numberLength i (ap (take numberLength) apart ∙ take-at (bytes numberLength i) (block ++ hashes) numberLength n) few;
+        blocks =
+            ap (λ (x : List ℕ). take (length block) (drop numberLength x)) apart
+            ∙ ap (take (length block)) (drop-at (bytes numberLength i) (block ++ hashes) numberLength n) ∙ take-at block hashes (length block) refl;
+        after = rw end (drop-at (bytes numberLength i ++ block) hashes (numberLength + length block) most);
+        size = block-size;
       }
 
 -- the due length, from the count of the hashes as the code finds it

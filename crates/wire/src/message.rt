@@ -12,7 +12,6 @@ ghost use lib.ListN.{length};
 ghost use Rattle.merkle.specs.Blocks.{blockCount};
 ghost use Rattle.wire.specs.declared.kind.Kind.the-variants.{Program, Block, Update};
 ghost use Rattle.wire.specs.Size.{wrongSize};
-ghost use Rattle.wire.specs.Geometry.{blockLength};
 ghost use Rattle.wire.specs.Message.{leastLength, manifestBytes, manifestIn, programSignature, numberIn, blockIn, hashesAfter, updateNumber, updateBlock, updateSignature, dueLength, leastUpdate};
 ghost use Rattle.wire.specs.Message as spec;
 

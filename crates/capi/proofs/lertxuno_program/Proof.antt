@@ -1,4 +1,4 @@
-use Rattle.capi.proofs.CallLaws.{sends}
+use Rattle.sender.proofs.SendLaws.{told}
 use borrow.Author.Needs.{needs}
 use Rattle.capi.proofs.lertxuno_program.Statement.{statement}
 use Rattle.capi.proofs.lertxuno_program.Tie as tie
@@ -13,7 +13,7 @@ same-length : tie.Need-same-length
 same-length c = search needs
 
 returns : tie.Need-returns
-returns c = sends (c .before .before .before .before .program .ensures) (c .report .ensures)
+returns c = told (c .before .before .before .before .program .ensures) (c .report .ensures)
 
 pub lertxuno-program-spec : {M : Type 1} → statement M
 lertxuno-program-spec = tie.close (tie.spec program-requires report-requires same-length returns)

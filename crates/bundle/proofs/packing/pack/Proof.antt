@@ -8,10 +8,9 @@ use borrow.Rule.Slice.PartMut.{putMid}
 use Rattle.octets.proofs.NumberLaws.{length-bytes}
 use Rattle.sha256.specs.Sha256.{digest}
 use Rattle.wire.proofs.SizeLaws.{sized}
-use Rattle.sender.specs.Job.{Job, job, count, programFor}
-use Rattle.sender.specs.Send.{badSize}
+use Rattle.sender.specs.Job.{Job, inBlocks, job, count, programFor}
 use Rattle.sender.proofs.SendLaws.{size-refused, area-refused, all-written}
-use Rattle.sender.proofs.PutLaws.{Put, length-put}
+use Rattle.wire.proofs.PutLaws.{Put, put-start, length-put}
 use Rattle.bundle.specs.Bundle.{blockMessages, bundleFor, sendBundle}
 use Rattle.bundle.proofs.PackLaws.{Ready, ready, length-bundle, program-behind, trailer-behind}
 use Rattle.bundle.proofs.packing.pack.Statement.{statement}
@@ -19,7 +18,7 @@ use Rattle.bundle.proofs.packing.pack.Tie as tie
 
 -- what is handed over
 abbrev this : tie.After-block-count → Job
-this c = let a = c .before .before .before .before .before .before .args in job (a .image .now) (a .len) (a .model) (a .serial)
+this c = let a = c .before .before .before .before .before .before .args in job (inBlocks (a .image .now) (a .len)) (a .model) (a .serial)
 
 abbrev signature : tie.After-block-count → List ℕ
 signature c = c .before .before .before .before .before .before .args .signature .now
@@ -28,11 +27,11 @@ abbrev out : tie.After-block-count → List ℕ
 out c = c .before .before .before .before .before .before .args .out .now
 
 -- refusal 5 does not apply
-known : (c : tie.After-block-count) → Ready (this c .image) (this c .block) (c .block-count .result)
+known : (c : tie.After-block-count) → Ready (this c .image .bytes) (this c .image .«block_len») (c .block-count .result)
 known c = ready _ _ (sym (c .before .before .wrong-size .ensures) ∙ c .before .if1 .left) (c .block-count .ensures)
 
 abbrev messages : tie.After-block-count → List ℕ
-messages c = blockMessages digest (job (this c .image) (this c .block) 0 0) (c .block-count .result)
+messages c = blockMessages digest (this c .image) (c .block-count .result)
 
 -- the block messages stand at the start, and what follows has room
 blocks-put : (c : tie.After-put-blocks) → (let s = c .before .before .before .before in (c .put-blocks .result ≡ length (messages s)) × (c .put-blocks .result + 53 + length (signature s) ≤ length (out s))
@@ -40,28 +39,27 @@ blocks-put : (c : tie.After-put-blocks) → (let s = c .before .before .before .
 blocks-put c =
     let e = c .put-blocks .ensures in
     let y = known (c .before .before .before .before) in
-    (e .0, omega (arith, y .blocks, e .0, y .some), record { is = e .1; size = sym (e .0) })
+    (e .0, omega (arith, y .blocks, e .0, y .some), put-start (c .put-blocks .result) (sym (e .0)) (e .1))
 
 -- and the kind 1 message behind them
 program-put : (c : tie.After-written) → (let b = c .before .before .before .before .before .before .before .put-blocks in
     let s = c .before .before .before .before .before .before .before .before .before .before .before in (c .written .result ≡ 49 + length (signature s))
     × Put (out s) (putMid (b .result) (length (b .last .1 .1 .1 .0) - b .result) (b .last .1 .1 .1 .0) (c .before .before .before .program .last .1 .1 .1 .1 .1 .0))
     (messages s ++ programFor digest (this s) (signature s)) (b .result + c .written .result))
-unfolding badSize
 program-put c =
     let b = blocks-put (c .before .before .before .before .before .before .before) in
     let s = c .before .before .before .before .before .before .before .before .before .before .before in
-    program-behind (this s) (known s .sized) (c .written .ensures) (b .2) (signature s) (omega (arith, b .1)) (c .before .before .before .program .ensures)
+    program-behind (this s .image) (known s .sized) (c .written .ensures) (b .2) (this s .model) (this s .serial) (signature s) (omega (arith, b .1)) (c .before .before .before .program .ensures)
 
 wrong-size-requires : tie.Need-wrong-size-requires
 wrong-size-requires c κs = search needs
 
 returns : tie.Need-returns
-unfolding sendBundle badSize
+unfolding sendBundle
 returns c =
     let a = c .before .before .before .before .before .args in
-    let j = job (a .image .now) (a .len) (a .model) (a .serial) in
-    size-refused j (bundleFor digest j [] (a .signature .now)) (a .out .now) (sym (c .before .wrong-size .ensures) ∙ c .if1 .taken)
+    let j = job (inBlocks (a .image .now) (a .len)) (a .model) (a .serial) in
+    size-refused (j .image) (bundleFor digest j [] (a .signature .now)) (a .out .now) (sym (c .before .wrong-size .ensures) ∙ c .if1 .taken)
 
 block-count-requires : tie.Need-block-count-requires
 block-count-requires c κs = let z = sized _ _ (sym (c .before .wrong-size .ensures) ∙ c .if1 .left) in (omega (arith, z .least), omega (arith, z .some))
@@ -88,27 +86,27 @@ add-least-4 : tie.Need-add-least-4
 add-least-4 c = let y = known c in omega (arith, y .small, y .some, y .few)
 
 returns-2 : tie.Need-returns-2
-unfolding sendBundle badSize
+unfolding sendBundle
 returns-2 c =
     let s = c .before in
     let l = length-bundle (known s) (this s .model) (this s .serial) (signature s) in
-    area-refused (this s) (bundleFor digest (this s) [] (signature s)) (out s) (known s .sized) (omega (arith, l))
+    area-refused (this s .image) (bundleFor digest (this s) [] (signature s)) (out s) (known s .sized) (omega (arith, l))
 
 sub-if3 : tie.Need-sub-if3
 sub-if3 c = search needs
 
 returns-3 : tie.Need-returns-3
-unfolding sendBundle badSize
+unfolding sendBundle
 returns-3 c =
     let s = c .before .before in
     let l = length-bundle (known s) (this s .model) (this s .serial) (signature s) in
-    area-refused (this s) (bundleFor digest (this s) [] (signature s)) (out s) (known s .sized) (omega (arith, l))
+    area-refused (this s .image) (bundleFor digest (this s) [] (signature s)) (out s) (known s .sized) (omega (arith, l))
 
 cast-put-blocks : tie.Need-cast-put-blocks
 cast-put-blocks c = let y = known (c .before .before) in omega (arith, y .few)
 
 put-blocks-requires : tie.Need-put-blocks-requires
-unfolding badSize count
+unfolding count
 put-blocks-requires c κs = let y = known (c .before .before .before) in (y .sized, y .counted, omega (arith, y .blocks))
 
 sub-program : tie.Need-sub-program
@@ -151,7 +149,7 @@ same-length : tie.Need-same-length
 same-length c = search needs
 
 returns-4 : tie.Need-returns-4
-unfolding sendBundle badSize
+unfolding sendBundle
 returns-4 c =
     let s = c .before .before .before .before .before .before .before .before .before .before .before .before .before .before .before .before .before in
     let y = known s in
@@ -160,7 +158,7 @@ returns-4 c =
     let end = c .before .before .before .before .before .before .before .before .before .before .before .before .before .put-blocks .result + c .before .before .before .before .before .before .written .result in
     let room : end + 4 ≤ length (out s) = omega (arith, b .1, p .0) in
     let l : length (bundleFor digest (this s) [] (signature s)) ≡ end + 4 = length-bundle y (this s .model) (this s .serial) (signature s) ∙ omega (arith, b .0, y .blocks, p .0) in
-    all-written (this s) (bundleFor digest (this s) [] (signature s)) (out s) (y .sized) (end + 4) _ l room
+    all-written (this s .image) (bundleFor digest (this s) [] (signature s)) (out s) (y .sized) (end + 4) _ l room
     (trailer-behind y (this s .model) (this s .serial) (signature s) (p .1) (p .0) (c .before .before .before .before .be32 .ensures) room (c .before .before .copy .ensures))
 
 pub pack-spec : {M : Type 1} → statement M

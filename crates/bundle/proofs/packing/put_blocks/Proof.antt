@@ -5,15 +5,15 @@ use lib.ListN.{length}
 use borrow.Author.Needs.{needs}
 use borrow.Rule.Slice.PartMut.{putMid}
 use Rattle.sha256.specs.Sha256.{digest}
-use Rattle.sender.specs.Job.{job}
-use Rattle.sender.proofs.PutLaws.{Put, length-put}
+use Rattle.sender.specs.Job.{inBlocks}
+use Rattle.wire.proofs.PutLaws.{Put, length-put, put-all}
 use Rattle.bundle.specs.Bundle.{blockMessages}
 use Rattle.bundle.proofs.PackLaws.{no-messages, block-behind}
 use Rattle.bundle.proofs.packing.put_blocks.Statement.{statement}
 use Rattle.bundle.proofs.packing.put_blocks.Tie as tie
 
 abbrev Inv-loop : tie.InvT-loop
-Inv-loop image len n out₀ at₀ number₀ out at number = Put out₀ out (blockMessages digest (job image len 0 0) number) at × (number ≤ n) × (at ≤ length out₀)
+Inv-loop image len n out₀ at₀ number₀ out at number = Put out₀ out (blockMessages digest (inBlocks image len) number) at × (number ≤ n) × (at ≤ length out₀)
 
 abbrev μ-loop : tie.MeasureT-loop
 μ-loop image len n out₀ at₀ number₀ out at number = n - number
@@ -21,13 +21,13 @@ abbrev μ-loop : tie.MeasureT-loop
 -- one message more
 more : (c : tie.After-written Inv-loop μ-loop) → (let l = c .before .before .before .before .before .before .loop in
     let a = c .before .before .before .before .before .before .before .before .before .args in (l .at + c .written .result ≤ length (a .out .now))
-    × Put (a .out .now) (putMid (l .at) (length (l .out) - l .at) (l .out) (c .before .before .before .block .last .1 .1 .1 .0)) (blockMessages digest (job (a .image .now) (a .len) 0 0) (l .number + 1))
+    × Put (a .out .now) (putMid (l .at) (length (l .out) - l .at) (l .out) (c .before .before .before .block .last .1 .1 .1 .0)) (blockMessages digest (inBlocks (a .image .now) (a .len)) (l .number + 1))
     (l .at + c .written .result))
 more c =
     let s = c .before .before .before .before .before .before .before .before .before in
     let l = c .before .before .before .before .before .before .loop in
     let e = s .pre .1 in
-    block-behind (job (s .args .image .now) (s .args .len) 0 0) (s .pre .0) (c .written .ensures) (l .number) (l .inv .0) (omega (arith, e)) (rw e at (s .pre .2)) (c .before .before .before .block .ensures)
+    block-behind (inBlocks (s .args .image .now) (s .args .len)) (s .pre .0) (c .written .ensures) (l .number) (l .inv .0) (omega (arith, e)) (rw e at (s .pre .2)) (c .before .before .before .block .ensures)
 
 loop-holds : tie.Need-loop-holds Inv-loop μ-loop
 loop-holds c = (no-messages _ _, omega arith, omega arith)
@@ -67,7 +67,7 @@ returns c =
     let l = c .before .loop in
     let e : l .number ≡ c .before .before .before .before .args .n = omega (arith, l .inv .1) in
     let b = rw e at (l .inv .0) in
-    (sym (b .size), b .is)
+    (sym (b .size), put-all b)
 
 pub put-blocks-spec : {M : Type 1} → statement M
 put-blocks-spec =

@@ -1,5 +1,8 @@
+use mathlib.Core.Path.{ap}
 use native.Mathlib.Omega.{arith}
-use Rattle.pack.proofs.MakeLaws.{bundle-fits, makes}
+use Rattle.pack.specs.declared.make.Made.{Made}
+use Rattle.sender.proofs.SendLaws.{told}
+use Rattle.pack.proofs.MakeLaws.{bundle-fits}
 use borrow.Author.Needs.{needs}
 use Rattle.pack.proofs.make.bundle.Statement.{statement}
 use Rattle.pack.proofs.make.bundle.Tie as tie
@@ -14,7 +17,7 @@ same-length : tie.Need-same-length
 same-length c = search needs
 
 returns : tie.Need-returns
-returns c = (makes (c .before .before .before .pack .ensures) (c .outcome .ensures), bundle-fits _ _ _ _ (c .before .before .before .pack .ensures) (c .outcome .ensures .1) (omega arith))
+returns c = (told (c .before .before .before .pack .ensures) (c .outcome .ensures), bundle-fits _ _ _ _ (c .before .before .before .pack .ensures) (ap (λ (x : Made). x .len) (c .outcome .ensures)) (omega arith))
 
 pub bundle-spec : {M : Type 1} → statement M
 bundle-spec = tie.close (tie.spec pack-requires outcome-requires same-length returns)

@@ -1,4 +1,4 @@
-use Rattle.pack.proofs.MakeLaws.{makes}
+use Rattle.sender.proofs.SendLaws.{told}
 use borrow.Author.Needs.{needs}
 use Rattle.pack.proofs.make.manifest.Statement.{statement}
 use Rattle.pack.proofs.make.manifest.Tie as tie
@@ -13,7 +13,7 @@ same-length : tie.Need-same-length
 same-length c = search needs
 
 returns : tie.Need-returns
-returns c = makes (c .before .before .before .manifest .ensures) (c .outcome .ensures)
+returns c = told (c .before .before .before .manifest .ensures) (c .outcome .ensures)
 
 pub manifest-spec : {M : Type 1} → statement M
 manifest-spec = tie.close (tie.spec manifest-requires outcome-requires same-length returns)

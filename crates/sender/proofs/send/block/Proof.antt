@@ -1,41 +1,62 @@
 use mathlib.Core.Path.{_≡_, sym, ap, ap₂, _∙_}
-use mathlib.Core.List.{List, _++_}
-use Prim.Native.Nat.{ℕ, _+_, _-_, _*_}
+use mathlib.Core.List.{List, [], _++_}
+use Prim.Native.Nat.{ℕ, _+_, _-_, _*_, _≤_}
 use native.Mathlib.Omega.{arith}
 use native.Mathlib.Numerals.{add-one}
 use lib.ListN.{length, take, drop, length-take, length-drop}
 use Rattle.sha256.specs.Sha256.{digest}
 use Rattle.sha256.proofs.DigestLaws.{length-digest}
+use Rattle.merkle.specs.Limits.{hashLength}
 use Rattle.merkle.specs.Blocks.{cut, overlay}
+use Rattle.merkle.specs.Hash.{plain}
 use Rattle.merkle.specs.Frontier.{carriedCount}
 use Rattle.merkle.specs.Held.{sent}
-use Rattle.merkle.specs.Hash.{plain}
 use Rattle.merkle.proofs.FitsLaws.{length-sent}
+use Rattle.wire.specs.declared.kind.Kind.the-variants.{Block}
+use Rattle.wire.specs.Message.{leastLength, blockMessage}
 use Rattle.wire.proofs.SizeLaws.{sized}
-use Rattle.wire.proofs.ImageLaws as image
-use Rattle.sender.specs.Job.{job, count, blockFor}
-use Rattle.sender.specs.Send.{badSize, sendBlock}
-use Rattle.sender.proofs.BlockLaws.{bounds, same-sent, Tested, tested, due, parts}
-use Rattle.sender.proofs.JobLaws as lengths
-use Rattle.sender.proofs.PutLaws.{length-put, put-part, block-head}
+use Rattle.wire.proofs.MessageLaws.{block-size, block-whole}
+use Rattle.wire.proofs.PutLaws.{Put, put-start, length-put, put-part}
+use Rattle.sender.specs.Job.{inBlocks, count, blocks, blockFor}
+use Rattle.sender.specs.Send.{sendBlock}
+use Rattle.sender.proofs.BlockLaws.{bounds, same-sent, Tested, tested, one, due, parts}
+use Rattle.sender.proofs.JobLaws.{block-is}
 use Rattle.sender.proofs.SendLaws.{size-refused-at, turn-refused, area-refused-at, all-written-at}
 use borrow.Author.Needs.{needs}
 use Rattle.sender.proofs.send.block.Statement.{statement}
 use Rattle.sender.proofs.send.block.Tie as tie
 
 -- after the tests of size and number
-passed : (s : tie.Else2) → Tested (s .before .before .before .before .before .before .before .args .image .now) (s .before .before .before .before .before .before .before .args .len) (s .before .before .before .before .before .before .before .args .number) (s .before .before .block-count .result)
+passed : (s : tie.Else2) → (let a = s .before .before .before .before .before .before .before .args in Tested (a .image .now) (a .len) (a .number) (s .before .before .block-count .result))
 passed s = tested _ _ _ _ (s .before .before .before .before .wrong-size .ensures) (s .before .before .before .if1 .left) (s .before .before .block-count .ensures) (s .before .outside .ensures) (s .if2 .left)
+
+-- the due length: block and hashes
+long : (c : tie.After-block-of)
+    → c .before .before .before .before .due-len .result ≡ leastLength Block + length (c .block-of .result .now) + hashLength * carriedCount (c .before .before .before .before .before .before .before .block-count .result) (c .before .before .before .before .before .before .before .before .before .before .before .before .args .number - 1 + 1)
+long c =
+    let t = passed (c .before .before .before .before .before) in
+    omega (arith, c .before .before .before .before .due-len .ensures, parts _ _ _ _ t, one _ _ _ _ t (c .block-of .result .now) (c .block-of .ensures))
+
+-- what `put_block` leaves
+head : (c : tie.After-least-len) → (let a = c .before .before .before .before .before .before .before .before .before .before .before .before .before .before .before .before .before .args in let b = c .before .before .before .before .before .block-of .result .now in
+    Put (a .out .now) (c .before .before .before .put-block .last .1 .1 .0) (blockMessage (a .number) b []) (c .least-len .result + length b))
+head c = let b = c .before .before .before .before .before .block-of .result .now in put-start (c .least-len .result + length b) (block-size _ b [] ∙ omega (arith, c .least-len .ensures)) (c .before .before .before .put-block .ensures)
+
+placed : (c : tie.After-least-len) → c .least-len .result + length (c .before .before .before .before .before .block-of .result .now) + hashLength * carriedCount (c .before .before .before .before .before .before .before .before .before .before .before .before .block-count .result) (c .before .before .before .before .before .before .before .before .before .before .before .before .before .before .before .before .before .args .number - 1 + 1) ≤ length (c .before .before .before .put-block .last .1 .1 .0)
+placed c =
+    let e = long (c .before .before .before .before .before) in
+    let l = c .before .before .before .before .before .before .before .before .if3 .left in
+    omega (arith, c .least-len .ensures, length-put (head c) (omega (arith, c .least-len .ensures)))
 
 wrong-size-requires : tie.Need-wrong-size-requires
 wrong-size-requires c κs = search needs
 
 returns : tie.Need-returns
-unfolding sendBlock badSize
+unfolding sendBlock
 returns c =
     let a = c .before .before .before .before .args in
-    let j = job (a .image .now) (a .len) 0 0 in
-    size-refused-at j (blockFor digest j (a .number)) (a .out .now) (a .number) (sym (c .before .wrong-size .ensures) ∙ c .if1 .taken)
+    let x = inBlocks (a .image .now) (a .len) in
+    size-refused-at x (blockFor digest x (a .number)) (a .out .now) (a .number) (sym (c .before .wrong-size .ensures) ∙ c .if1 .taken)
 
 block-count-requires : tie.Need-block-count-requires
 block-count-requires c κs = let z = sized _ _ (sym (c .before .wrong-size .ensures) ∙ c .if1 .left) in (omega (arith, z .least), z .some)
@@ -44,117 +65,108 @@ outside-requires : tie.Need-outside-requires
 outside-requires c κs = search needs
 
 returns-2 : tie.Need-returns-2
-unfolding sendBlock badSize count
+unfolding sendBlock count
 returns-2 c =
     let a = c .before .before .before .before .before .before .before .args in
-    let j = job (a .image .now) (a .len) 0 0 in
+    let x = inBlocks (a .image .now) (a .len) in
     let k = c .before .before .block-count in
-    turn-refused j (blockFor digest j (a .number)) (a .out .now) (a .number) (sym (c .before .before .before .before .wrong-size .ensures) ∙ c .before .before .before .if1 .left)
+    turn-refused x (blockFor digest x (a .number)) (a .out .now) (a .number) (sym (c .before .before .before .before .wrong-size .ensures) ∙ c .before .before .before .if1 .left)
     (rw (k .ensures) at (sym (c .before .outside .ensures) ∙ c .if2 .taken))
 
-message-len-requires : tie.Need-message-len-requires
-message-len-requires c κs = let t = passed c in (t .sized .most, t .low, t .high, t .few)
+due-len-requires : tie.Need-due-len-requires
+due-len-requires c κs = let t = passed c in (t .size, t .low, omega (arith, t .high, t .count))
 
 returns-3 : tie.Need-returns-3
-unfolding sendBlock badSize count
+unfolding sendBlock count
 returns-3 c =
     let s = c .before .before in
     let a = s .before .before .before .before .before .before .before .args in
     let t = passed s in
-    let j = job (a .image .now) (a .len) 0 0 in
-    let o = rw (t .count) at (t .inside) in
-    area-refused-at j (blockFor digest j (a .number)) (a .out .now) (a .number) (t .size) o (omega (arith, due _ _ _ _ t 0 0, c .before .message-len .ensures))
+    area-refused-at (inBlocks (a .image .now) (a .len)) (blockFor digest (inBlocks (a .image .now) (a .len)) (a .number)) (a .out .now) (a .number) (t .size) (rw (t .count) at (t .inside)) (omega (arith, due _ _ _ _ t, c .before .due-len .ensures))
 
 last-block-requires : tie.Need-last-block-requires
 last-block-requires c κs = let t = passed (c .before .before) in (t .size, t .count)
 
-cast-put-block : tie.Need-cast-put-block
-cast-put-block c = let t = passed (c .before .before .before) in omega (arith, t .high, t .few)
-
 array-share-prefix-last : tie.Need-array-share-prefix-last
-array-share-prefix-last c = let t = passed (c .before .before .before) in omega (arith, t .sized .most, c .last-block .ensures .0)
+array-share-prefix-last c = omega (arith, passed (c .before .before .before) .sized .most, c .last-block .ensures .0)
 
 slice-aggregate-block-of : tie.Need-slice-aggregate-block-of
-slice-aggregate-block-of c = let t = passed (c .before .before .before .before) in simp length-take (omega (arith, t .sized .most, c .before .last-block .ensures .0))
+slice-aggregate-block-of c = simp length-take (omega (arith, passed (c .before .before .before .before) .sized .most, c .before .last-block .ensures .0))
 
 sub-block-of : tie.Need-sub-block-of
-sub-block-of c = let t = passed (c .before .before .before .before) in omega (arith, t .low)
+sub-block-of c = omega (arith, passed (c .before .before .before .before) .low)
 
 block-of-requires : tie.Need-block-of-requires
 block-of-requires c κs = let t = passed (c .before .before .before .before) in (t .size, t .count, omega (arith, t .low, t .high), c .before .last-block .ensures .1)
 
+cast-put-block : tie.Need-cast-put-block
+cast-put-block c = let t = passed (c .before .before .before .before .before) in omega (arith, t .high, t .few)
+
 put-block-requires : tie.Need-put-block-requires
-put-block-requires c κs =
-    let s = c .before .before .before .before .before .before in
-    let a = s .before .before .before .before .before .before .before .args in
-    let t = passed s in
-    let l = ap length (c .before .block-of .ensures) ∙ image.length-block (a .len) (a .image .now) (t .sized) (a .number - 1) (omega (arith, t .low, t .high, t .count)) in
-    omega (arith, l, parts _ _ _ _ t, c .before .before .before .before .before .message-len .ensures)
+put-block-requires c κs = omega (arith, long (c .before), c .before .before .before .before .if3 .left)
+
+least-len-requires : tie.Need-least-len-requires
+least-len-requires c κs = search needs
 
 add-from : tie.Need-add-from
 add-from c = search needs
 
 sub-write-siblings : tie.Need-sub-write-siblings
-sub-write-siblings c = let t = passed (c .before .before .before .before .before .before .before .before .before) in omega (arith, parts _ _ _ _ t, c .before .before .before .before .before .before .before .before .message-len .ensures, c .before .before .before .before .before .before .before .if3 .left)
+sub-write-siblings c = omega (arith, placed c)
 
 part-write-siblings-start : tie.Need-part-write-siblings-start
-part-write-siblings-start c = let t = passed (c .before .before .before .before .before .before .before .before .before) in omega (arith, parts _ _ _ _ t, c .before .before .before .before .before .before .before .before .message-len .ensures, c .before .before .before .before .before .before .before .if3 .left)
+part-write-siblings-start c = omega (arith, placed c)
 
 part-write-siblings-end : tie.Need-part-write-siblings-end
 part-write-siblings-end c = search needs
 
 sub-write-siblings-2 : tie.Need-sub-write-siblings-2
-sub-write-siblings-2 c = let t = passed (c .before .before .before .before .before .before .before .before .before .before) in omega (arith, t .low)
+sub-write-siblings-2 c = omega (arith, passed (c .before .before .before .before .before .before .before .before .before .before .before) .low)
 
 sub-write-siblings-3 : tie.Need-sub-write-siblings-3
-sub-write-siblings-3 c = let t = passed (c .before .before .before .before .before .before .before .before .before .before) in omega (arith, t .low, t .high)
+sub-write-siblings-3 c = let t = passed (c .before .before .before .before .before .before .before .before .before .before .before) in omega (arith, t .low, t .high)
 
 array-share-prefix-last-2 : tie.Need-array-share-prefix-last-2
-array-share-prefix-last-2 c = let t = passed (c .before .before .before .before .before .before .before .before .before .before) in omega (arith, t .sized .most, c .before .before .before .before .before .before .before .last-block .ensures .0)
+array-share-prefix-last-2 c = omega (arith, passed (c .before .before .before .before .before .before .before .before .before .before .before) .sized .most, c .before .before .before .before .before .before .before .before .last-block .ensures .0)
 
 slice-aggregate-write-siblings : tie.Need-slice-aggregate-write-siblings
-slice-aggregate-write-siblings c = let t = passed (c .before .before .before .before .before .before .before .before .before .before .before) in simp length-take (omega (arith, t .sized .most, c .before .before .before .before .before .before .before .before .last-block .ensures .0))
+slice-aggregate-write-siblings c = simp length-take (omega (arith, passed (c .before .before .before .before .before .before .before .before .before .before .before .before) .sized .most, c .before .before .before .before .before .before .before .before .before .last-block .ensures .0))
 
 write-siblings-requires : tie.Need-write-siblings-requires
 write-siblings-requires c κs =
-    let s = c .before .before .before .before .before .before .before .before .before .before .before in
+    let s = c .before .before .before .before .before .before .before .before .before .before .before .before in
     let a = s .before .before .before .before .before .before .before .args in
     let t = passed s in
-    let k = c .before .before .before .before .before .before .before .before .before .before .message-len in
-    let b = c .before .before .before .before .before .before .block-of in
-    let l = ap length (b .ensures) ∙ image.length-block (a .len) (a .image .now) (t .sized) (a .number - 1) (omega (arith, t .low, t .high, t .count)) in
-    let q = block-head (a .out .now) (c .before .before .before .before .put-block .last .1 .1 .0) (b .result .now) (a .number) (3 + a .len) (omega (arith, l)) (c .before .before .before .before .put-block .ensures) in
-    let e = parts _ _ _ _ t in
-    let r = length-put q (omega (arith, l, e, k .ensures)) in
     let n = bounds (a .len) (a .image .now) (s .before .before .block-count .result) (t .sized) (t .count) in
-    (omega (arith, t .low, t .high), t .few, omega (arith, n), simp (length-take, length-drop) (omega (arith, k .ensures, e, l, r)))
+    (omega (arith, t .low, t .high), t .few, omega (arith, n), simp (length-take, length-drop) (omega (arith, placed (c .before .before))))
 
 same-length : tie.Need-same-length
 same-length c = search needs
 
 returns-4 : tie.Need-returns-4
-unfolding sendBlock badSize count
+unfolding sendBlock count blocks
 returns-4 c =
-    let s = c .before .before .before .before .before .before .before .before .before .before .before .before .before .before in
+    let s = c .before .before .before .before .before .before .before .before .before .before .before .before .before .before .before in
     let a = s .before .before .before .before .before .before .before .args in
+    let x = inBlocks (a .image .now) (a .len) in
     let t = passed s in
-    let j = job (a .image .now) (a .len) 0 0 in
     let n = s .before .before .block-count .result in
-    let k = c .before .before .before .before .before .before .before .before .before .before .before .before .before .message-len in
-    let b = c .before .before .before .before .before .before .before .before .before .block-of in
-    let l = ap length (b .ensures) ∙ image.length-block (a .len) (a .image .now) (t .sized) (a .number - 1) (omega (arith, t .low, t .high, t .count)) in
-    let q = block-head (a .out .now) (c .before .before .before .before .before .before .before .put-block .last .1 .1 .0) (b .result .now) (a .number) (3 + a .len) (omega (arith, l)) (c .before .before .before .before .before .before .before .put-block .ensures) in
-    let last = take (a .len) (c .before .before .before .before .before .before .before .before .before .before .before .last-block .result) in
-    let blocks = overlay (cut (a .len) (a .image .now)) (n - 1) last in
+    let k = c .before .before .before .before .before .before .before .before .before .before .before .before .before .before .due-len in
+    let b = c .before .before .before .before .before .before .before .before .before .before .block-of in
+    let from = c .before .before .before .before .before .least-len .result + length (b .result .now) in
+    let last = c .before .before .before .before .before .before .before .before .before .before .before .before .last-block in
+    let blocks = overlay (cut (a .len) (a .image .now)) (n - 1) (take (a .len) (last .result)) in
     let hs = sent (plain digest) n blocks (a .number - 1) in
-    let m = length-sent (plain digest) length-digest n blocks (a .number - 1) in
-    let h : 32 * carriedCount n (a .number - 1 + 1) ≡ length hs = ap (λ (x : ℕ). 32 * carriedCount n x) (add-one (a .number - 1)) ∙ sym m in
-    let same = same-sent (a .len) (a .image .now) n (t .sized) (t .count) digest last (c .before .before .before .before .before .before .before .before .before .before .before .last-block .ensures .1) (a .number - 1) in
-    let is = lengths.block-is j n (a .number) (b .result .now) hs (t .count) (b .ensures) same in
-    let size : 3 + a .len + length hs ≡ k .result = omega (arith, h, k .ensures, parts _ _ _ _ t) in
-    let o = rw (t .count) at (t .inside) in
-    all-written-at j (blockFor digest j (a .number)) (a .out .now) (a .number) (t .size) o (k .result) _ (due _ _ _ _ t 0 0 ∙ sym (k .ensures)) (omega (arith, c .before .before .before .before .before .before .before .before .before .before .before .before .if3 .left))
-    (put-part q hs _ (omega (arith, size, c .before .before .before .before .before .before .before .before .before .before .before .before .if3 .left)) (rw h at (c .before .before .write-siblings .ensures)) ∙ ap₂ (λ (x : List ℕ) (y : ℕ). x ++ drop y (a .out .now)) is size)
+    let h : hashLength * carriedCount n (a .number - 1 + 1) ≡ length hs =
+    ap (λ (y : ℕ). hashLength * carriedCount n y) (add-one (a .number - 1)) ∙ sym (length-sent (plain digest) length-digest n blocks (a .number - 1)) in
+    let same = same-sent (a .len) (a .image .now) n (t .sized) (t .count) digest (take (a .len) (last .result)) (last .ensures .1) (a .number - 1) in
+    let is = block-whole (a .number) (b .result .now) hs ∙ block-is x n (a .number) (b .result .now) hs (t .count) (b .ensures) same in
+    let all = due _ _ _ _ t in
+    let size : from + length hs ≡ length (blockFor digest x (a .number)) = omega (arith, h, long (c .before .before .before .before .before .before .before .before .before .before), k .ensures, all, c .before .before .before .before .before .least-len .ensures) in
+    let room = c .before .before .before .before .before .before .before .before .before .before .before .before .before .if3 .left in
+    all-written-at x (blockFor digest x (a .number)) (a .out .now) (a .number) (t .size) (rw (t .count) at (t .inside)) (k .result) _ (all ∙ sym (k .ensures)) room
+    (put-part (head (c .before .before .before .before .before)) hs _ (omega (arith, size, all, k .ensures, room)) (rw h at (c .before .before .write-siblings .ensures))
+    ∙ ap₂ (λ (p : List ℕ) (y : ℕ). p ++ drop y (a .out .now)) is size)
 
 pub block-spec : {M : Type 1} → statement M
 block-spec =
@@ -165,15 +177,16 @@ block-spec =
     block-count-requires
     outside-requires
     returns-2
-    message-len-requires
+    due-len-requires
     returns-3
     last-block-requires
-    cast-put-block
     array-share-prefix-last
     slice-aggregate-block-of
     sub-block-of
     block-of-requires
+    cast-put-block
     put-block-requires
+    least-len-requires
     add-from
     sub-write-siblings
     part-write-siblings-start

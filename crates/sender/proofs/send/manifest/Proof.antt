@@ -1,57 +1,55 @@
-use mathlib.Core.Path.{sym, ap, _∙_}
+use mathlib.Core.Path.{_≡_, sym, _∙_}
+use mathlib.Core.Bool.{false}
 use native.Mathlib.Omega.{arith}
+use lib.ListN.{length}
 use Rattle.sha256.specs.Sha256.{digest}
-use Rattle.wire.specs.Manifest.{written}
-use Rattle.sender.specs.Job.{job, manifestFor}
-use Rattle.sender.specs.Send.{badSize, sendManifest}
-use Rattle.sender.proofs.JobLaws as lengths
-use Rattle.octets.proofs.CopyLaws.{paste-front}
+use Rattle.wire.specs.Size.{wrongSize}
+use Rattle.wire.specs.Manifest.{manifestLength, written}
+use Rattle.sender.specs.Job.{inBlocks, job, manifestFor}
+use Rattle.sender.specs.Send.{sendManifest}
+use Rattle.sender.proofs.JobLaws.{length-manifest}
 use Rattle.sender.proofs.SendLaws.{size-refused, area-refused, all-written}
 use borrow.Author.Needs.{needs}
 use Rattle.sender.proofs.send.manifest.Statement.{statement}
 use Rattle.sender.proofs.send.manifest.Tie as tie
 
+-- an allowed size
+size : (c : tie.Else1) → (let a = c .before .before .before .before .args in wrongSize (a .len) (length (a .image .now)) ≡ false)
+size c = sym (c .before .wrong-size .ensures) ∙ c .if1 .left
+
 wrong-size-requires : tie.Need-wrong-size-requires
 wrong-size-requires c κs = search needs
 
 returns : tie.Need-returns
-unfolding sendManifest badSize
+unfolding sendManifest
 returns c =
     let a = c .before .before .before .before .args in
-    let j = job (a .image .now) (a .len) (a .model) (a .serial) in
-    size-refused j (written (manifestFor digest j)) (a .out .now) (sym (c .before .wrong-size .ensures) ∙ c .if1 .taken)
+    let j = job (inBlocks (a .image .now) (a .len)) (a .model) (a .serial) in
+    size-refused (j .image) (written (manifestFor digest j)) (a .out .now) (sym (c .before .wrong-size .ensures) ∙ c .if1 .taken)
 
 returns-2 : tie.Need-returns-2
-unfolding sendManifest badSize
+unfolding sendManifest
 returns-2 c =
     let a = c .before .before .before .before .before .args in
-    let j = job (a .image .now) (a .len) (a .model) (a .serial) in
-    area-refused j (written (manifestFor digest j)) (a .out .now) (sym (c .before .before .wrong-size .ensures) ∙ c .before .if1 .left) (omega (arith, lengths.length-manifest j))
+    let j = job (inBlocks (a .image .now) (a .len)) (a .model) (a .serial) in
+    area-refused (j .image) (written (manifestFor digest j)) (a .out .now) (size (c .before)) (omega (arith, length-manifest j))
 
 manifest-for-requires : tie.Need-manifest-for-requires
-manifest-for-requires c κs = sym (c .before .before .wrong-size .ensures) ∙ c .before .if1 .left
+manifest-for-requires c κs = size (c .before)
 
-to-bytes-requires : tie.Need-to-bytes-requires
-to-bytes-requires c κs = search needs
-
-slice-aggregate-copy : tie.Need-slice-aggregate-copy
-slice-aggregate-copy c = search needs
-
-copy-requires : tie.Need-copy-requires
-copy-requires c κs = search needs
+put-manifest-requires : tie.Need-put-manifest-requires
+put-manifest-requires c κs = search needs
 
 same-length : tie.Need-same-length
 same-length c = search needs
 
 returns-3 : tie.Need-returns-3
-unfolding sendManifest badSize
+unfolding sendManifest
 returns-3 c =
-    let a = c .before .before .before .before .before .before .before .before .before .before .before .before .args in
-    let j = job (a .image .now) (a .len) (a .model) (a .serial) in
-    let e = c .before .before .before .before .before .to-bytes .ensures ∙ ap written (c .before .before .before .before .before .before .manifest-for .ensures) in
-    let l = lengths.length-manifest j in
-    all-written j (written (manifestFor digest j)) (a .out .now) (sym (c .before .before .before .before .before .before .before .before .before .wrong-size .ensures) ∙ c .before .before .before .before .before .before .before .before .if1 .left) 48 _ l (omega arith)
-    (c .before .before .copy .ensures ∙ rw e (paste-front (a .out .now) (written (manifestFor digest j)) 48 l))
+    let a = c .before .before .before .before .before .before .before .before .before .before .args in
+    let j = job (inBlocks (a .image .now) (a .len)) (a .model) (a .serial) in
+    all-written (j .image) (written (manifestFor digest j)) (a .out .now) (size (c .before .before .before .before .before .before)) manifestLength _ (length-manifest j) (omega arith)
+    (rw (c .before .before .before .before .manifest-for .ensures) at (c .before .before .put-manifest .ensures))
 
 pub manifest-spec : {M : Type 1} → statement M
 manifest-spec =
@@ -61,8 +59,6 @@ manifest-spec =
     returns
     returns-2
     manifest-for-requires
-    to-bytes-requires
-    slice-aggregate-copy
-    copy-requires
+    put-manifest-requires
     same-length
     returns-3)

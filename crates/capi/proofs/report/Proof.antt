@@ -1,0 +1,26 @@
+use borrow.Author.Needs.{needs}
+use Rattle.capi.proofs.report.Statement.{statement}
+use Rattle.capi.proofs.report.Tie as tie
+
+enum-known-sent : tie.Need-enum-known-sent
+enum-known-sent c = search needs
+
+enum-known-sent-2 : tie.Need-enum-known-sent-2
+enum-known-sent-2 c = search needs
+
+number-requires : tie.Need-number-requires
+number-requires c κs = search needs
+
+wide-requires : tie.Need-wide-requires
+wide-requires c κs = search needs
+
+returns : tie.Need-returns
+returns c = search needs
+
+returns-2 : tie.Need-returns-2
+returns-2 c = cc
+
+pub report-spec : {M : Type 1} → statement M
+report-spec =
+    tie.close
+    (tie.spec enum-known-sent enum-known-sent-2 number-requires wide-requires returns returns-2)
