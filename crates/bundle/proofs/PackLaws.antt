@@ -11,9 +11,10 @@ use lib.ListN.{length, take, drop, length-append, length-drop}
 use lib.Seq.{paste}
 use borrow.Author.Tests.{le-ltb}
 use borrow.Rule.Slice.PartMut.{putMid}
-use Rattle.octets.specs.Octets.{bytes}
+use Rattle.octets.specs.Octets.{bytes, joined, upTo}
 use Rattle.octets.proofs.NumberLaws.{length-bytes, bytes-mod}
 use Rattle.octets.proofs.CopyLaws.{part-from}
+use Rattle.octets.proofs.JoinedLaws.{joined-suc}
 use Rattle.sha256.specs.Sha256.{digest}
 use Rattle.merkle.specs.Limits.{maxBlocks}
 use Rattle.merkle.specs.Blocks.{blockCount}
@@ -35,9 +36,12 @@ use Rattle.bundle.specs.Bundle.{blockMessages, bundleFor}
 use Rattle.bundle.specs.Claims.{MessagesLength}
 
 module _ (x : Image) where
-  more-messages : (i : ℕ) → length (blockMessages digest x (suc i)) ≡ length (blockMessages digest x i) + length (blockFor digest x (suc i))
+  pub messages-suc : (i : ℕ) → blockMessages digest x (suc i) ≡ blockMessages digest x i ++ blockFor digest x (suc i)
   unfolding blockMessages
-  more-messages i = length-append (blockMessages digest x i) (blockFor digest x (suc i))
+  messages-suc i = joined-suc i (λ k. blockFor digest x (suc k))
+
+  more-messages : (i : ℕ) → length (blockMessages digest x (suc i)) ≡ length (blockMessages digest x i) + length (blockFor digest x (suc i))
+  more-messages i = ap length (messages-suc i) ∙ length-append (blockMessages digest x i) (blockFor digest x (suc i))
 
   messages-grow : (i n : ℕ) → i ≤ n → length (blockMessages digest x i) ≤ length (blockMessages digest x n)
   messages-grow i zero h = let e : i ≡ 0 = omega arith in rw e (omega arith)
@@ -49,13 +53,13 @@ module _ (x : Image) where
       go (inr g) ih = let e : i ≡ suc n = omega arith in rw e (omega arith)
 
   pub no-messages : (d : List ℕ) → Put d d (blockMessages digest x 0) 0
-  unfolding blockMessages
+  unfolding blockMessages joined upTo
   no-messages d = record { is = refl; size = refl }
 
   -- Each message takes a held hash away and brings those that it carries: before the first the root is held, after the last nothing.
   module _ (z : Sized (x .«block_len») (length (x .bytes))) where
     length-some : (i : ℕ) → i ≤ count x → length (blockMessages digest x i) + 32 ≡ i * (35 + x .«block_len») + 32 * heldCount (count x) i
-    unfolding blockMessages dueLength blockLength count
+    unfolding blockMessages joined upTo dueLength blockLength count
     length-some zero h = omega (arith, held-zero (count x))
     length-some (suc i) h =
         let e : suc i * (35 + x .«block_len») ≡ i * (35 + x .«block_len») + (35 + x .«block_len») = omega arith in
@@ -112,11 +116,10 @@ module _ (x : Image) (z : wrongSize (x .«block_len») (length (x .bytes)) ≡ f
   -- one block message more
   pub block-behind : (i : ℕ) (b : Put d r (blockMessages digest x i) at) → i < count x → length (blockMessages digest x (count x)) ≤ length d
       → Does asIs (sendBlock x (i + 1) (rest b)) answer mid → (at + k ≤ length d) × Put d (putMid at (length r - at) r mid) (blockMessages digest x (i + 1)) (at + k)
-  unfolding blockMessages
   block-behind i b h room does =
       let fits : at + length (blockFor digest x (suc i)) ≤ length d = omega (arith, b .size, more-messages x i, messages-grow x (suc i) (count x) h) in
       let w = block-wrote x z (rest b) (suc i) (omega arith) h (omega (arith, length-rest b (omega arith))) (rw (add-one i) at does) in
-      rw (add-one i) (wrote-behind b (blockFor digest x (suc i)) mid k fits (w .1) (wrote ∙ ap lengthOf (w .0)))
+      rw (add-one i, messages-suc x i) (wrote-behind b (blockFor digest x (suc i)) mid k fits (w .1) (wrote ∙ ap lengthOf (w .0)))
 
   -- the kind 1 message
   pub program-behind : {p : List ℕ} (b : Put d r p at) (model serial : ℕ) (signature : List ℕ) → (let j = job x model serial in

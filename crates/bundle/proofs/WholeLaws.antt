@@ -9,7 +9,7 @@ use native.Mathlib.Omega.{arith}
 use lib.ListN.{length, take, drop, length-append, length-replicate}
 use lib.Seq.{take-at, drop-at}
 use borrow.Author.Tests.{le-ltb}
-use Rattle.octets.specs.Octets.{bytes, number, part}
+use Rattle.octets.specs.Octets.{bytes, number, part, joined, upTo}
 use Rattle.octets.proofs.NumberLaws.{length-bytes, number-bytes}
 use Rattle.octets.proofs.CopyLaws.{part-second}
 use Rattle.sha256.specs.Sha256.{digest}
@@ -39,6 +39,7 @@ use Rattle.bundle.specs.Load.{maxBundle, Printed, _before_, ifAccepted, 
 use Rattle.bundle.specs.Bundle.{blockMessages, bundleFor}
 use Rattle.bundle.specs.Claims.{Loadable, acceptedFrom, Whole, LoadsWhole}
 use Rattle.bundle.proofs.LoadLaws.{all-printed}
+use Rattle.bundle.proofs.PackLaws.{messages-suc}
 
 -- what an accepted message does
 accepted-step : (d : Device) (f m : List ℕ) → refusalOf digest valid d f m ≡ none
@@ -53,11 +54,12 @@ module _ (job : Job) where
   messagesAfter j (suc left) = blockFor digest (job .image) (suc j) ++ messagesAfter (suc j) left
 
   messages-after : (left j : ℕ) → blockMessages digest (job .image) (j + left) ≡ blockMessages digest (job .image) j ++ messagesAfter j left
-  unfolding blockMessages messagesAfter
+  unfolding messagesAfter
   messages-after zero j = let e : j + 0 ≡ j = omega arith in ap (blockMessages digest (job .image)) e ∙ sym (append-nil (blockMessages digest (job .image) j))
   messages-after (suc left) j =
       let e : j + suc left ≡ suc j + left = omega arith in
-      ap (blockMessages digest (job .image)) e ∙ messages-after left (suc j) ∙ append-assoc (blockMessages digest (job .image) j) (blockFor digest (job .image) (suc j)) (messagesAfter (suc j) left)
+      ap (blockMessages digest (job .image)) e ∙ messages-after left (suc j) ∙ ap (λ (s : List ℕ). s ++ messagesAfter (suc j) left) (messages-suc (job .image) j)
+      ∙ append-assoc (blockMessages digest (job .image) j) (blockFor digest (job .image) (suc j)) (messagesAfter (suc j) left)
 
 module _ (job : Job) (ok : Sendable job) (old : List ℕ) where
   abbrev Loading : ℕ → Situation → Type 0
@@ -171,7 +173,7 @@ module _ (key flash : List ℕ) (job : Job) (filler signature : List ℕ) (h : L
       of-manifest = unfold countOf manifestFor count in ap (λ (s : Manifest). from (s .«block_len») (countOf s) (blockMessages digest (job .image) (count (job .image)))) (here .manifest)
 
       of-messages : from (job .image .«block_len») (count (job .image)) (blockMessages digest (job .image) (count (job .image))) ≡ from (job .image .«block_len») (count (job .image)) (messagesAfter job 0 (count (job .image)))
-      of-messages = unfold blockMessages in
+      of-messages = unfold blockMessages joined upTo in
           ap (from (job .image .«block_len») (count (job .image))) (ap (blockMessages digest (job .image)) (sym (zero-add (count (job .image)))) ∙ messages-after job (count (job .image)) 0)
 
   taken : messages d flash (bundle front program) ≡ slipLine 0 before blocks (begun .device) (begun .flash) front

@@ -1,8 +1,8 @@
 -- A bundle as the showroom makes it (01, 'Bundle and loader').
 use mathlib.Core.List.{List, [], _++_}
-use Prim.Native.Nat.{ℕ, zero, suc}
+use Prim.Native.Nat.{ℕ, suc}
 use lib.ListN.{length}
-use Rattle.octets.specs.Octets.{bytes}
+use Rattle.octets.specs.Octets.{bytes, joined, upTo}
 use Rattle.sha256.specs.Sha256.{digest}
 use Rattle.sender.specs.Job.{Image, Job, count, programFor, blockFor}
 use Rattle.sender.specs.Send.{Result, unnumbered}
@@ -10,8 +10,7 @@ use Rattle.sender.specs.Send.{Result, unnumbered}
 module _ (H : List ℕ → List ℕ) where
   -- the sender's block messages from 1 to j, one behind the other
   unfoldable pub blockMessages : Image → ℕ → List ℕ
-  blockMessages image zero = []
-  blockMessages image (suc j) = blockMessages image j ++ blockFor H image (suc j)
+  blockMessages image j = joined (upTo j (λ i. blockFor H image (suc i)))
 
   -- "the n block messages, any filler, the kind 1 message, and a 4-byte trailer: the distance back from the trailer's first byte to the kind 1 message's first
   -- byte"

@@ -114,7 +114,7 @@ pub held-depth : (n i : ℕ) → 0 < n → heldCount n i ≤ max 1 (depth n)
 held-depth n zero pos = omega (arith, held-zero n)
 held-depth n (suc i) pos = unfold heldCount in omega (arith, frontier-height 0 (shape n) (suc i) (omega arith), depth-known n .2 pos)
 
-pub held-most : (n i : ℕ) → 0 < n → n ≤ maxBlocks → heldCount n i ≤ maxHeld
+held-most : (n i : ℕ) → 0 < n → n ≤ maxBlocks → heldCount n i ≤ maxHeld
 held-most n i pos h = omega (arith, held-depth n i pos, depth-least n maxHeld (omega (arith, limit)))
   where
     limit : maxBlocks ≤ 2 ^ maxHeld

@@ -26,7 +26,7 @@ abbrev pub Behind : ℕ → ℕ → ℕ → ℕ → Type 0
 Behind at k n r = (j : ℕ) → k + j < n → (j ≡ r → k + j ≡ at) × (k + j ≡ at → j ≡ r)
 
 -- The blocks of the flash from block k on.
-pub overlay-behind : (L : ℕ) (a : List ℕ) (at : ℕ) (b : List ℕ) (k n r : ℕ) → Behind at k n r → (j : ℕ) → k + j < n
+overlay-behind : (L : ℕ) (a : List ℕ) (at : ℕ) (b : List ℕ) (k n r : ℕ) → Behind at k n r → (j : ℕ) → k + j < n
     → overlay (cut L (drop (k * L) a)) r b j ≡ overlay (cut L a) at b (k + j)
 overlay-behind L a at b k n r is j h = go (ℕ-discrete j r)
   where

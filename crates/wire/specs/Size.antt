@@ -8,7 +8,7 @@ use Rattle.merkle.specs.Blocks.{blockCount}
 unfoldable pub allowedLength : ℕ → Bool
 allowedLength L = eqb L 64 || (eqb L 128 || (eqb L 256 || (eqb L 512 || eqb L 1024)))
 
--- refusal 5: L not allowed, T = 0, or n above 4,096
+-- refusal 5: L not allowed, T = 0, or n above the limit
 unfoldable pub wrongSize : ℕ → ℕ → Bool
 wrongSize L T = not (allowedLength L) || (eqb T 0 || ltb maxBlocks (blockCount L T))
 
