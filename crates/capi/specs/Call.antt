@@ -6,7 +6,7 @@ use Prim.Native.Nat.{ℕ}
 use Rattle.sha256.specs.Sha256.{digest}
 use Rattle.lms.specs.Lms.{valid}
 use Rattle.wire.specs.declared.refusal.Refusal.the-variants as refusal
-use Rattle.wire.specs.Refusal.{number}
+use Rattle.wire.specs.Refusal.{refusalNumber}
 use Rattle.sender.specs.declared.send.Sent.{Sent}
 use Rattle.sender.specs.declared.send.Sent.the-variants as sent
 use Rattle.machine.specs.declared.state.Device.{Device}
@@ -19,7 +19,7 @@ use Rattle.capi.specs.State.{encode, decode}
 
 -- a verdict: 0 where the signature is valid, else 9
 unfoldable pub verdict : Bool → ℕ
-verdict ok = cond ok 0 (number refusal.Unsigned)
+verdict ok = cond ok 0 (refusalNumber refusal.Unsigned)
 
 -- The sender's answer: the number that is returned, and the length that is written through a pointer; after a refusal that is as before.
 pub record Told : Type 0 where
@@ -28,7 +28,7 @@ pub record Told : Type 0 where
 
 abbrev pub told : ℕ → Sent → Told
 told before (sent.Written n) = record { answer = 0; written = n }
-told before (sent.Refused r) = record { answer = number r; written = before }
+told before (sent.Refused r) = record { answer = refusalNumber r; written = before }
 
 -- The device: answer, state bytes and flash after a message.
 pub record Called : Type 0 where
@@ -47,6 +47,6 @@ called o state = record { answer = numberOf (o .answer); state = stateAfter (o .
 unfoldable pub receive : (state flash message : List ℕ) → Called
 receive state flash m =
     elim (decode state) [
-      | none ↦ record { answer = number refusal.State; state = state; flash = flash }
+      | none ↦ record { answer = refusalNumber refusal.State; state = state; flash = flash }
       | some d ↦ called (step digest valid d flash m) state
     ]

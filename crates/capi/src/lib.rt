@@ -50,7 +50,7 @@ fn report(sent: Sent, written: &mut usize) -> u32
             *written = n;
             0
         }
-        Sent::Refused(refusal) => wide(wire::number(refusal)),
+        Sent::Refused(refusal) => wide(wire::refusal_number(refusal)),
     }
 }
 

@@ -86,7 +86,7 @@ pub fn device_in(s: &[u8], stage: Stage) -> Device
         model: octets::u32_at(s, 0),
         key,
         stage,
-        manifest: wire::read(s, MANIFEST_AT),
+        manifest: wire::read(&s[MANIFEST_AT..HASHES_AT]),
         hashes,
     }
 }

@@ -6,7 +6,7 @@ use lib.Dec.{eqb}
 use Rattle.wire.specs.declared.manifest.Manifest.{Manifest}
 use Rattle.wire.specs.declared.refusal.Refusal.{Refusal}
 use Rattle.wire.specs.declared.refusal.Refusal.the-variants as refusal
-use Rattle.wire.specs.Refusal.{number, firstThatApplies}
+use Rattle.wire.specs.Refusal.{refusalNumber, firstThatApplies}
 use Rattle.machine.specs.declared.state.Device.{Device}
 use Rattle.machine.specs.declared.state.Answer.{Answer}
 use Rattle.machine.specs.declared.state.Answer.the-variants.{Accepted, Refused}
@@ -17,7 +17,7 @@ use Rattle.machine.proofs.RefusalLaws.{testOf, clear, answer-none, answer-some,
 -- the tests behind that of a refusal
 unfoldable pub behind : Refusal → List (Refusal × Bool) → List (Refusal × Bool)
 behind r [] = []
-behind r (e ∷ es) = cond (eqb (number (e .0)) (number r)) es (behind r es)
+behind r (e ∷ es) = cond (eqb (refusalNumber (e .0)) (refusalNumber r)) es (behind r es)
 
 -- a list that is told in other words
 pub retold : {es fs : List (Refusal × Bool)} → fs ≡ es → Passes es fs

@@ -36,7 +36,7 @@ fn accept_program(device: Device, message: &[u8]) -> Device
     requires { ⌜ 49 ≤ length (now message) ⌝ }
     ensures { λ r. ⌜ r ≡ acceptProgram device [] (now (message .entry)) .device ⌝ }
 {
-    let manifest = wire::read(message, 1);
+    let manifest = wire::manifest_in(message);
     let root = manifest.root;
     let key = device.key;
     Device {
@@ -97,7 +97,7 @@ fn accept_update(device: Device, flash: &mut [u8], message: &[u8]) -> Device
     requires { ⌜ (messages.kind (now message) ≡ kinds.Update) × (refusalOf digest valid device (now flash) (now message) ≡ none) ⌝ }
     ensures { λ r. ⌜ acceptUpdate device (now (flash .entry)) (now (message .entry)) ≡ record { device = r; flash = now (flash .exit) } ⌝ }
 {
-    let manifest = wire::read(message, 1);
+    let manifest = wire::manifest_in(message);
     let len = manifest.block_len as usize;
     let end = 51 + len;
     write_block(flash, len, octets::u16_at(message, 49), &message[51..end]);

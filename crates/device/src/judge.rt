@@ -87,7 +87,7 @@ fn judge_program(device: Device, flash: &[u8], message: &[u8]) -> Answer
     requires { ⌜ 49 ≤ length (now message) ⌝ }
     ensures { λ r. ⌜ r ≡ answerOf (firstThatApplies (ofProgram valid device (now (flash .entry)) (now (message .entry)) (manifestIn (now (message .entry))))) ⌝ }
 {
-    let manifest = wire::read(message, 1);
+    let manifest = wire::manifest_in(message);
     let first = judge_manifest(device, manifest);
     let Answer::Accepted = first else {
         return first;
@@ -136,7 +136,7 @@ fn judge_update(device: Device, flash: &[u8], message: &[u8]) -> Answer
     if not_complete(stage) {
         return Answer::Refused(Refusal::Stage);
     }
-    let manifest = wire::read(message, 1);
+    let manifest = wire::manifest_in(message);
     let first = judge_manifest(device, manifest);
     let Answer::Accepted = first else {
         return first;

@@ -11,7 +11,7 @@ pub fn answer_number(answer: Answer) -> u8
 {
     match answer {
         Answer::Accepted => 0,
-        Answer::Refused(refusal) => wire::number(refusal),
+        Answer::Refused(refusal) => wire::refusal_number(refusal),
     }
 }
 

@@ -16,7 +16,7 @@ use Rattle.wire.specs.declared.kind.Kind.{Kind}
 use Rattle.wire.specs.declared.kind.Kind.the-variants.{Program, Block, Update, Unknown}
 use Rattle.wire.specs.declared.refusal.Refusal.{Refusal}
 use Rattle.wire.specs.declared.refusal.Refusal.the-variants as refusal
-use Rattle.wire.specs.Refusal.{number, firstThatApplies}
+use Rattle.wire.specs.Refusal.{refusalNumber, firstThatApplies}
 use Rattle.wire.specs.Message.{kind, manifestBytes, manifestIn, programSignature, blockIn, hashesAfter, updateNumber, updateSignature}
 use Rattle.wire.proofs.SizeLaws.{Sized, sized, or-false, inside}
 use Rattle.machine.specs.declared.state.Stage.{Stage}
@@ -30,7 +30,7 @@ use Rattle.machine.specs.Step.{answerOf, refusalOf}
 -- The test of a refusal; one that the list lacks never applies.
 unfoldable pub testOf : Refusal → List (Refusal × Bool) → Bool
 testOf r [] = false
-testOf r (e ∷ es) = cond (eqb (number (e .0)) (number r)) (e .1) (testOf r es)
+testOf r (e ∷ es) = cond (eqb (refusalNumber (e .0)) (refusalNumber r)) (e .1) (testOf r es)
 
 pub clear : (r : Refusal) (es : List (Refusal × Bool)) → firstThatApplies es ≡ none → testOf r es ≡ false
 unfolding testOf firstThatApplies
@@ -41,9 +41,9 @@ clear r (e ∷ es) a = go (e .1) refl (clear r es)
     both true t q = refl
     both false t q = q
 
-    go : (t : Bool) → e .1 ≡ t → (firstThatApplies es ≡ none → testOf r es ≡ false) → cond (eqb (number (e .0)) (number r)) (e .1) (testOf r es) ≡ false
+    go : (t : Bool) → e .1 ≡ t → (firstThatApplies es ≡ none → testOf r es ≡ false) → cond (eqb (refusalNumber (e .0)) (refusalNumber r)) (e .1) (testOf r es) ≡ false
     go true q ih = absurd (let x : some (e .0) ≡ none = rw (q, firstThatApplies) at a in let z : _≡_ {A = ℕ} 0 1 = cc in omega arith)
-    go false q ih = rw q (both (eqb (number (e .0)) (number r)) (testOf r es) (ih (rw (q, firstThatApplies) at a)))
+    go false q ih = rw q (both (eqb (refusalNumber (e .0)) (refusalNumber r)) (testOf r es) (ih (rw (q, firstThatApplies) at a)))
 
 -- An answer tells which refusal was the first.
 pub answer-none : (r : Option Refusal) → answerOf r ≡ Accepted → r ≡ none

@@ -1,6 +1,6 @@
 -- What a caller reads of an answer and of a device (01, 'Bundle and loader').
 use Prim.Native.Nat.{ℕ, pred}
-use Rattle.wire.specs.Refusal.{number}
+use Rattle.wire.specs.Refusal.{refusalNumber}
 use Rattle.machine.specs.declared.state.Stage.the-variants.{Idle, Loading, Complete}
 use Rattle.machine.specs.declared.state.Device.{Device}
 use Rattle.machine.specs.declared.state.Answer.{Answer}
@@ -10,7 +10,7 @@ use Rattle.machine.specs.Device.{countOf}
 -- "0 if accepted or the refusal number"
 abbrev pub numberOf : Answer → ℕ
 numberOf Accepted = 0
-numberOf (Refused r) = number r
+numberOf (Refused r) = refusalNumber r
 
 -- "the accepted blocks": those before the next number, or all
 unfoldable pub acceptedBlocks : Device → ℕ

@@ -8,15 +8,17 @@ use Rattle.octets.specs.Octets.{Bytes, bytes, part}
 use Rattle.octets.proofs.CopyLaws.{length-part}
 use Rattle.octets.proofs.JoinedLaws.{total, Copies, joined-length, stands, copied, joined-parts}
 use Rattle.octets.proofs.NumberLaws.{length-bytes, number-back, bytes-part, part-below}
+use Rattle.merkle.specs.Limits.{hashLength}
 use Rattle.wire.specs.declared.manifest.Manifest.{Manifest}
-use Rattle.wire.specs.Manifest.{written, read, Fits}
+use Rattle.wire.specs.Manifest.{manifestLength, written, read, Fits}
+use Rattle.wire.specs.Claims.{ManifestBack, BytesBack}
 
 -- the lengths of the fields
 abbrev lengths : List ℕ
-lengths = 2 ∷ 2 ∷ 4 ∷ 4 ∷ 4 ∷ 32 ∷ []
+lengths = 2 ∷ 2 ∷ 4 ∷ 4 ∷ 4 ∷ hashLength ∷ []
 
 -- copies of the fields, one behind the other, are the manifest's bytes
-module _ (s : Manifest) (root : length (s .root) ≡ 32) {v b m e t : List ℕ} where
+module _ (s : Manifest) (root : length (s .root) ≡ hashLength) {v b m e t : List ℕ} where
   pub filled : v ≡ bytes 2 (s .version) → b ≡ bytes 2 (s .«block_len») → m ≡ bytes 4 (s .model) → e ≡ bytes 4 (s .serial) → t ≡ bytes 4 (s .«image_len»)
       → {r : List ℕ} → Copies 0 (replicate (total lengths) 0) (v ∷ b ∷ m ∷ e ∷ t ∷ s .root ∷ []) lengths r → r ≡ written s
   unfolding written
@@ -24,14 +26,14 @@ module _ (s : Manifest) (root : length (s .root) ≡ 32) {v b m e t : List ℕ} 
       copied lengths (v ∷ b ∷ m ∷ e ∷ t ∷ s .root ∷ []) (rw (ev, eb, em, ee, et, root) (simp length-bytes)) c ∙ rw (ev, eb, em, ee, et)
 
 -- where the fields of the written bytes stand
-module _ (s : Manifest) (root : length (s .root) ≡ 32) where
+module _ (s : Manifest) (root : length (s .root) ≡ hashLength) where
   abbrev fields : List (List ℕ)
   fields = bytes 2 (s .version) ∷ bytes 2 (s .«block_len») ∷ bytes 4 (s .model) ∷ bytes 4 (s .serial) ∷ bytes 4 (s .«image_len») ∷ s .root ∷ []
 
   fields-long : map length fields ≡ lengths
   fields-long = simp (length-bytes, root)
 
-  pub length-written : length (written s) ≡ 48
+  pub length-written : length (written s) ≡ manifestLength
   unfolding written
   length-written = joined-length lengths fields fields-long
 
@@ -39,7 +41,7 @@ module _ (s : Manifest) (root : length (s .root) ≡ 32) where
   unfolding written
   field = stands lengths fields fields-long
 
-pub read-written : (s : Manifest) → Fits s → read (written s) ≡ s
+pub read-written : ManifestBack
 unfolding read
 read-written s f =
     let at = field s (f .root) in
@@ -53,7 +55,7 @@ read-written s f =
       root = at 5 i;
     }
 
-pub written-read : (b : List ℕ) → length b ≡ 48 → Bytes b → written (read b) ≡ b
+pub written-read : BytesBack
 unfolding written read
 written-read b l h =
     cc (
@@ -66,7 +68,7 @@ written-read b l h =
     )
 
 -- a manifest read from bytes fits its own
-pub read-fits : (b : List ℕ) → length b ≡ 48 → Bytes b → Fits (read b)
+pub read-fits : (b : List ℕ) → length b ≡ manifestLength → Bytes b → Fits (read b)
 unfolding read
 read-fits b l h =
     record {
@@ -75,5 +77,5 @@ read-fits b l h =
       model = part-below b h 4 4 (omega arith);
       serial = part-below b h 8 4 (omega arith);
       «image_len» = part-below b h 12 4 (omega arith);
-      root = length-part b 16 32 (omega arith);
+      root = length-part b 16 hashLength (omega arith);
     }

@@ -4,3 +4,4 @@ pub mod Manifest
 pub mod Image
 pub mod Geometry
 pub mod Message
+pub mod Claims

@@ -1,14 +1,16 @@
--- The manifest (01: slip), 48 bytes: version (2), L (2), model (4), serial (4), T (4), root (32).
+-- The manifest (01: slip). "Slip, 48 bytes: version (2 bytes, value 1), L (2), model (4), serial (4), T (4), root (32)."
 use mathlib.Core.Path.{_≡_}
 use mathlib.Core.List.{List, [], _∷_}
 use Prim.Native.Nat.{ℕ, _^_, _<_}
 use lib.ListN.{length}
 use Rattle.octets.specs.Octets.{bytes, number, part, joined}
+use Rattle.merkle.specs.Limits.{hashLength}
 use Rattle.wire.specs.declared.manifest.Manifest.{Manifest}
 
 abbrev pub manifestLength : ℕ
 manifestLength = 48
 
+-- its bytes, and the manifest that bytes stand for
 unfoldable pub written : Manifest → List ℕ
 written s = joined (bytes 2 (s .version) ∷ bytes 2 (s .«block_len») ∷ bytes 4 (s .model) ∷ bytes 4 (s .serial) ∷ bytes 4 (s .«image_len») ∷ s .root ∷ [])
 
@@ -20,7 +22,7 @@ read b =
       model = number (part 4 4 b);
       serial = number (part 8 4 b);
       «image_len» = number (part 12 4 b);
-      root = part 16 32 b;
+      root = part 16 hashLength b;
     }
 
 -- the fields fit their bytes
@@ -30,4 +32,4 @@ pub record Fits (s : Manifest) : Type 0 where
   pub model : s .model < 256 ^ 4
   pub serial : s .serial < 256 ^ 4
   pub «image_len» : s .«image_len» < 256 ^ 4
-  pub root : length (s .root) ≡ 32
+  pub root : length (s .root) ≡ hashLength

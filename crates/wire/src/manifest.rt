@@ -1,8 +1,6 @@
 // The manifest and its bytes.
 ghost use mathlib.Core.Path.{_≡_};
-ghost use Prim.Native.Nat.{_+_, _≤_};
 ghost use lib.ListN.{length};
-ghost use Rattle.octets.specs.Octets.{part};
 ghost use Rattle.wire.specs.Manifest as spec;
 ghost use Rattle.wire.specs.Manifest.{manifestLength, written};
 
@@ -21,18 +19,18 @@ pub struct Manifest {
     pub root: [u8; 32],
 }
 
-// The manifest whose bytes stand in s from index at on.
-pub fn read(s: &[u8], at: usize) -> Manifest
-    requires { ⌜ at + manifestLength ≤ length (now s) ⌝ }
-    ensures { λ r. ⌜ r ≡ spec.read (part at manifestLength (now (s .entry))) ⌝ }
+// The manifest that bytes stand for.
+pub fn read(bytes: &[u8]) -> Manifest
+    requires { ⌜ length (now bytes) ≡ manifestLength ⌝ }
+    ensures { λ r. ⌜ r ≡ spec.read (now (bytes .entry)) ⌝ }
 {
     Manifest {
-        version: octets::u16_at(s, at),
-        block_len: octets::u16_at(s, at + 2),
-        model: octets::u32_at(s, at + 4),
-        serial: octets::u32_at(s, at + 8),
-        image_len: octets::u32_at(s, at + 12),
-        root: octets::bytes32_at(s, at + 16),
+        version: octets::u16_at(bytes, 0),
+        block_len: octets::u16_at(bytes, 2),
+        model: octets::u32_at(bytes, 4),
+        serial: octets::u32_at(bytes, 8),
+        image_len: octets::u32_at(bytes, 12),
+        root: octets::bytes32_at(bytes, 16),
     }
 }
 

@@ -58,7 +58,7 @@ pub fn manifest_in(message: &[u8]) -> Manifest
     requires { ⌜ leastLength Program ≤ length (now message) ⌝ }
     ensures { λ r. ⌜ r ≡ manifestIn (now (message .entry)) ⌝ }
 {
-    read(message, KIND_LEN)
+    read(manifest_bytes(message))
 }
 
 // Kind 1: the signature.

@@ -20,8 +20,8 @@ pub enum Refusal {
 }
 
 // 01's number.
-pub fn number(refusal: Refusal) -> u8
-    ensures { λ r. ⌜ r ≡ spec.number refusal ⌝ }
+pub fn refusal_number(refusal: Refusal) -> u8
+    ensures { λ r. ⌜ r ≡ spec.refusalNumber refusal ⌝ }
 {
     match refusal {
         Refusal::State => 1,

@@ -8,8 +8,8 @@ enum-known-sent c = search needs
 enum-known-sent-2 : tie.Need-enum-known-sent-2
 enum-known-sent-2 c = search needs
 
-number-requires : tie.Need-number-requires
-number-requires c κs = search needs
+refusal-number-requires : tie.Need-refusal-number-requires
+refusal-number-requires c κs = search needs
 
 wide-requires : tie.Need-wide-requires
 wide-requires c κs = search needs
@@ -23,4 +23,4 @@ returns-2 c = cc
 pub report-spec : {M : Type 1} → statement M
 report-spec =
     tie.close
-    (tie.spec enum-known-sent enum-known-sent-2 number-requires wide-requires returns returns-2)
+    (tie.spec enum-known-sent enum-known-sent-2 refusal-number-requires wide-requires returns returns-2)

@@ -43,17 +43,26 @@ copy-requires-2 c κs = search needs
 u32-at-requires : tie.Need-u32-at-requires
 u32-at-requires c κs = search needs
 
+sub-read : tie.Need-sub-read
+sub-read c = search needs
+
+part-read-start : tie.Need-part-read-start
+part-read-start c = search needs
+
+part-read-end : tie.Need-part-read-end
+part-read-end c = search needs
+
 read-requires : tie.Need-read-requires
 read-requires c κs = search needs
 
 returns : tie.Need-returns
 unfolding deviceIn
 returns c =
-    let start = c .before .before .before .before .before .before .before .before .before .before .before in
+    let start = c .before .before .before .before .before .before .before .before .before .before .before .before in
     let s = start .args .s .now in
-    let key = c .before .before .before .before .before .before .before .copy .ensures ∙ paste-whole (replicate keyLength 0) (part keyAt keyLength s) (sym (length-part s keyAt keyLength (omega arith))) in
-    let hashes = c .before .before .before .copy2 .ensures ∙ paste-whole (replicate heldBytes 0) (part hashesAt heldBytes s) (sym (length-part s hashesAt heldBytes (omega arith))) in
-    λ i. record { model = c .before .u32-at .ensures i; key = key i; stage = start .args .stage; manifest = c .read .ensures i; hashes = hashes i }
+    let key = c .before .before .before .before .before .before .before .before .copy .ensures ∙ paste-whole (replicate keyLength 0) (part keyAt keyLength s) (sym (length-part s keyAt keyLength (omega arith))) in
+    let hashes = c .before .before .before .before .copy2 .ensures ∙ paste-whole (replicate heldBytes 0) (part hashesAt heldBytes s) (sym (length-part s hashesAt heldBytes (omega arith))) in
+    λ i. record { model = c .before .before .u32-at .ensures i; key = key i; stage = start .args .stage; manifest = c .read .ensures i; hashes = hashes i }
 
 pub device-in-spec : {M : Type 1} → statement M
 device-in-spec =
@@ -70,5 +79,8 @@ device-in-spec =
     part-copy-end-2
     copy-requires-2
     u32-at-requires
+    sub-read
+    part-read-start
+    part-read-end
     read-requires
     returns)

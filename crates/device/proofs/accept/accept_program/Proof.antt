@@ -1,11 +1,10 @@
-use Rattle.wire.specs.Message.{manifestBytes, manifestIn}
 use Rattle.machine.specs.Step.{acceptProgram}
 use borrow.Author.Needs.{needs}
 use Rattle.device.proofs.accept.accept_program.Statement.{statement}
 use Rattle.device.proofs.accept.accept_program.Tie as tie
 
-read-requires : tie.Need-read-requires
-read-requires c κs = search needs
+manifest-in-requires : tie.Need-manifest-in-requires
+manifest-in-requires c κs = search needs
 
 slice-aggregate-begin : tie.Need-slice-aggregate-begin
 slice-aggregate-begin c = search needs
@@ -14,9 +13,9 @@ begin-requires : tie.Need-begin-requires
 begin-requires c κs = search needs
 
 returns : tie.Need-returns
-unfolding acceptProgram manifestIn manifestBytes
-returns c = rw (c .begin .ensures, c .before .before .before .before .read .ensures)
+unfolding acceptProgram
+returns c = rw (c .begin .ensures, c .before .before .before .before .manifest-in .ensures)
 
 pub accept-program-spec : {M : Type 1} → statement M
 accept-program-spec =
-    tie.close (tie.spec read-requires slice-aggregate-begin begin-requires returns)
+    tie.close (tie.spec manifest-in-requires slice-aggregate-begin begin-requires returns)

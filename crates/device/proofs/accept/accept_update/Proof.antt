@@ -5,7 +5,7 @@ use lib.ListN.{length}
 use Rattle.octets.proofs.CopyLaws.{length-part, part-between}
 use Rattle.sha256.specs.Sha256.{digest}
 use Rattle.lms.specs.Lms.{valid}
-use Rattle.wire.specs.Message.{manifestBytes, manifestIn, updateNumber}
+use Rattle.wire.specs.Message.{manifestIn, updateNumber}
 use Rattle.machine.specs.Device.{countOf}
 use Rattle.machine.proofs.RefusalLaws.{UpdatePassed, update-passed}
 use Rattle.device.proofs.ConditionLaws.{room}
@@ -18,12 +18,11 @@ accepted : (c : tie.Start) → UpdatePassed digest valid (c .args .device) (c .a
 accepted c = update-passed digest valid _ _ _ (c .pre .0) (c .pre .1)
 
 -- manifest and number, as the code reads them
-long : (c : tie.After-read) → 51 + c .read .result .«block_len» ≤ length (c .before .before .before .args .message .now)
-unfolding manifestIn manifestBytes
-long c = rw (c .read .ensures) (accepted (c .before .before .before) .long)
+long : (c : tie.After-manifest-in) → 51 + c .manifest-in .result .«block_len» ≤ length (c .before .before .before .args .message .now)
+long c = rw (c .manifest-in .ensures) (accepted (c .before .before .before) .long)
 
-read-requires : tie.Need-read-requires
-read-requires c κs = let l = accepted (c .before .before) .long in omega arith
+manifest-in-requires : tie.Need-manifest-in-requires
+manifest-in-requires c κs = let l = accepted (c .before .before) .long in omega arith
 
 cast-len : tie.Need-cast-len
 cast-len c = search needs
@@ -44,29 +43,29 @@ part-write-block-end : tie.Need-part-write-block-end
 part-write-block-end c = let l = long (c .before .before .before) in search needs
 
 write-block-requires : tie.Need-write-block-requires
-unfolding manifestIn manifestBytes updateNumber
+unfolding updateNumber
 write-block-requires c κs =
     let s = c .before .before .before .before in
     let m = s .before .before .before .args .message .now in
     let p = accepted (s .before .before .before) in
-    let n = s .read .result .«block_len» in
+    let n = s .manifest-in .result .«block_len» in
     let l = ap length (part-between m 51 n) ∙ length-part m 51 n (long s) in
     let i : (0 < c .before .u16-at .result) × (c .before .u16-at .result ≤ countOf (manifestIn m)) = rw (c .before .u16-at .ensures) (p .turn) in
-    let r : (c .before .u16-at .result - 1) * n + n ≤ length (s .before .before .before .args .flash .now) = rw (s .read .ensures) (room (manifestIn m) (s .before .before .before .args .flash .now) _ (p .room) (i .0) (i .1)) in
+    let r : (c .before .u16-at .result - 1) * n + n ≤ length (s .before .before .before .args .flash .now) = rw (s .manifest-in .ensures) (room (manifestIn m) (s .before .before .before .args .flash .now) _ (p .room) (i .0) (i .1)) in
     (i .0, omega (arith, l, r))
 
 same-length : tie.Need-same-length
 same-length c = search needs
 
 returns : tie.Need-returns
-unfolding manifestIn manifestBytes updateNumber
-returns c = update-is _ _ _ (c .before .before .before .before .before .before .before .read .ensures) (c .before .before .before .before .u16-at .ensures) (c .before .before .write-block .ensures)
+unfolding updateNumber
+returns c = update-is _ _ _ (c .before .before .before .before .before .before .before .manifest-in .ensures) (c .before .before .before .before .u16-at .ensures) (c .before .before .write-block .ensures)
 
 pub accept-update-spec : {M : Type 1} → statement M
 accept-update-spec =
     tie.close
     (tie.spec
-    read-requires
+    manifest-in-requires
     cast-len
     add-end
     u16-at-requires

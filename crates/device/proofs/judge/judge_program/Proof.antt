@@ -5,7 +5,7 @@ use Rattle.lms.specs.Lms.{valid}
 use Rattle.wire.specs.declared.manifest.Manifest.{Manifest}
 use Rattle.wire.specs.declared.refusal.Refusal.{Refusal}
 use Rattle.wire.specs.declared.refusal.Refusal.the-variants as refusal
-use Rattle.wire.specs.Message.{manifestBytes, manifestIn, programSignature}
+use Rattle.wire.specs.Message.{manifestIn, programSignature}
 use Rattle.machine.specs.Refusals.{ofManifest, ofProgram}
 use Rattle.machine.proofs.RefusalLaws.{Passes, _past_}
 use Rattle.device.proofs.JudgeLaws.{behind, retold, refused, accepted, refused-in, past-all, size-passed}
@@ -18,24 +18,23 @@ abbrev tests : tie.Start → Manifest → List (Refusal × Bool)
 tests a s = ofProgram valid (a .args .device) (a .args .flash .now) (a .args .message .now) s
 
 -- with the manifest that was read
-read-is : (c : tie.After-read) → Passes (tests (c .before .before .before) (manifestIn (c .before .before .before .args .message .now))) (tests (c .before .before .before) (c .read .result))
-unfolding manifestIn manifestBytes
-read-is c = retold (ap (tests (c .before .before .before)) (c .read .ensures))
+read-is : (c : tie.After-manifest-in) → Passes (tests (c .before .before .before) (manifestIn (c .before .before .before .args .message .now))) (tests (c .before .before .before) (c .manifest-in .result))
+read-is c = retold (ap (tests (c .before .before .before)) (c .manifest-in .ensures))
 
 -- no test up to that of this refusal applies
-abbrev Past : Refusal → tie.After-read → Type 0
-Past r c = Passes (tests (c .before .before .before) (manifestIn (c .before .before .before .args .message .now))) (behind r (tests (c .before .before .before) (c .read .result)))
+abbrev Past : Refusal → tie.After-manifest-in → Type 0
+Past r c = Passes (tests (c .before .before .before) (manifestIn (c .before .before .before .args .message .now))) (behind r (tests (c .before .before .before) (c .manifest-in .result)))
 
 serial : (c : tie.After-enum-told) → Past refusal.Serial (c .before .before .before)
 unfolding ofProgram ofManifest behind
-serial c = let j = c .before .before in past-all (ofManifest (j .before .before .before .before .args .device) (j .before .read .result)) _ (read-is (j .before)) (sym (c .enum-told .given .1) ∙ j .judge-manifest .ensures)
+serial c = let j = c .before .before in past-all (ofManifest (j .before .before .before .before .args .device) (j .before .manifest-in .result)) _ (read-is (j .before)) (sym (c .enum-told .given .1) ∙ j .judge-manifest .ensures)
 
 area : (c : tie.Else1) → Past refusal.Area (c .before .before .before .before .before)
 unfolding ofProgram ofManifest behind
 area c = serial (c .before .before) past (sym (c .before .too-small .ensures) ∙ c .if1 .left)
 
-read-requires : tie.Need-read-requires
-read-requires c κs = search needs
+manifest-in-requires : tie.Need-manifest-in-requires
+manifest-in-requires c κs = search needs
 
 judge-manifest-requires : tie.Need-judge-manifest-requires
 judge-manifest-requires c κs = search needs
@@ -51,7 +50,7 @@ unfolding ofProgram
 returns c =
     let j = c .before .before in
     let e = c .enum-told2 .given .1 in
-    e ∙ refused-in (ofManifest (j .before .before .before .before .args .device) (j .before .read .result)) _ (read-is (j .before)) (sym e ∙ j .judge-manifest .ensures)
+    e ∙ refused-in (ofManifest (j .before .before .before .before .args .device) (j .before .manifest-in .result)) _ (read-is (j .before)) (sym e ∙ j .judge-manifest .ensures)
 
 too-small-requires : tie.Need-too-small-requires
 too-small-requires c κs = let j = c .before .before in size-passed _ _ (j .judge-manifest .ensures) (c .enum-told .given .1)
@@ -75,7 +74,7 @@ pub judge-program-spec : {M : Type 1} → statement M
 judge-program-spec =
     tie.close
     (tie.spec
-    read-requires
+    manifest-in-requires
     judge-manifest-requires
     enum-told
     enum-told-2

@@ -10,7 +10,7 @@ use Rattle.wire.specs.declared.manifest.Manifest.{Manifest}
 use Rattle.wire.specs.declared.refusal.Refusal.{Refusal}
 use Rattle.wire.specs.declared.refusal.Refusal.the-variants as refusal
 use Rattle.wire.specs.Size.{outside}
-use Rattle.wire.specs.Message.{manifestBytes, manifestIn, updateNumber, updateBlock, updateSignature}
+use Rattle.wire.specs.Message.{manifestIn, updateNumber, updateBlock, updateSignature}
 use Rattle.machine.specs.Refusals.{withBlock, updated, lacksRoot, ofManifest, ofUpdate}
 use Rattle.machine.proofs.RefusalLaws.{Passes, start, _past_}
 use Rattle.device.proofs.JudgeLaws.{behind, retold, refused, accepted, refused-in, past-all, size-passed}
@@ -23,16 +23,16 @@ abbrev tests : tie.Start → Manifest → List (Refusal × Bool)
 tests a s = ofUpdate digest valid (a .args .device) (a .args .flash .now) (a .args .message .now) s
 
 -- no test up to that of this refusal applies; the manifest is the one that was read
-abbrev Past : Refusal → tie.After-read → Type 0
-Past r c = Passes (tests (c .before .before .before .before .before) (manifestIn (c .before .before .before .before .before .args .message .now))) (behind r (tests (c .before .before .before .before .before) (c .read .result)))
+abbrev Past : Refusal → tie.After-manifest-in → Type 0
+Past r c = Passes (tests (c .before .before .before .before .before) (manifestIn (c .before .before .before .before .before .args .message .now))) (behind r (tests (c .before .before .before .before .before) (c .manifest-in .result)))
 
-stage : (c : tie.After-read) → Past refusal.Stage c
-unfolding ofUpdate behind manifestIn manifestBytes
-stage c = retold (ap (tests (c .before .before .before .before .before)) (c .read .ensures)) past (sym (c .before .before .not-complete .ensures) ∙ c .before .if1 .left)
+stage : (c : tie.After-manifest-in) → Past refusal.Stage c
+unfolding ofUpdate behind
+stage c = retold (ap (tests (c .before .before .before .before .before)) (c .manifest-in .ensures)) past (sym (c .before .before .not-complete .ensures) ∙ c .before .if1 .left)
 
 serial : (c : tie.After-enum-told) → Past refusal.Serial (c .before .before .before)
 unfolding ofUpdate ofManifest behind
-serial c = let j = c .before .before in past-all (ofManifest (j .before .before .before .before .before .before .args .device) (j .before .read .result)) _ (stage (j .before)) (sym (c .enum-told .given .1) ∙ j .judge-manifest .ensures)
+serial c = let j = c .before .before in past-all (ofManifest (j .before .before .before .before .before .before .args .device) (j .before .manifest-in .result)) _ (stage (j .before)) (sym (c .enum-told .given .1) ∙ j .judge-manifest .ensures)
 
 unlike : (c : tie.Else2) → Past refusal.Unlike (c .before .before .before .before .before .before)
 unfolding ofUpdate ofManifest behind
@@ -61,8 +61,8 @@ returns : tie.Need-returns
 unfolding ofUpdate
 returns c = refused (start _) (sym (c .before .not-complete .ensures) ∙ c .if1 .taken)
 
-read-requires : tie.Need-read-requires
-read-requires c κs = search needs
+manifest-in-requires : tie.Need-manifest-in-requires
+manifest-in-requires c κs = search needs
 
 judge-manifest-requires : tie.Need-judge-manifest-requires
 judge-manifest-requires c κs = search needs
@@ -78,7 +78,7 @@ unfolding ofUpdate behind
 returns-2 c =
     let j = c .before .before in
     let e = c .enum-told2 .given .1 in
-    e ∙ refused-in (ofManifest (j .before .before .before .before .before .before .args .device) (j .before .read .result)) _ (stage (j .before)) (sym e ∙ j .judge-manifest .ensures)
+    e ∙ refused-in (ofManifest (j .before .before .before .before .before .before .args .device) (j .before .manifest-in .result)) _ (stage (j .before)) (sym e ∙ j .judge-manifest .ensures)
 
 unlike-requires : tie.Need-unlike-requires
 unlike-requires c κs = search needs
@@ -154,16 +154,16 @@ lacks-root-requires c κs =
       size-passed _ _ (t .before .before .judge-manifest .ensures) (t .enum-told .given .1),
       sym (e3 .before .too-small .ensures) ∙ e3 .if3 .left,
       rw (← o .before .count .ensures) (sym (o .outside .ensures) ∙ e4 .if4 .left),
-      ap length (part-between m 51 (s .read .result .«block_len»)) ∙ length-part m 51 (s .read .result .«block_len») (e5 .if5 .left),
+      ap length (part-between m 51 (s .manifest-in .result .«block_len»)) ∙ length-part m 51 (s .manifest-in .result .«block_len») (e5 .if5 .left),
     )
 
 -- the code tests the tree over flash and block as it took them
-rooted : (c : tie.After-lacks-root) → c .lacks-root .result ≡ lacksRoot digest (c .before .before .before .before .before .before .before .before .before .before .before .before .before .before .before .before .before .before .read .result) (updated (c .before .before .before .before .before .before .before .before .before .before .before .before .before .before .before .before .before .before .read .result) (c .before .before .before .before .before .before .before .before .before .before .before .before .before .before .before .before .before .before .before .before .before .before .before .args .flash .now) (c .before .before .before .before .before .before .before .before .before .before .before .before .before .before .before .before .before .before .before .before .before .before .before .args .message .now))
+rooted : (c : tie.After-lacks-root) → c .lacks-root .result ≡ lacksRoot digest (c .before .before .before .before .before .before .before .before .before .before .before .before .before .before .before .before .before .before .manifest-in .result) (updated (c .before .before .before .before .before .before .before .before .before .before .before .before .before .before .before .before .before .before .manifest-in .result) (c .before .before .before .before .before .before .before .before .before .before .before .before .before .before .before .before .before .before .before .before .before .before .before .args .flash .now) (c .before .before .before .before .before .before .before .before .before .before .before .before .before .before .before .before .before .before .before .before .before .before .before .args .message .now))
 unfolding updated updateNumber updateBlock
 rooted c =
     let s = c .before .before .before .before .before .before .before .before .before .before .before .before .before .before .before .before .before .before in
     c .lacks-root .ensures
-    ∙ ap₂ (λ i b. lacksRoot digest (s .read .result) (withBlock (s .read .result .«block_len») (s .before .before .before .before .before .args .flash .now) i b)) (c .before .before .before .before .before .before .before .before .before .u16-at .ensures) (part-between (s .before .before .before .before .before .args .message .now) 51 (s .read .result .«block_len»))
+    ∙ ap₂ (λ i b. lacksRoot digest (s .manifest-in .result) (withBlock (s .manifest-in .result .«block_len») (s .before .before .before .before .before .args .flash .now) i b)) (c .before .before .before .before .before .before .before .before .before .u16-at .ensures) (part-between (s .before .before .before .before .before .args .message .now) 51 (s .manifest-in .result .«block_len»))
 
 returns-8 : tie.Need-returns-8
 unfolding ofUpdate ofManifest behind
@@ -179,7 +179,7 @@ judge-update-spec =
     (tie.spec
     not-complete-requires
     returns
-    read-requires
+    manifest-in-requires
     judge-manifest-requires
     enum-told
     enum-told-2
