@@ -18,11 +18,12 @@ use Rattle.wire.specs.declared.kind.Kind.the-variants.{Program}
 use Rattle.wire.specs.Manifest.{manifestLength, written}
 use Rattle.wire.specs.Geometry.{blockLength}
 use Rattle.wire.specs.Message.{leastLength, dueLength, leastUpdate, blockMessage, updateMessage}
-use Rattle.wire.proofs.SizeLaws.{Sized}
+use Rattle.wire.proofs.SizeLaws.{Sized, sized, inside}
 use Rattle.wire.proofs.ManifestLaws.{length-written}
 use Rattle.wire.proofs.ImageLaws as image
 use Rattle.wire.proofs.MessageLaws.{program-size, block-size, update-size}
 use Rattle.sender.specs.Job.{Image, Job, count, blocks, rootOf, manifestFor, programFor, blockFor, updateFor}
+use Rattle.sender.specs.Claims.{AllLengths}
 
 -- an image of an allowed size, and block i of it
 module _ (x : Image) (z : Sized (x .«block_len») (length (x .bytes))) (i : ℕ) (low : 0 < i) (high : i ≤ count x) where
@@ -57,6 +58,16 @@ module _ (j : Job) where
     unfolding updateFor leastUpdate
     length-update signature =
         update-size (manifestFor digest j) length-root signature i (blocks (j .image) (pred i)) ∙ omega (arith, length-one (j .image) z i low high)
+
+pub lengths : AllLengths
+lengths j =
+    let x = j .image in
+    record {
+      manifest = length-manifest j;
+      program = length-program j;
+      block = λ z i o. let n = inside (count x) i o in length-block x (sized _ _ z) i (n .0) (n .1);
+      update = λ z i o. let n = inside (count x) i o in length-update j (sized _ _ z) i (n .0) (n .1);
+    }
 
 -- a block's message, from the parts that the code writes
 pub block-is : (x : Image) (n i : ℕ) (block hashes : List ℕ) → n ≡ count x → block ≡ blocks x (i - 1)

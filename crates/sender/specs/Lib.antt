@@ -1,2 +1,3 @@
 pub mod Job
 pub mod Send
+pub mod Claims
