@@ -1,6 +1,6 @@
 -- The kind 1 message, and what follows if it is accepted.
 use mathlib.Core.Path.{_≡_, refl, sym, ap, ap₂, _∙_}
-use mathlib.Core.Bool.{true, false, true≢false}
+use mathlib.Core.Bool.{Bool, true, false, true≢false}
 use mathlib.Core.List.{List, _++_}
 use mathlib.Core.Option.{Option, none, some}
 use Prim.Native.Nat.{ℕ, _+_, _-_, _≤_}
@@ -21,7 +21,7 @@ use Rattle.machine.specs.declared.state.Stage.the-variants.{Idle}
 use Rattle.machine.specs.declared.state.Device.{Device}
 use Rattle.machine.specs.declared.state.Answer.the-variants.{Accepted, Refused}
 use Rattle.machine.specs.Device.{Outcome}
-use Rattle.machine.specs.Refusals.{badSize, notLoading, notComplete}
+use Rattle.machine.specs.Refusals.{notLoading, notComplete}
 use Rattle.machine.specs.Step.{acceptProgram, accept, outcome, refusalOf, step}
 use Rattle.machine.specs.Readers.{numberOf}
 use Rattle.machine.proofs.RefusalLaws.{program-passed, block-passed, update-passed, unknown-refused}
@@ -36,23 +36,27 @@ use Rattle.bundle.proofs.RunLaws.{before-stop, if-accepted, if-refused,
 size-right : (L T : ℕ) → Sized L T → wrongSize L T ≡ false
 size-right L T z = sym (wrong-count L T (blockCount L T) (λ e. omega (arith, z .some)) (sym (z .allowed)) refl) ∙ le-ltb maxBlocks (blockCount L T) (z .count)
 
+-- refusal 5, of a device's manifest
+abbrev sizeOf : Device → Bool
+sizeOf d = wrongSize (d .manifest .«block_len») (d .manifest .«image_len»)
+
 module _ (d : Device) (flash m : List ℕ) (idle : d .stage ≡ Idle) where
-  by-kind : (k : Kind) → kind m ≡ k → refusalOf digest valid d flash m ≡ none → badSize (accept k d flash m .device .manifest) ≡ false
-  unfolding accept acceptProgram badSize notLoading notComplete
+  by-kind : (k : Kind) → kind m ≡ k → refusalOf digest valid d flash m ≡ none → sizeOf (accept k d flash m .device) ≡ false
+  unfolding accept acceptProgram notLoading notComplete
   by-kind Program e q = size-right _ _ (program-passed digest valid d flash m e q .size)
   by-kind Block e q = absurd (true≢false (rw (idle, notLoading) at (block-passed digest valid d flash m e q .loading)))
   by-kind Update e q = absurd (true≢false (rw (idle, notComplete) at (update-passed digest valid d flash m e q .complete)))
   by-kind Unknown e q = absurd (unknown-refused digest valid d flash m e q)
 
   -- an idle device accepts a kind 1 message alone, and so a manifest of an allowed size
-  pub accepted-size : (o : Outcome) → step digest valid d flash m ≡ o → o .answer ≡ Accepted → badSize (o .device .manifest) ≡ false
+  pub accepted-size : (o : Outcome) → step digest valid d flash m ≡ o → o .answer ≡ Accepted → sizeOf (o .device) ≡ false
   unfolding step outcome
   accepted-size o e a = go (refusalOf digest valid d flash m) refl
     where
-      go : (r : Option Refusal) → refusalOf digest valid d flash m ≡ r → badSize (o .device .manifest) ≡ false
+      go : (r : Option Refusal) → refusalOf digest valid d flash m ≡ r → sizeOf (o .device) ≡ false
       go none q =
           let same : outcome none d flash (accept (kind m) d flash m) ≡ o = ap (λ (r : Option Refusal). outcome r d flash (accept (kind m) d flash m)) (sym q) ∙ e in
-          ap (λ (x : Outcome). badSize (x .device .manifest)) (sym same) ∙ by-kind (kind m) refl q
+          ap (λ (x : Outcome). sizeOf (x .device)) (sym same) ∙ by-kind (kind m) refl q
       go (some x) q =
           let same : outcome (some x) d flash (accept (kind m) d flash m) ≡ o = ap (λ (r : Option Refusal). outcome r d flash (accept (kind m) d flash m)) (sym q) ∙ e in
           let other : Refused x ≡ o .answer = ap (λ (x : Outcome). x .answer) same in

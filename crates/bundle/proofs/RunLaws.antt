@@ -10,13 +10,13 @@ use Rattle.merkle.specs.Limits.{maxBlocks}
 use Rattle.merkle.specs.Blocks.{blockCount}
 use Rattle.merkle.specs.Frontier.{messageLength}
 use Rattle.lms.specs.Lms.{valid}
-use Rattle.wire.specs.declared.manifest.Manifest.{Manifest}
+use Rattle.wire.specs.Size.{wrongSize}
+use Rattle.wire.specs.Geometry.{countOf}
 use Rattle.wire.proofs.SizeLaws.{sized}
 use Rattle.wire.specs.declared.refusal.Refusal.{Refusal}
 use Rattle.machine.specs.declared.state.Device.{Device}
 use Rattle.machine.specs.declared.state.Answer.the-variants.{Accepted, Refused}
-use Rattle.machine.specs.Device.{countOf, Outcome}
-use Rattle.machine.specs.Refusals.{badSize}
+use Rattle.machine.specs.Device.{Outcome}
 use Rattle.machine.specs.Step.{step}
 use Rattle.machine.specs.Readers.{numberOf}
 use Rattle.bundle.specs.Text.{ascii, blockLine}
@@ -164,6 +164,5 @@ pub rerun : {p q : Printed} {out out' f : List ℕ} {at next : ℕ} {d : Device}
 rerun e r = rw e at r
 
 -- refusal 5 does not apply to the manifest
-pub few-blocks : (s : Manifest) {n : ℕ} → badSize s ≡ false → n ≡ blockCount (s .«block_len») (s .«image_len») → n ≤ maxBlocks
-unfolding badSize
-few-blocks s e f = rw f (sized (s .«block_len») (s .«image_len») e .count)
+pub few-blocks : (L T : ℕ) {n : ℕ} → wrongSize L T ≡ false → n ≡ blockCount L T → n ≤ maxBlocks
+few-blocks L T e f = rw f (sized L T e .count)

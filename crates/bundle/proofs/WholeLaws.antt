@@ -19,12 +19,13 @@ use Rattle.merkle.specs.Frontier.{messageLength}
 use Rattle.lms.specs.Lms.{valid}
 use Rattle.wire.specs.declared.manifest.Manifest.{Manifest}
 use Rattle.wire.specs.declared.kind.Kind.the-variants.{Program, Block}
-use Rattle.wire.specs.Message.{kind}
+use Rattle.wire.specs.Geometry.{countOf, blockLength}
+use Rattle.wire.specs.Message.{kind, dueLength}
 use Rattle.wire.proofs.MessageLaws.{OfProgram}
 use Rattle.sender.specs.Job.{Job, count, manifestFor, programFor, blockFor}
 use Rattle.machine.specs.declared.state.Device.{Device}
 use Rattle.machine.specs.declared.state.Answer.the-variants.{Accepted}
-use Rattle.machine.specs.Device.{countOf, Fresh, freshWith, serialOf, Situation}
+use Rattle.machine.specs.Device.{Fresh, freshWith, serialOf, Situation}
 use Rattle.machine.specs.Step.{accept, outcome, refusalOf, step}
 use Rattle.machine.specs.Readers.{acceptedBlocks}
 use Rattle.guarantee.specs.Demand3.{Sendable}
@@ -79,8 +80,9 @@ module _ (job : Job) (ok : Sendable job) (old : List ℕ) where
       let m : List ℕ = blockFor digest (job .image) (suc j) in
       let b = block-sent digest length-digest job ok j h in
       let due : ℕ = messageLength (job .image .«block_len») (count (job .image)) (suc j) in
-      let first : take due (m ++ rest) ≡ m = take-at m rest due (b .size) in
-      let behind : drop due (m ++ rest) ≡ rest = drop-at m rest due (b .size) in
+      let long : length m ≡ due = unfold messageLength dueLength blockLength count in b .size in
+      let first : take due (m ++ rest) ≡ m = take-at m rest due long in
+      let behind : drop due (m ++ rest) ≡ rest = drop-at m rest due long in
       let o : step digest valid (s .device) (s .flash) m ≡ (let t = accept Block (s .device) (s .flash) m in record { answer = Accepted; device = t .device; flash = t .flash }) =
       accepted-step (s .device) (s .flash) m (next-accepted digest length-digest valid job ok old j s w h)
       ∙ ap (λ k. let t = accept k (s .device) (s .flash) m in record { answer = Accepted; device = t .device; flash = t .flash }) (b .is) in

@@ -9,6 +9,7 @@ use Rattle.merkle.specs.Limits.{hashLength}
 use Rattle.lms.specs.Lms.{valid}
 use Rattle.wire.specs.declared.kind.Kind.the-variants.{Block}
 use Rattle.wire.specs.Size.{wrongSize}
+use Rattle.wire.specs.Geometry.{programLength}
 use Rattle.wire.specs.Image.{filled}
 use Rattle.wire.specs.Manifest.{written}
 use Rattle.wire.specs.Message.{leastLength}
@@ -34,7 +35,7 @@ pub record Loadable (key flash : List ℕ) (job : Job) (filler signature : List 
   pub sendable : Sendable job
   pub model : job .model ≡ deviceFor key .model
   pub serial : 0 < job .serial
-  pub room : count (job .image) * job .image .«block_len» ≤ length flash
+  pub room : programLength (manifestFor digest job) ≤ length flash
   pub signed : valid (deviceFor key .key) (written (manifestFor digest job)) signature ≡ true
   pub fits : length (bundleFor digest job filler signature) ≤ maxBundle
 

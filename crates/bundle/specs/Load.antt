@@ -8,9 +8,10 @@ use Rattle.octets.specs.Octets.{number, part}
 use Rattle.sha256.specs.Sha256.{digest}
 use Rattle.merkle.specs.Frontier.{messageLength}
 use Rattle.lms.specs.Lms.{keyLength, valid}
+use Rattle.wire.specs.Geometry.{countOf}
 use Rattle.machine.specs.declared.state.Device.{Device}
 use Rattle.machine.specs.declared.state.Answer.the-variants.{Accepted, Refused}
-use Rattle.machine.specs.Device.{countOf, freshWith, Outcome}
+use Rattle.machine.specs.Device.{freshWith, Outcome}
 use Rattle.machine.specs.Step.{step}
 use Rattle.machine.specs.Readers.{numberOf}
 use Rattle.bundle.specs.Text.{ascii, bundleLine, slipLine, blockLine, stateLine}

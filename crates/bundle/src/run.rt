@@ -10,8 +10,8 @@ ghost use mathlib.Core.Bool.{false};
 ghost use Prim.Native.Nat.{_+_, _*_, _≤_};
 ghost use lib.ListN.{length};
 ghost use Rattle.merkle.specs.Limits.{maxBlocks};
+ghost use Rattle.wire.specs.Size.{wrongSize};
 ghost use Rattle.machine.specs.declared.state.Stage.the-variants.{Idle};
-ghost use Rattle.machine.specs.Refusals.{badSize};
 ghost use Rattle.bundle.specs.Load as spec;
 ghost use Rattle.bundle.specs.Steps.{Ran};
 
@@ -23,7 +23,7 @@ pub struct Progress {
 
 // The block messages, until one is refused or all are accepted. A line has at most 15 bytes.
 fn blocks(start: Device, flash: &mut [u8], bytes: &[u8], out: &mut [u8], from: usize) -> Progress
-    requires { ⌜ (badSize (start .manifest) ≡ false) × (from + 15 * maxBlocks ≤ length (now out)) ⌝ }
+    requires { ⌜ (wrongSize (start .manifest .«block_len») (start .manifest .«image_len») ≡ false) × (from + 15 * maxBlocks ≤ length (now out)) ⌝ }
     ensures { λ r. ⌜ Ran (spec.blocks start (now (flash .entry)) (now (bytes .entry))) (now (out .entry)) from (now (out .exit)) (r .at) (r .device) (now (flash .exit))
         × (r .at ≤ from + 15 * maxBlocks) ⌝ }
 {

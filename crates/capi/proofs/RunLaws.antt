@@ -3,29 +3,26 @@ use mathlib.Core.Path.{_≡_, refl, ap, _∙_}
 use mathlib.Core.Bool.{Bool, true, false, cond}
 use mathlib.Core.List.{List}
 use mathlib.Core.Option.{Option, none, some}
-use Prim.Native.Nat.{ℕ, suc, pred, _+_, _*_, _≤_}
+use Prim.Native.Nat.{ℕ, suc, pred, _*_, _≤_}
 use native.Mathlib.Omega.{arith}
 use lib.Dec.{ltb}
-use lib.ListN.{length, drop, length-drop, length-replicate}
-use Rattle.octets.specs.Octets.{Bytes, part}
-use Rattle.merkle.specs.Limits.{heldBytes}
-use Rattle.octets.proofs.CopyLaws.{length-part}
-use Rattle.octets.proofs.NumberLaws.{part-bytes}
+use lib.ListN.{length, length-replicate}
+use Rattle.octets.specs.Octets.{Bytes}
+use Rattle.merkle.specs.Limits.{hashLength, heldBytes}
 use Rattle.sha256.specs.Sha256.{digest}
-use Rattle.merkle.specs.Frontier.{carriedCount, messageLength}
+use Rattle.merkle.specs.Frontier.{carriedCount}
 use Rattle.merkle.proofs.HeldLaws.{length-begun, advance}
 use Rattle.lms.specs.Lms.{valid}
 use Rattle.wire.specs.declared.kind.Kind.{Kind}
 use Rattle.wire.specs.declared.kind.Kind.the-variants.{Program, Block, Update, Unknown}
 use Rattle.wire.specs.declared.refusal.Refusal.{Refusal}
-use Rattle.wire.specs.Message.{kind, manifestBytes, manifestIn, hashesAfter}
-use Rattle.wire.specs.Manifest as spec
+use Rattle.wire.specs.Geometry.{countOf, blockLength}
+use Rattle.wire.specs.Message.{kind, manifestIn, hashesAfter, leastUpdate}
 use Rattle.wire.proofs.SizeLaws.{sized}
-use Rattle.wire.proofs.ManifestLaws as manifest
+use Rattle.wire.proofs.MessageLaws.{manifest-fits, due}
 use Rattle.machine.specs.declared.state.Stage.the-variants.{Loading, Complete}
 use Rattle.machine.specs.declared.state.Device.{Device}
-use Rattle.machine.specs.Device.{countOf, freshWith, Situation}
-use Rattle.machine.specs.Refusals.{badSize, nextOf}
+use Rattle.machine.specs.Device.{freshWith, nextOf, Situation}
 use Rattle.machine.specs.Step.{acceptProgram, stageAfter, acceptBlock, acceptUpdate, accept, outcome, refusalOf, step}
 use Rattle.guarantee.specs.Run.{empty, _▷_, after}
 use Rattle.machine.proofs.RefusalLaws.{BlockPassed, program-passed, block-passed, update-passed}
@@ -37,10 +34,6 @@ use Rattle.capi.proofs.CallLaws.{receive-encode}
 
 -- What an accepted message of bytes leaves still fits its bytes.
 module _ (d : Device) (flash m : List ℕ) (bytes : Bytes m) (f : Fits d) where
-  manifest-fits : 49 ≤ length m → spec.Fits (manifestIn m)
-  unfolding manifestIn manifestBytes
-  manifest-fits h = manifest.read-fits (part 1 48 m) (length-part m 1 48 (omega arith)) (part-bytes m bytes 1 48 (omega arith))
-
   next-after : (n i : ℕ) → nextOf (stageAfter n i) ≤ suc i
   unfolding nextOf stageAfter
   next-after n i = go (ltb i n)
@@ -50,32 +43,33 @@ module _ (d : Device) (flash m : List ℕ) (bytes : Bytes m) (f : Fits d) where
       go false = omega arith
 
   fits-block : BlockPassed digest valid d flash m → Fits (acceptBlock d flash m .device)
-  unfolding acceptBlock badSize countOf hashesAfter messageLength
+  unfolding acceptBlock countOf
   fits-block p =
       let i = nextOf (d .stage) in
       let n = countOf (d .manifest) in
       let w = p .awaited in
       let most = sized (d .manifest .«block_len») (d .manifest .«image_len») (w .size) .count in
       let z : suc (pred i) ≡ i = omega arith in
-      let l : length (drop (3 + d .manifest .«block_len») m) ≡ 32 * carriedCount n (suc (pred i)) = rw z (length-drop (3 + d .manifest .«block_len») m ∙ omega (arith, p .long)) in
+      let k = blockLength (d .manifest .«block_len») (d .manifest .«image_len») i in
+      let l : length (hashesAfter k m) ≡ hashLength * carriedCount n (suc (pred i)) = rw z (due _ _ _ _ (p .long) .rest) in
       record {
         model = f .model;
         key = f .key;
         next = omega (arith, next-after n i);
         manifest = f .manifest;
-        hashes = advance n (pred i) (d .hashes) (drop (3 + d .manifest .«block_len») m) (omega arith) most (f .hashes) l .size;
+        hashes = advance n (pred i) (d .hashes) (hashesAfter k m) (omega arith) most (f .hashes) l .size;
       }
 
   fits-kept : (k : Kind) → kind m ≡ k → refusalOf digest valid d flash m ≡ none → Fits (accept k d flash m .device)
-  unfolding accept acceptProgram acceptUpdate nextOf
+  unfolding accept acceptProgram acceptUpdate nextOf leastUpdate
   fits-kept Program e a =
       let p = program-passed digest valid d flash m e a in
-      let s = manifest-fits (p .long) in
+      let s = manifest-fits m bytes (p .long) in
       record { model = f .model; key = f .key; next = omega arith; manifest = s; hashes = length-begun (manifestIn m .root) (s .root) }
   fits-kept Block e a = fits-block (block-passed digest valid d flash m e a)
   fits-kept Update e a =
       let p = update-passed digest valid d flash m e a in
-      record { model = f .model; key = f .key; next = f .next; manifest = manifest-fits (omega (arith, p .long)); hashes = f .hashes }
+      record { model = f .model; key = f .key; next = f .next; manifest = manifest-fits m bytes (omega (arith, p .long)); hashes = f .hashes }
   fits-kept Unknown e a = f
 
   fits-step : Fits (step digest valid d flash m .device)

@@ -16,7 +16,7 @@ use Rattle.wire.proofs.ManifestLaws as manifest
 use Rattle.machine.specs.declared.state.Stage.{Stage}
 use Rattle.machine.specs.declared.state.Stage.the-variants.{Idle, Loading, Complete}
 use Rattle.machine.specs.declared.state.Device.{Device}
-use Rattle.machine.specs.Refusals.{nextOf}
+use Rattle.machine.specs.Device.{nextOf}
 use Rattle.capi.specs.State.{stageAt, nextAt, stateLength, stageNumber, encode, stageFrom, stageIn, deviceIn, decode}
 use Rattle.capi.specs.Claims.{Fits, GivesBack}
 

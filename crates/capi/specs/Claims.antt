@@ -9,8 +9,7 @@ use Rattle.merkle.specs.Limits.{heldBytes}
 use Rattle.lms.specs.Lms.{keyLength, valid}
 use Rattle.wire.specs.Manifest as manifest
 use Rattle.machine.specs.declared.state.Device.{Device}
-use Rattle.machine.specs.Device.{freshWith}
-use Rattle.machine.specs.Refusals.{nextOf}
+use Rattle.machine.specs.Device.{freshWith, nextOf}
 use Rattle.machine.specs.Step.{step}
 use Rattle.guarantee.specs.Run.{Messages, after}
 use Rattle.capi.specs.State.{encode, decode}

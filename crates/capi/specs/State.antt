@@ -12,7 +12,7 @@ use Rattle.wire.specs.Manifest.{manifestLength, written, read}
 use Rattle.machine.specs.declared.state.Stage.{Stage}
 use Rattle.machine.specs.declared.state.Stage.the-variants.{Idle, Loading, Complete}
 use Rattle.machine.specs.declared.state.Device.{Device}
-use Rattle.machine.specs.Refusals.{nextOf}
+use Rattle.machine.specs.Device.{nextOf}
 
 -- Where its fields start: model (4 bytes), key, stage (2), next number (2), manifest, held hashes.
 abbrev pub keyAt : ℕ

@@ -6,24 +6,24 @@ use mathlib.Core.Option.{Option, none, some}
 use Prim.Native.Nat.{ℕ, _+_, _-_, _≤_, _<_}
 use native.Mathlib.Numerals.{add-one}
 use native.Mathlib.Omega.{arith}
-use lib.ListN.{length, take, drop}
 use borrow.Author.Tests.{lt-ltb, le-ltb}
-use Rattle.octets.proofs.CopyLaws.{part-between}
 use Rattle.merkle.specs.Held.{advanced}
 use Rattle.wire.specs.declared.kind.Kind.{Kind}
 use Rattle.wire.specs.declared.manifest.Manifest.{Manifest}
 use Rattle.wire.specs.declared.refusal.Refusal.{Refusal}
 use Rattle.wire.specs.Refusal.{firstThatApplies}
-use Rattle.wire.specs.Message.{kind, manifestIn, updateNumber, updateBlock}
+use Rattle.wire.specs.Geometry.{countOf, blockLength, withBlock}
+use Rattle.wire.specs.Message.{kind, manifestIn, blockIn, hashesAfter, updateNumber, updateBlock}
 use Rattle.machine.specs.declared.state.Stage.{Stage}
 use Rattle.machine.specs.declared.state.Stage.the-variants.{Loading, Complete}
 use Rattle.machine.specs.declared.state.Device.{Device}
 use Rattle.machine.specs.declared.state.Answer.{Answer}
 use Rattle.machine.specs.declared.state.Answer.the-variants.{Accepted, Refused}
-use Rattle.machine.specs.Device.{countOf, Situation}
-use Rattle.machine.specs.Refusals.{nextOf, withBlock, updated, refusals}
+use Rattle.machine.specs.Device.{nextOf, Situation}
+use Rattle.machine.specs.Flash.{stored, updated}
+use Rattle.machine.specs.Refusals.{refusals}
 use Rattle.machine.specs.Step.{acceptProgram, stageAfter, acceptBlock, acceptUpdate, accept, answerOf, outcome, refusalOf, step}
-use Rattle.device.proofs.ConditionLaws.{before-is, slice-rest, slice-block}
+use Rattle.device.proofs.ConditionLaws.{before-is}
 use Rattle.machine.proofs.RefusalLaws.{answer-none}
 
 module _ (d : Device) (flash m : List ℕ) where
@@ -32,18 +32,18 @@ module _ (d : Device) (flash m : List ℕ) where
   unfolding acceptProgram
   program-is e = rw e
 
-  pub block-is : {i n : ℕ} {t : Stage} {hashes f : List ℕ} → i ≡ nextOf (d .stage) → n ≡ countOf (d .manifest) → t ≡ stageAfter n i
-      → hashes ≡ advanced n (i - 1) (d .hashes) (take (length m - (3 + d .manifest .«block_len»)) (drop (3 + d .manifest .«block_len») m))
-      → f ≡ withBlock (d .manifest .«block_len») flash i (take (3 + d .manifest .«block_len» - 3) (drop 3 m))
+  pub block-is : {i n k : ℕ} {t : Stage} {b r hashes f : List ℕ} → i ≡ nextOf (d .stage) → n ≡ countOf (d .manifest)
+      → k ≡ blockLength (d .manifest .«block_len») (d .manifest .«image_len») i → b ≡ blockIn k m → r ≡ hashesAfter k m → t ≡ stageAfter n i
+      → hashes ≡ advanced n (i - 1) (d .hashes) r → f ≡ withBlock (d .manifest .«block_len») flash i b
       → acceptBlock d flash m ≡ record { device = record { model = d .model; key = d .key; stage = t; manifest = d .manifest; hashes = hashes }; flash = f }
-  unfolding acceptBlock
-  block-is {i} ei en et eh ef = rw (et, eh, ef, slice-rest (d .manifest .«block_len») m, slice-block (d .manifest .«block_len») m, before-is i, en, ei)
+  unfolding acceptBlock stored
+  block-is {i} ei en ek eb er et eh ef = rw (et, eh, ef, eb, er, ek, before-is i, en, ei)
 
-  pub update-is : {s : Manifest} {i : ℕ} {f : List ℕ} → s ≡ manifestIn m → i ≡ updateNumber m
-      → f ≡ withBlock (s .«block_len») flash i (take (51 + s .«block_len» - 51) (drop 51 m))
+  pub update-is : {s : Manifest} {i k : ℕ} {b f : List ℕ} → s ≡ manifestIn m → i ≡ updateNumber m → k ≡ blockLength (s .«block_len») (s .«image_len») i
+      → b ≡ updateBlock k m → f ≡ withBlock (s .«block_len») flash i b
       → acceptUpdate d flash m ≡ record { device = record { model = d .model; key = d .key; stage = d .stage; manifest = s; hashes = d .hashes }; flash = f }
-  unfolding acceptUpdate updated updateBlock
-  update-is {s} es ei ef = rw (ef, part-between m 51 (s .«block_len»), es, ei)
+  unfolding acceptUpdate updated
+  update-is es ei ek eb ef = rw (ef, eb, ek, es, ei)
 
 -- The stage after block i of n.
 pub goes-on : (n i : ℕ) → i < n → Loading (i + 1) ≡ stageAfter n i

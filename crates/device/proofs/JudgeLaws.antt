@@ -2,15 +2,23 @@
 use mathlib.Core.Path.{_≡_, refl, sym, ap, _∙_}
 use mathlib.Core.Bool.{Bool, true, false, cond}
 use mathlib.Core.List.{List, [], _∷_, _++_}
+use Prim.Native.Nat.{ℕ}
+use native.Mathlib.Omega.{arith}
 use lib.Dec.{eqb}
+use lib.ListN.{length}
+use borrow.Author.Tests.{ltb-true}
+use Rattle.wire.specs.declared.kind.Kind.{Kind}
+use Rattle.wire.specs.declared.kind.Kind.the-variants.{Program, Block, Update, Unknown}
 use Rattle.wire.specs.declared.manifest.Manifest.{Manifest}
 use Rattle.wire.specs.declared.refusal.Refusal.{Refusal}
 use Rattle.wire.specs.declared.refusal.Refusal.the-variants as refusal
 use Rattle.wire.specs.Refusal.{refusalNumber, firstThatApplies}
+use Rattle.wire.specs.Size.{wrongSize}
+use Rattle.wire.specs.Message.{short}
 use Rattle.machine.specs.declared.state.Device.{Device}
 use Rattle.machine.specs.declared.state.Answer.{Answer}
 use Rattle.machine.specs.declared.state.Answer.the-variants.{Accepted, Refused}
-use Rattle.machine.specs.Refusals.{badSize, ofManifest}
+use Rattle.machine.specs.Refusals.{noKind, ofManifest}
 use Rattle.machine.specs.Step.{answerOf}
 use Rattle.machine.proofs.RefusalLaws.{testOf, clear, answer-none, answer-some, Passes, behind-piece, in-piece}
 
@@ -44,6 +52,14 @@ pub past-all : {es : List (Refusal × Bool)} (fs rest : List (Refusal × Bool)) 
 past-all fs rest p e = record { same = p .same ∙ behind-piece fs rest (answer-none (firstThatApplies fs) (sym e)) }
 
 -- A manifest that passed its tests has an allowed size.
-pub size-passed : (d : Device) (s : Manifest) {a : Answer} → a ≡ answerOf (firstThatApplies (ofManifest d s)) → a ≡ Accepted → badSize s ≡ false
+pub size-passed : (d : Device) (s : Manifest) {a : Answer} → a ≡ answerOf (firstThatApplies (ofManifest d s)) → a ≡ Accepted → wrongSize (s .«block_len») (s .«image_len») ≡ false
 unfolding ofManifest testOf
 size-passed d s e q = clear refusal.Size (ofManifest d s) (answer-none (firstThatApplies (ofManifest d s)) (sym e ∙ q))
+
+-- Every message is long enough for an unknown kind.
+pub known-short : (k : Kind) (m : List ℕ) → short k m ≡ true → noKind k ≡ false
+unfolding short noKind
+known-short Program m e = refl
+known-short Block m e = refl
+known-short Update m e = refl
+known-short Unknown m e = absurd (let l = ltb-true (length m) 0 e in omega arith)

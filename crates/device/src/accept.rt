@@ -1,4 +1,5 @@
 // What an accepted message does. Only here is the flash written, and only `receive` calls this, where no refusal applies.
+use crate::conditions::block_len;
 use crate::conditions::count;
 use crate::conditions::next_of;
 use machine::Device;
@@ -13,8 +14,9 @@ ghost use Rattle.sha256.specs.Sha256.{digest};
 ghost use Rattle.merkle.specs.Limits.{maxBlocks};
 ghost use Rattle.lms.specs.Lms.{valid};
 ghost use Rattle.wire.specs.declared.kind.Kind.the-variants as kinds;
+ghost use Rattle.wire.specs.Geometry.{withBlock};
+ghost use Rattle.wire.specs.Message.{leastLength};
 ghost use Rattle.wire.specs.Message as messages;
-ghost use Rattle.machine.specs.Refusals.{withBlock};
 ghost use Rattle.machine.specs.Step.{acceptProgram, stageAfter, acceptBlock, acceptUpdate, refusalOf};
 ghost use Rattle.machine.specs.Step as spec;
 
@@ -33,7 +35,7 @@ pub fn accept(device: Device, kind: Kind, flash: &mut [u8], message: &[u8]) -> D
 
 // Kind 1. It does not look at the flash.
 fn accept_program(device: Device, message: &[u8]) -> Device
-    requires { ⌜ 49 ≤ length (now message) ⌝ }
+    requires { ⌜ leastLength kinds.Program ≤ length (now message) ⌝ }
     ensures { λ r. ⌜ r ≡ acceptProgram device [] (now (message .entry)) .device ⌝ }
 {
     let manifest = wire::manifest_in(message);
@@ -77,11 +79,15 @@ fn accept_block(device: Device, flash: &mut [u8], message: &[u8]) -> Device
     let next = next_of(stage);
     let manifest = device.manifest;
     let n = count(manifest);
-    let len = manifest.block_len as usize;
-    let end = 3 + len;
-    write_block(flash, len, next, &message[3..end]);
+    let len = block_len(manifest, next);
+    write_block(
+        flash,
+        manifest.block_len as usize,
+        next,
+        wire::block_in(message, len),
+    );
     let old = device.hashes;
-    let hashes = merkle::advance(old, n, next as usize - 1, &message[end..]);
+    let hashes = merkle::advance(old, n, next as usize - 1, wire::hashes_after(message, len));
     let key = device.key;
     Device {
         model: device.model,
@@ -98,9 +104,14 @@ fn accept_update(device: Device, flash: &mut [u8], message: &[u8]) -> Device
     ensures { λ r. ⌜ acceptUpdate device (now (flash .entry)) (now (message .entry)) ≡ record { device = r; flash = now (flash .exit) } ⌝ }
 {
     let manifest = wire::manifest_in(message);
-    let len = manifest.block_len as usize;
-    let end = 51 + len;
-    write_block(flash, len, octets::u16_at(message, 49), &message[51..end]);
+    let number = wire::update_number(message);
+    let len = block_len(manifest, number);
+    write_block(
+        flash,
+        manifest.block_len as usize,
+        number,
+        wire::update_block(message, len),
+    );
     let mut next = device;
     next.manifest = manifest;
     next

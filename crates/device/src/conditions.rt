@@ -4,19 +4,23 @@ use machine::Stage;
 use wire::Manifest;
 ghost use mathlib.Core.Path.{_≡_};
 ghost use mathlib.Core.Bool.{false, _||_};
-ghost use Prim.Native.Nat.{_+_, _*_, _≤_, _<_};
-ghost use lib.ListN.{length, drop};
+ghost use Prim.Native.Nat.{_≤_, _<_};
+ghost use lib.ListN.{length};
 ghost use Rattle.sha256.specs.Sha256.{digest};
 ghost use Rattle.lms.specs.Lms.{valid};
+ghost use Rattle.wire.specs.declared.kind.Kind.the-variants as kinds;
+ghost use Rattle.wire.specs.Size.{wrongSize};
 ghost use Rattle.wire.specs.Size as size;
-ghost use Rattle.wire.specs.Message.{manifestBytes};
-ghost use Rattle.machine.specs.Device.{countOf, serialOf};
-ghost use Rattle.machine.specs.Refusals.{wrongVersion, badSize, otherModel, notNewer, tooSmall, notLoading, notComplete, nextOf, notNext, wrongLength, withBlock};
+ghost use Rattle.wire.specs.Geometry.{countOf, blockLength, programLength, withBlock};
+ghost use Rattle.wire.specs.Message.{leastLength};
+ghost use Rattle.machine.specs.declared.state.Stage.the-variants.{Loading};
+ghost use Rattle.machine.specs.Device.{serialOf, nextOf};
+ghost use Rattle.machine.specs.Refusals.{wrongVersion, otherModel, notNewer, tooSmall, notLoading, notComplete, notNext, wrongLength};
 ghost use Rattle.machine.specs.Refusals as spec;
 
 // The block count (01: n) of a manifest that refusal 5 does not apply to.
 pub fn count(manifest: Manifest) -> usize
-    requires { ⌜ badSize manifest ≡ false ⌝ }
+    requires { ⌜ wrongSize (manifest .«block_len») (manifest .«image_len») ≡ false ⌝ }
     ensures { λ r. ⌜ r ≡ countOf manifest ⌝ }
 {
     wire::block_count(manifest.block_len as usize, manifest.image_len as usize)
@@ -42,7 +46,7 @@ pub fn senseless(device: Device) -> bool
 
 // 4 or 5.
 fn broken(manifest: Manifest) -> bool
-    ensures { λ r. ⌜ r ≡ (wrongVersion manifest || badSize manifest) ⌝ }
+    ensures { λ r. ⌜ r ≡ (wrongVersion manifest || wrongSize (manifest .«block_len») (manifest .«image_len»)) ⌝ }
 {
     if wrong_version(manifest) {
         return true;
@@ -59,7 +63,7 @@ pub fn wrong_version(manifest: Manifest) -> bool
 
 // 5.
 pub fn wrong_size(manifest: Manifest) -> bool
-    ensures { λ r. ⌜ r ≡ badSize manifest ⌝ }
+    ensures { λ r. ⌜ r ≡ wrongSize (manifest .«block_len») (manifest .«image_len») ⌝ }
 {
     wire::wrong_size(manifest.block_len as usize, manifest.image_len as usize)
 }
@@ -89,21 +93,28 @@ pub fn not_newer(device: Device, manifest: Manifest) -> bool
     manifest.serial <= serial_of(device)
 }
 
-// 8.
-pub fn too_small(manifest: Manifest, flash: &[u8]) -> bool
-    requires { ⌜ badSize manifest ≡ false ⌝ }
-    ensures { λ r. ⌜ r ≡ tooSmall manifest (now (flash .entry)) ⌝ }
+// The bytes of the flash that the manifest's blocks need.
+fn program_len(manifest: Manifest) -> usize
+    requires { ⌜ wrongSize (manifest .«block_len») (manifest .«image_len») ≡ false ⌝ }
+    ensures { λ r. ⌜ r ≡ programLength manifest ⌝ }
 {
-    flash.len() < count(manifest) * (manifest.block_len as usize)
+    count(manifest) * (manifest.block_len as usize)
 }
 
-// 9, for a signature that starts at index `at`.
-pub fn unsigned(device: Device, message: &[u8], at: usize) -> bool
-    requires { ⌜ (49 ≤ at) × (at ≤ length (now message)) ⌝ }
-    ensures { λ r. ⌜ r ≡ spec.unsigned valid device (manifestBytes (now (message .entry))) (drop at (now (message .entry))) ⌝ }
+// 8.
+pub fn too_small(manifest: Manifest, flash: &[u8]) -> bool
+    requires { ⌜ wrongSize (manifest .«block_len») (manifest .«image_len») ≡ false ⌝ }
+    ensures { λ r. ⌜ r ≡ tooSmall manifest (now (flash .entry)) ⌝ }
+{
+    flash.len() < program_len(manifest)
+}
+
+// 9, for a manifest's bytes and the signature over them.
+pub fn unsigned(device: Device, manifest: &[u8], signature: &[u8]) -> bool
+    ensures { λ r. ⌜ r ≡ spec.unsigned valid device (now (manifest .entry)) (now (signature .entry)) ⌝ }
 {
     let key = device.key;
-    !lms::verify(&key, &message[1..49], &message[at..])
+    !lms::verify(&key, manifest, signature)
 }
 
 // 10, kind 2.
@@ -139,21 +150,36 @@ pub fn next_of(stage: Stage) -> u16
     }
 }
 
+// The bytes of block `number`, from 1.
+pub fn block_len(manifest: Manifest, number: u16) -> usize
+    ensures { λ r. ⌜ r ≡ blockLength (manifest .«block_len») (manifest .«image_len») number ⌝ }
+{
+    wire::block_length(
+        manifest.block_len as usize,
+        manifest.image_len as usize,
+        number as usize,
+    )
+}
+
 // 11, kind 2.
 pub fn not_next(next: u16, message: &[u8]) -> bool
-    requires { ⌜ 3 ≤ length (now message) ⌝ }
+    requires { ⌜ leastLength kinds.Block ≤ length (now message) ⌝ }
     ensures { λ r. ⌜ r ≡ notNext next (now (message .entry)) ⌝ }
 {
-    octets::u16_at(message, 1) != next
+    wire::number_in(message) != next
 }
 
 // 12, kind 2.
 pub fn wrong_length(manifest: Manifest, next: u16, message: &[u8]) -> bool
-    requires { ⌜ (badSize manifest ≡ false) × (0 < next) × (next ≤ countOf manifest) ⌝ }
+    requires { ⌜ (wrongSize (manifest .«block_len») (manifest .«image_len») ≡ false) × (0 < next) × (next ≤ countOf manifest) ⌝ }
     ensures { λ r. ⌜ r ≡ wrongLength manifest next (now (message .entry)) ⌝ }
 {
     message.len()
-        != merkle::message_len(manifest.block_len as usize, count(manifest), next as usize)
+        != wire::due_len(
+            manifest.block_len as usize,
+            manifest.image_len as usize,
+            next as usize,
+        )
 }
 
 // 13.
@@ -168,24 +194,24 @@ pub fn unlike(manifest: Manifest, old: Manifest) -> bool
 
 // 14, kind 2: the hash worked out from block and message is not the held one.
 pub fn mismatch(device: Device, next: u16, message: &[u8]) -> bool
-    requires { ⌜ (badSize (device .manifest) ≡ false) × (0 < next) × (next ≤ countOf (device .manifest)) × (wrongLength (device .manifest) next (now message) ≡ false) ⌝ }
+    requires { ⌜ (spec.senseless device ≡ false) × (device .stage ≡ Loading next) × (wrongLength (device .manifest) next (now message) ≡ false) ⌝ }
     ensures { λ r. ⌜ r ≡ spec.mismatch digest device next (now (message .entry)) ⌝ }
 {
     let manifest = device.manifest;
     let hashes = device.hashes;
-    let end = 3 + manifest.block_len as usize;
+    let len = block_len(manifest, next);
     !merkle::fits(
         &hashes,
         count(manifest),
         next as usize - 1,
-        &message[3..end],
-        &message[end..],
+        wire::block_in(message, len),
+        wire::hashes_after(message, len),
     )
 }
 
 // 14, kind 3: the tree over the flash with the new block lacks the new root. The flash is only read.
 pub fn lacks_root(manifest: Manifest, flash: &[u8], number: u16, block: &[u8]) -> bool
-    requires { ⌜ (badSize manifest ≡ false) × (tooSmall manifest (now flash) ≡ false) × (size.outside (countOf manifest) number ≡ false) × (length (now block) ≡ manifest .«block_len») ⌝ }
+    requires { ⌜ (wrongSize (manifest .«block_len») (manifest .«image_len») ≡ false) × (tooSmall manifest (now flash) ≡ false) × (size.outside (countOf manifest) number ≡ false) × (length (now block) ≡ blockLength (manifest .«block_len») (manifest .«image_len») number) ⌝ }
     ensures { λ r. ⌜ r ≡ spec.lacksRoot digest manifest (withBlock (manifest .«block_len») (now (flash .entry)) number (now (block .entry))) ⌝ }
 {
     let root = manifest.root;

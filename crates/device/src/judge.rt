@@ -1,5 +1,6 @@
 // The first refusal that applies, if any: the tests of each kind in 01's order. Nothing is written here. Only `judge` calls the others, and meets
 // their `requires`.
+use crate::conditions::block_len;
 use crate::conditions::count;
 use crate::conditions::lacks_root;
 use crate::conditions::mismatch;
@@ -27,39 +28,29 @@ ghost use Prim.Native.Nat.{_≤_};
 ghost use lib.ListN.{length};
 ghost use Rattle.sha256.specs.Sha256.{digest};
 ghost use Rattle.lms.specs.Lms.{valid};
+ghost use Rattle.wire.specs.declared.kind.Kind.the-variants as kinds;
 ghost use Rattle.wire.specs.Refusal.{firstThatApplies};
-ghost use Rattle.wire.specs.Message.{manifestIn};
-ghost use Rattle.machine.specs.Refusals.{nextOf, ofManifest, ofProgram, ofBlock, ofUpdate, refusals};
+ghost use Rattle.wire.specs.Message.{leastLength, manifestIn};
+ghost use Rattle.machine.specs.Device.{nextOf};
+ghost use Rattle.machine.specs.Refusals.{ofManifest, ofProgram, ofBlock, ofUpdate, refusals};
 ghost use Rattle.machine.specs.Refusals as spec;
 ghost use Rattle.machine.specs.Step.{answerOf};
 
-// Always 1, 2, 3; then those of the kind.
+// Always 1, 2, 3; then those of the kind. No message of an unknown kind is short, so 2 can wait for the match.
 pub fn judge(device: Device, kind: Kind, flash: &[u8], message: &[u8]) -> Answer
     ensures { λ r. ⌜ r ≡ answerOf (firstThatApplies (refusals digest valid kind device (now (flash .entry)) (now (message .entry)))) ⌝ }
 {
     if senseless(device) {
         return Answer::Refused(Refusal::State);
     }
+    if wire::short(kind, message) {
+        return Answer::Refused(Refusal::Short);
+    }
     match kind {
         Kind::Unknown => Answer::Refused(Refusal::Kind),
-        Kind::Program => {
-            if message.len() < 49 {
-                return Answer::Refused(Refusal::Short);
-            }
-            judge_program(device, flash, message)
-        }
-        Kind::Block => {
-            if message.len() < 3 {
-                return Answer::Refused(Refusal::Short);
-            }
-            judge_block(device, flash, message)
-        }
-        Kind::Update => {
-            if message.len() < 51 {
-                return Answer::Refused(Refusal::Short);
-            }
-            judge_update(device, flash, message)
-        }
+        Kind::Program => judge_program(device, flash, message),
+        Kind::Block => judge_block(device, flash, message),
+        Kind::Update => judge_update(device, flash, message),
     }
 }
 
@@ -84,7 +75,7 @@ fn judge_manifest(device: Device, manifest: Manifest) -> Answer
 
 // Kind 1: 4, 5, 6, 7, 8, 9.
 fn judge_program(device: Device, flash: &[u8], message: &[u8]) -> Answer
-    requires { ⌜ 49 ≤ length (now message) ⌝ }
+    requires { ⌜ leastLength kinds.Program ≤ length (now message) ⌝ }
     ensures { λ r. ⌜ r ≡ answerOf (firstThatApplies (ofProgram valid device (now (flash .entry)) (now (message .entry)) (manifestIn (now (message .entry))))) ⌝ }
 {
     let manifest = wire::manifest_in(message);
@@ -95,7 +86,11 @@ fn judge_program(device: Device, flash: &[u8], message: &[u8]) -> Answer
     if too_small(manifest, flash) {
         return Answer::Refused(Refusal::Area);
     }
-    if unsigned(device, message, 49) {
+    if unsigned(
+        device,
+        wire::manifest_bytes(message),
+        wire::program_signature(message),
+    ) {
         return Answer::Refused(Refusal::Unsigned);
     }
     Answer::Accepted
@@ -103,7 +98,7 @@ fn judge_program(device: Device, flash: &[u8], message: &[u8]) -> Answer
 
 // Kind 2: 10, 8, 11, 12, 14.
 fn judge_block(device: Device, flash: &[u8], message: &[u8]) -> Answer
-    requires { ⌜ (spec.senseless device ≡ false) × (3 ≤ length (now message)) ⌝ }
+    requires { ⌜ (spec.senseless device ≡ false) × (leastLength kinds.Block ≤ length (now message)) ⌝ }
     ensures { λ r. ⌜ r ≡ answerOf (firstThatApplies (ofBlock digest device (now (flash .entry)) (now (message .entry)) (nextOf (device .stage)))) ⌝ }
 {
     let stage = device.stage;
@@ -129,7 +124,7 @@ fn judge_block(device: Device, flash: &[u8], message: &[u8]) -> Answer
 
 // Kind 3: 10, 4, 5, 6, 7, 13, 8, 11, 12, 9, 14.
 fn judge_update(device: Device, flash: &[u8], message: &[u8]) -> Answer
-    requires { ⌜ 51 ≤ length (now message) ⌝ }
+    requires { ⌜ leastLength kinds.Update ≤ length (now message) ⌝ }
     ensures { λ r. ⌜ r ≡ answerOf (firstThatApplies (ofUpdate digest valid device (now (flash .entry)) (now (message .entry)) (manifestIn (now (message .entry))))) ⌝ }
 {
     let stage = device.stage;
@@ -148,18 +143,28 @@ fn judge_update(device: Device, flash: &[u8], message: &[u8]) -> Answer
     if too_small(manifest, flash) {
         return Answer::Refused(Refusal::Area);
     }
-    let number = octets::u16_at(message, 49);
+    let number = wire::update_number(message);
     if wire::outside(count(manifest), number as usize) {
         return Answer::Refused(Refusal::Turn);
     }
-    let end = 51 + manifest.block_len as usize;
-    if message.len() < end {
+    if message.len()
+        < wire::least_update(
+            manifest.block_len as usize,
+            manifest.image_len as usize,
+            number as usize,
+        )
+    {
         return Answer::Refused(Refusal::Length);
     }
-    if unsigned(device, message, end) {
+    let len = block_len(manifest, number);
+    if unsigned(
+        device,
+        wire::manifest_bytes(message),
+        wire::update_signature(message, len),
+    ) {
         return Answer::Refused(Refusal::Unsigned);
     }
-    if lacks_root(manifest, flash, number, &message[51..end]) {
+    if lacks_root(manifest, flash, number, wire::update_block(message, len)) {
         return Answer::Refused(Refusal::Mismatch);
     }
     Answer::Accepted

@@ -18,6 +18,7 @@ use Rattle.merkle.proofs.HashLaws.{Same}
 use Rattle.merkle.proofs.BindingLaws.{binding}
 use Rattle.merkle.proofs.BlockLaws.{blocks-equal}
 use Rattle.wire.specs.declared.manifest.Manifest.{Manifest}
+use Rattle.wire.specs.Geometry.{countOf, blocksOf, treeOver}
 use Rattle.wire.specs.Image.{filled, imageBlocks}
 use Rattle.wire.specs.Message.{manifestIn}
 use Rattle.wire.proofs.SizeLaws.{Sized}
@@ -25,8 +26,7 @@ use Rattle.wire.proofs.ImageLaws.{length-filled}
 use Rattle.machine.specs.declared.state.Stage.{Stage}
 use Rattle.machine.specs.declared.state.Stage.the-variants.{Idle, Loading, Complete}
 use Rattle.machine.specs.declared.state.Device.{Device}
-use Rattle.machine.specs.Device.{countOf, Fresh, Situation}
-use Rattle.machine.specs.Refusals.{treeOver}
+use Rattle.machine.specs.Device.{Fresh, Situation}
 use Rattle.machine.specs.Step.{step}
 use Rattle.guarantee.specs.Run.{Messages, lastProgram, blocksSince, lastCarrier, Completed}
 use Rattle.guarantee.specs.Demand3.{Bound, FirstHalf}
@@ -37,8 +37,8 @@ use Rattle.guarantee.proofs.RunLaws.{now, taken, every-list}
 module _ (H : List ℕ → List ℕ) (hash-long : (x : List ℕ) → length (H x) ≡ hashLength) where
   -- an image of the flash's length with its root is the start of the flash, or there is a collision
   bound-image : (s : Manifest) (f x : List ℕ) → Sized (s .«block_len») (s .«image_len») → treeOver H s f ≡ s .root → length x ≡ s .«image_len» → treeOver H s (filled (s .«block_len») x) ≡ s .root
-      → (filled (s .«block_len») x ≡ take (length (filled (s .«block_len») x)) f) ⊎ Collision (plain H) (imageBlocks (s .«block_len») x) (cut (s .«block_len») f) 0 (shape (countOf s))
-  unfolding treeOver imageBlocks
+      → (filled (s .«block_len») x ≡ take (length (filled (s .«block_len») x)) f) ⊎ Collision (plain H) (imageBlocks (s .«block_len») x) (blocksOf s f) 0 (shape (countOf s))
+  unfolding treeOver blocksOf imageBlocks
   bound-image s f x z rooted lx e = go (binding (plain H) hash-long (cut L (filled L x)) (cut L f) 0 (shape n) (e ∙ sym rooted))
     where
       L : ℕ

@@ -14,7 +14,7 @@ use borrow.Author.Tests.{lt-ltb, le-ltb, eq-eqb}
 use Rattle.merkle.specs.Limits.{hashLength, heldBytes}
 use Rattle.merkle.specs.Shape.{shape, depth}
 use Rattle.merkle.specs.Hash.{plain, hashes}
-use Rattle.merkle.specs.Frontier.{messageLength, frontier, heldCount}
+use Rattle.merkle.specs.Frontier.{frontier, heldCount}
 use Rattle.merkle.specs.Held.{heldIn, begun, advanced, fits}
 use Rattle.merkle.proofs.ShapeLaws.{lt-or-le}
 use Rattle.merkle.proofs.HashLaws.{length-hashes}
@@ -27,16 +27,19 @@ use Rattle.wire.specs.declared.manifest.Manifest.{Manifest}
 use Rattle.wire.specs.Size.{outside}
 use Rattle.wire.specs.Manifest.{written}
 use Rattle.wire.specs.Image.{filled, imageBlocks}
-use Rattle.wire.specs.Message.{manifestBytes, manifestIn, numberIn, blockIn, hashesAfter}
+use Rattle.wire.specs.Geometry.{countOf, blockLength, programLength, withBlock}
+use Rattle.wire.specs.Message.{leastLength, short, manifestBytes, manifestIn, numberIn, blockIn, hashesAfter, dueLength}
+use Rattle.wire.proofs.GeometryLaws.{more-blocks}
 use Rattle.sender.specs.Job.{Job, count, blocks, rootOf, manifestFor, blockFor}
 use Rattle.machine.specs.declared.state.Stage.the-variants.{Loading, Complete}
 use Rattle.machine.specs.declared.state.Device.{Device}
-use Rattle.machine.specs.Device.{countOf, heldBy, Situation}
-use Rattle.machine.specs.Refusals.{wrongVersion, badSize, senseless, short, leastLength, tooSmall, notLoading, nextOf, notNext, wrongLength, withBlock, mismatch}
+use Rattle.machine.specs.Device.{nextOf, heldBy, Situation}
+use Rattle.machine.specs.Flash.{stored}
+use Rattle.machine.specs.Refusals.{wrongVersion, senseless, tooSmall, notLoading, notNext, wrongLength}
 use Rattle.machine.specs.Step.{acceptProgram, stageAfter, acceptBlock, accept, refusalOf}
 use Rattle.guarantee.specs.Demand3.{Sendable}
 use Rattle.machine.proofs.RefusalLaws.{ProgramPassed, NextDue, due-unrefused}
-use Rattle.machine.proofs.FlashLaws.{more-blocks}
+use Rattle.machine.proofs.HeldLaws.{mismatch-is}
 use Rattle.guarantee.proofs.SentLaws.{count-some, count-most, job-length, block-length, root-long, manifest-is, Sent, block-sent}
 
 both-false : (s t : Bool) → s ≡ false → t ≡ false → s || t ≡ false
@@ -54,7 +57,7 @@ module _ (H : List ℕ → List ℕ) (hash-long : (x : List ℕ) → length (H x
     pub manifest : s .device .manifest ≡ manifestFor H job
     pub array : length (s .device .hashes) ≡ heldBytes
     pub holds : heldIn (count (job .image)) j (s .device .hashes) ≡ hashes (plain H) (blocks (job .image)) (frontier 0 (shape (count (job .image))) j)
-    pub room : count (job .image) * job .image .«block_len» ≤ length old
+    pub room : programLength (manifestFor H job) ≤ length old
     pub flash : s .flash ≡ take (j * job .image .«block_len») (filled (job .image .«block_len») (job .image .bytes)) ++ drop (j * job .image .«block_len») old
 
   -- the sender's next block, to a device that loads the job
@@ -66,26 +69,30 @@ module _ (H : List ℕ → List ℕ) (hash-long : (x : List ℕ) → length (H x
     is-sent : Sent H hash-long job ok j (blockFor H (job .image) (suc j))
     is-sent = block-sent H hash-long job ok j below
 
-    matches : fits (plain H) (count (job .image)) j array (blockIn (job .image .«block_len») (blockFor H (job .image) (suc j))) (hashesAfter (job .image .«block_len») (blockFor H (job .image) (suc j))) ≡ true
+    abbrev size : ℕ
+    size = blockLength (job .image .«block_len») (length (job .image .bytes)) (suc j)
+
+    matches : fits (plain H) (count (job .image)) j array (blockIn size (blockFor H (job .image) (suc j))) (hashesAfter size (blockFor H (job .image) (suc j))) ≡ true
     matches = rw (is-sent .block, is-sent .after) (run .accepted)
 
-    is-due : (model : ℕ) (key f : List ℕ) → count (job .image) * job .image .«block_len» ≤ length f → NextDue H valid (loadingAt H job model key j array) f (blockFor H (job .image) (suc j))
-    unfolding senseless short leastLength notLoading tooSmall nextOf notNext wrongLength mismatch wrongVersion badSize outside countOf count loadingAt manifestFor messageLength
+    is-due : (model : ℕ) (key f : List ℕ) → programLength (manifestFor H job) ≤ length f → NextDue H valid (loadingAt H job model key j array) f (blockFor H (job .image) (suc j))
+    unfolding senseless short notLoading tooSmall nextOf notNext wrongLength wrongVersion outside countOf count loadingAt manifestFor dueLength
     is-due model key f room =
         let m : List ℕ = blockFor H (job .image) (suc j) in
         record {
           is = is-sent .is;
           sense = both-false _ _ (ok .size) (both-false (eqb (suc j) 0) _ (eqb·suc-zero j) (le-ltb (count (job .image)) (suc j) (omega arith)));
-          head = le-ltb (length m) 3 (omega (arith, is-sent .size));
+          head = le-ltb (length m) (leastLength Block) (omega (arith, is-sent .size));
           loading = refl;
           area = le-ltb (length f) _ room;
           turn = ap not (eq-eqb (numberIn m) (suc j) (is-sent .number));
           size = ap not (eq-eqb (length m) _ (is-sent .size));
-          same = ap not matches;
+          same = mismatch-is H (loadingAt H job model key j array) j refl below m ∙ ap not matches;
         }
 
   module _ (old : List ℕ) (j : ℕ) (s : Situation) (w : Here old j s) where
-    room-now : count (job .image) * job .image .«block_len» ≤ length (s .flash)
+    room-now : programLength (manifestFor H job) ≤ length (s .flash)
+    unfolding programLength countOf count manifestFor
     room-now =
         let L = job .image .«block_len» in
         let front = length-take-le (j * L) (filled L (job .image .bytes)) (omega (arith, job-length H hash-long job ok, mul-le-mul-right L (w .within))) in
@@ -105,13 +112,13 @@ module _ (H : List ℕ → List ℕ) (hash-long : (x : List ℕ) → length (H x
     pub next-accepted : j < count (job .image) → refusalOf H valid (s .device) (s .flash) (blockFor H (job .image) (suc j)) ≡ none
     next-accepted h = due-unrefused H valid (s .device) (s .flash) (blockFor H (job .image) (suc j)) (next-due h)
 
-    next-flash : j < count (job .image) → withBlock (job .image .«block_len») (s .flash) (suc j) (blockIn (job .image .«block_len») (blockFor H (job .image) (suc j)))
+    next-flash : j < count (job .image) → stored (manifestFor H job) (suc j) (s .flash) (blockFor H (job .image) (suc j))
         ≡ take (suc j * job .image .«block_len») (filled (job .image .«block_len») (job .image .bytes)) ++ drop (suc j * job .image .«block_len») old
-    unfolding blocks imageBlocks
+    unfolding stored manifestFor blocks imageBlocks
     next-flash h =
         let L = job .image .«block_len» in
         ap₂ (λ x b. withBlock L x (suc j) b) (w .flash) (block-sent H hash-long job ok j h .block)
-        ∙ more-blocks L j (filled L (job .image .bytes)) old (omega (arith, job-length H hash-long job ok, mul-le-mul-right L (w .within))) (block-length H hash-long job ok j h)
+        ∙ more-blocks L j (filled L (job .image .bytes)) old (omega (arith, job-length H hash-long job ok, mul-le-mul-right L (w .within))) (unfold blockLength in block-length H hash-long job ok j h)
 
     pub next-here : j < count (job .image) → Here old (suc j) (accept Block (s .device) (s .flash) (blockFor H (job .image) (suc j)))
     next-here h = subst (λ d. Here old (suc j) (accept Block d (s .flash) (blockFor H (job .image) (suc j)))) (sym (is-loading h)) go
@@ -180,6 +187,6 @@ module _ (H : List ℕ → List ℕ) (hash-long : (x : List ℕ) → length (H x
             manifest = refl;
             array = length-begun (manifestFor H job .root) root;
             holds = begun-held (count (job .image)) (manifestFor H job .root) root ∙ (unfold manifestFor rootOf in sym (hashes-zero (plain H) (blocks (job .image)) (shape (count (job .image)))));
-            room = unfold manifestFor countOf count in (rw is at (p .room));
+            room = rw is at (p .room);
             flash = rw (zero-mul (job .image .«block_len»));
           }

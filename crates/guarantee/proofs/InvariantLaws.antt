@@ -1,20 +1,17 @@
 -- What every list of messages keeps, from a fresh device on: the invariant behind demand 3's first half.
-use mathlib.Core.Path.{_≡_, refl, ap, _∙_, subst}
+use mathlib.Core.Path.{_≡_, refl, sym, ap, _∙_, subst}
 use mathlib.Core.Logic.{_⊎_, inl, inr}
-use mathlib.Core.Bool.{Bool, true, false, _||_, cond, true≢false}
+use mathlib.Core.Bool.{Bool, true, false, cond, true≢false}
 use mathlib.Core.List.{List}
 use mathlib.Core.Option.{none, some}
-use Prim.Native.Nat.{ℕ, zero, suc, _+_, _*_, _≤_, _<_}
+use Prim.Native.Nat.{ℕ, zero, suc, _*_, _≤_, _<_}
 use native.Mathlib.Omega.{arith}
 use lib.Dec.{ltb}
-use lib.ListN.{length, drop, length-drop}
-use lib.Seq.{length-take-le}
-use borrow.Author.Tests.{lt-ltb, le-ltb, ne-eqb}
-use Rattle.octets.specs.Octets.{part}
+use lib.ListN.{length}
+use borrow.Author.Tests.{not-false, lt-ltb, le-ltb}
 use Rattle.merkle.specs.Limits.{maxBlocks, hashLength, heldBytes}
-use Rattle.merkle.specs.Blocks.{blockCount, cut}
 use Rattle.merkle.specs.Shape.{shape}
-use Rattle.merkle.specs.Frontier.{carriedCount, messageLength}
+use Rattle.merkle.specs.Frontier.{carriedCount}
 use Rattle.merkle.specs.Held.{heldIn, advanced, fits}
 use Rattle.merkle.specs.Hash.{plain}
 use Rattle.merkle.proofs.ShapeLaws.{lt-or-le, size-shape}
@@ -23,41 +20,37 @@ use Rattle.merkle.proofs.LoadingLaws.{Loaded, loaded-start, loaded-end}
 use Rattle.merkle.proofs.FitsLaws.{loaded-fits}
 use Rattle.wire.specs.declared.kind.Kind.the-variants.{Program, Block, Update}
 use Rattle.wire.specs.declared.manifest.Manifest.{Manifest}
-use Rattle.wire.specs.Size.{wrongSize}
-use Rattle.wire.specs.Manifest.{read}
-use Rattle.wire.specs.Message.{kind, manifestBytes, manifestIn, programSignature, blockIn, hashesAfter, updateNumber, updateBlock, updateSignature}
-use Rattle.wire.proofs.SizeLaws.{Sized, outside-not}
+use Rattle.wire.specs.Geometry.{countOf, blockLength, programLength, blocksOf, withBlock, treeOver}
+use Rattle.wire.specs.Message.{kind, carries, manifestBytes, manifestIn, programSignature, blockIn, hashesAfter, updateNumber, updateBlock, updateSignature, dueLength, leastUpdate}
+use Rattle.wire.proofs.SizeLaws.{Sized}
+use Rattle.wire.proofs.GeometryLaws.{length-with, with-here, with-before}
+use Rattle.wire.proofs.MessageLaws.{length-root, length-block, length-update-block, Due, due}
 use Rattle.machine.specs.declared.state.Stage.{Stage}
 use Rattle.machine.specs.declared.state.Stage.the-variants.{Idle, Loading, Complete}
 use Rattle.machine.specs.declared.state.Device.{Device}
-use Rattle.machine.specs.Device.{countOf, Situation}
-use Rattle.machine.specs.Refusals.{wrongVersion, badSize, senseless, notLoading, notComplete, nextOf, withBlock, updated, treeOver}
+use Rattle.machine.specs.Device.{nextOf, Situation}
+use Rattle.machine.specs.Flash.{stored, updated}
+use Rattle.machine.specs.Refusals.{wrongVersion, senseless, notLoading, notComplete, mismatch}
 use Rattle.machine.specs.Step.{acceptProgram, stageAfter, acceptBlock, acceptUpdate, accept}
 use Rattle.guarantee.specs.Run.{Messages, _▷_, lastProgram, blocksSince, lastCarrier, signatureIn}
 use Rattle.machine.proofs.RefusalLaws.{ProgramPassed, BlockPassed, UpdatePassed, Passed, took-program, took-block, took-update}
 use Rattle.machine.proofs.SenseLaws.{sense-idle, sense-loading, sense-complete}
-use Rattle.machine.proofs.FlashLaws.{length-with, with-here, with-before}
+use Rattle.machine.proofs.HeldLaws.{mismatch-is}
 
 -- what an accepted message of each kind adds to the list of those accepted
 module _ (ms : Messages) (m : List ℕ) where
   pub with-program : kind m ≡ Program → (lastProgram (ms ▷ m) ≡ some (manifestIn m)) × (blocksSince (ms ▷ m) ≡ 0) × (lastCarrier (ms ▷ m) ≡ some m) × (signatureIn m ≡ programSignature m)
-  unfolding lastProgram blocksSince lastCarrier signatureIn
+  unfolding lastProgram blocksSince lastCarrier carries signatureIn
   with-program e = (rw (e, lastProgram), rw (e, blocksSince), rw (e, lastCarrier), rw (e, signatureIn))
 
   pub with-block : kind m ≡ Block → (lastProgram (ms ▷ m) ≡ lastProgram ms) × (blocksSince (ms ▷ m) ≡ suc (blocksSince ms)) × (lastCarrier (ms ▷ m) ≡ lastCarrier ms)
-  unfolding lastProgram blocksSince lastCarrier
+  unfolding lastProgram blocksSince lastCarrier carries
   with-block e = (rw (e, lastProgram), rw (e, blocksSince), rw (e, lastCarrier))
 
   pub with-update : kind m ≡ Update
-      → (lastProgram (ms ▷ m) ≡ lastProgram ms) × (blocksSince (ms ▷ m) ≡ blocksSince ms) × (lastCarrier (ms ▷ m) ≡ some m) × (signatureIn m ≡ updateSignature (manifestIn m .«block_len») m)
-  unfolding lastProgram blocksSince lastCarrier signatureIn
+      → (lastProgram (ms ▷ m) ≡ lastProgram ms) × (blocksSince (ms ▷ m) ≡ blocksSince ms) × (lastCarrier (ms ▷ m) ≡ some m) × (signatureIn m ≡ updateSignature (blockLength (manifestIn m .«block_len») (manifestIn m .«image_len») (updateNumber m)) m)
+  unfolding lastProgram blocksSince lastCarrier carries signatureIn
   with-update e = (rw (e, lastProgram), rw (e, blocksSince), rw (e, lastCarrier), rw (e, signatureIn))
-
-root-length : (m : List ℕ) → 49 ≤ length m → length (manifestIn m .root) ≡ hashLength
-unfolding manifestIn read manifestBytes
-root-length m e =
-    let a : length (part 1 48 m) ≡ 48 = length-take-le 48 (drop 1 m) (rw (length-drop 1 m) (omega arith)) in
-    length-take-le 32 (drop 16 (part 1 48 m)) (rw (length-drop 16 (part 1 48 m)) (omega arith))
 
 module _ (H : List ℕ → List ℕ) (valid : (key message signature : List ℕ) → Bool) (key : List ℕ) where
   -- the last accepted message that carries a manifest has this one, and it was signed
@@ -73,17 +66,17 @@ module _ (H : List ℕ → List ℕ) (valid : (key message signature : List ℕ)
     pub version : wrongVersion s ≡ false
     pub size : Sized (s .«block_len») (s .«image_len»)
     pub array-size : length array ≡ heldBytes
-    pub room : countOf s * s .«block_len» ≤ length flash
+    pub room : programLength s ≤ length flash
     pub carries : Carried taken s
     pub last : lastProgram taken ≡ some s
     pub since : blocksSince taken ≡ k
-    pub loaded : Loaded (plain H) (shape (countOf s)) (s .root) k (cut (s .«block_len») flash) (heldIn (countOf s) k array)
+    pub loaded : Loaded (plain H) (shape (countOf s)) (s .root) k (blocksOf s flash) (heldIn (countOf s) k array)
 
   -- complete; first is the manifest of the last program message, before any update
   pub record InComplete (s : Manifest) (flash : List ℕ) (taken : Messages) : Type 0 where
     pub version : wrongVersion s ≡ false
     pub size : Sized (s .«block_len») (s .«image_len»)
-    pub room : countOf s * s .«block_len» ≤ length flash
+    pub room : programLength s ≤ length flash
     pub carries : Carried taken s
     pub first : Manifest
     pub last : lastProgram taken ≡ some first
@@ -111,7 +104,7 @@ module _ (H : List ℕ → List ℕ) (valid : (key message signature : List ℕ)
     kept-program e p =
         let s : Manifest = manifestIn m in
         let w = with-program taken m e in
-        let lr : length (s .root) ≡ hashLength = root-length m (p .long) in
+        let lr : length (s .root) ≡ hashLength = length-root m (p .long) in
         record {
           same = v .same;
           long = v .long;
@@ -124,25 +117,27 @@ module _ (H : List ℕ → List ℕ) (valid : (key message signature : List ℕ)
             carries = record { carrier = m; last = w .2; manifest = refl; signed = rw (w .3) (rw (v .same) at (p .signed)) };
             last = w .0;
             since = w .1;
-            loaded = rw (begun-held (countOf s) (s .root) lr) (loaded-start (plain H) (shape (countOf s)) (s .root) (cut (s .«block_len») flash));
+            loaded = rw (begun-held (countOf s) (s .root) lr) (loaded-start (plain H) (shape (countOf s)) (s .root) (blocksOf s flash));
           };
         }
 
     -- block k + 1
-    module _ (k : ℕ) (e : kind m ≡ Block) (long : length m ≡ messageLength (d .manifest .«block_len») (countOf (d .manifest)) (suc k))
-        (same : fits (plain H) (countOf (d .manifest)) k (d .hashes) (blockIn (d .manifest .«block_len») m) (hashesAfter (d .manifest .«block_len») m) ≡ true)
-        (w : InLoading k (d .manifest) (d .hashes) flash taken) where
+    module _ (k : ℕ) (e : kind m ≡ Block) (stage : d .stage ≡ Loading (suc k)) (long : length m ≡ dueLength (d .manifest .«block_len») (d .manifest .«image_len») (suc k))
+        (same : mismatch H d (suc k) m ≡ false) (w : InLoading k (d .manifest) (d .hashes) flash taken) where
       abbrev s : Manifest
       s = d .manifest
 
       abbrev n : ℕ
       n = countOf (d .manifest)
 
+      abbrev size : ℕ
+      size = blockLength (d .manifest .«block_len») (d .manifest .«image_len») (suc k)
+
       abbrev block : List ℕ
-      block = blockIn (d .manifest .«block_len») m
+      block = blockIn size m
 
       abbrev message : List ℕ
-      message = hashesAfter (d .manifest .«block_len») m
+      message = hashesAfter size m
 
       abbrev flash' : List ℕ
       flash' = withBlock (d .manifest .«block_len») flash (suc k) block
@@ -154,32 +149,37 @@ module _ (H : List ℕ → List ℕ) (valid : (key message signature : List ℕ)
       unfolding countOf
       few = w .size .count
 
-      block-long : length block ≡ s .«block_len»
-      unfolding blockIn messageLength
-      block-long = length-take-le (s .«block_len») (drop 3 m) (rw (length-drop 3 m) (omega arith))
+      is-due : Due (d .manifest .«block_len») (d .manifest .«image_len») (suc k) m
+      is-due = due _ _ _ _ long
+
+      block-long : length block ≡ size
+      block-long = length-block size m (is-due .long)
 
       message-long : length message ≡ hashLength * carriedCount n (suc k)
-      unfolding hashesAfter messageLength
-      message-long = length-drop (3 + s .«block_len») m ∙ omega arith
+      unfolding countOf
+      message-long = is-due .rest
 
       array-long : length array' ≡ heldBytes
       array-long = advance n k (d .hashes) message (w .below) few (w .array-size) message-long .size
 
       flash-long : length flash' ≡ length flash
-      flash-long = length-with (s .«block_len») n k flash (w .below) (w .room) block block-long
+      flash-long = length-with s k flash (w .below) (w .room) block block-long
 
-      still-loaded : Loaded (plain H) (shape n) (s .root) (suc k) (cut (s .«block_len») flash') (heldIn n (suc k) array')
+      matches : fits (plain H) n k (d .hashes) block message ≡ true
+      matches = not-false _ (sym (mismatch-is H d k stage (w .below) m) ∙ same)
+
+      still-loaded : Loaded (plain H) (shape n) (s .root) (suc k) (blocksOf s flash') (heldIn n (suc k) array')
       still-loaded =
-          let here = with-here (s .«block_len») n k flash (w .below) (w .room) block block-long in
-          loaded-fits (plain H) n k (s .root) (d .hashes) message (cut (s .«block_len») flash) (cut (s .«block_len») flash') (w .below) few (w .array-size) message-long
-          (with-before (s .«block_len») n k flash (w .below) (w .room) block block-long) (rw here same) (w .loaded)
+          let here = with-here s k flash (w .below) (w .room) block block-long in
+          loaded-fits (plain H) n k (s .root) (d .hashes) message (blocksOf s flash) (blocksOf s flash') (w .below) few (w .array-size) message-long
+          (with-before s k flash (w .below) (w .room) block block-long) (rw here matches) (w .loaded)
 
       last-loaded : suc k ≡ n → treeOver H s flash' ≡ s .root
       unfolding treeOver
       last-loaded q =
           let pos : 0 < n = omega arith in
-          let whole = subst (λ x. Loaded (plain H) (shape n) (s .root) x (cut (s .«block_len») flash') (heldIn n x array')) q still-loaded in
-          loaded-end (plain H) (shape n) (s .root) (cut (s .«block_len») flash') (rw (size-shape n pos) (rw (all-held n array' pos) at whole))
+          let whole = subst (λ x. Loaded (plain H) (shape n) (s .root) x (blocksOf s flash') (heldIn n x array')) q still-loaded in
+          loaded-end (plain H) (shape n) (s .root) (blocksOf s flash') (rw (size-shape n pos) (rw (all-held n array' pos) at whole))
 
       carried-on : Carried (taken ▷ m) s
       carried-on = let c = w .carries in record { carrier = c .carrier; last = with-block taken m e .2 ∙ c .last; manifest = c .manifest; signed = c .signed }
@@ -223,26 +223,28 @@ module _ (H : List ℕ → List ℕ) (valid : (key message signature : List ℕ)
               })
 
     kept-block : kind m ≡ Block → BlockPassed H valid d flash m → Kept (acceptBlock d flash m) (taken ▷ m)
-    unfolding acceptBlock nextOf notLoading
+    unfolding acceptBlock stored nextOf notLoading
     kept-block e p = go (d .stage) refl (v .holds)
       where
         go : (t : Stage) → d .stage ≡ t → Holds t (d .manifest) (d .hashes) flash taken → Kept (acceptBlock d flash m) (taken ▷ m)
         go Idle q w = absurd (true≢false (rw q at (p .loading)))
         go (Loading zero) q w = absurd w
         go (Loading (suc k)) q w =
-            rw q (record { same = v .same; long = flash-long k e (rw q at (p .long)) (rw q at (p .same)) w ∙ v .long; holds = next-stage k e (rw q at (p .long)) (rw q at (p .same)) w })
+            let l = rw q at (p .long) in
+            let f = subst (λ i. mismatch H d i m ≡ false) (ap nextOf q) (p .same) in
+            rw q (record { same = v .same; long = flash-long k e q l f w ∙ v .long; holds = next-stage k e q l f w })
         go Complete q w = absurd (true≢false (rw q at (p .loading)))
 
     length-updated : UpdatePassed H valid d flash m → length (updated (manifestIn m) flash m) ≡ length flash
-    unfolding updated
-    length-updated p = go (updateNumber m) (p .turn)
+    unfolding updated leastUpdate
+    length-updated p = go (updateNumber m) (p .turn) (length-update-block _ m (p .long))
       where
-        long : length (updateBlock (manifestIn m .«block_len») m) ≡ manifestIn m .«block_len»
-        long = unfold updateBlock in length-take-le (manifestIn m .«block_len») (drop 51 m) (rw (length-drop 51 m) (omega (arith, p .long)))
+        size : ℕ → ℕ
+        size i = blockLength (manifestIn m .«block_len») (manifestIn m .«image_len») i
 
-        go : (i : ℕ) → (0 < i) × (i ≤ countOf (manifestIn m)) → length (withBlock (manifestIn m .«block_len») flash i (updateBlock (manifestIn m .«block_len») m)) ≡ length flash
-        go zero t = absurd (omega arith)
-        go (suc i) t = length-with (manifestIn m .«block_len») (countOf (manifestIn m)) i flash (t .1) (p .room) (updateBlock (manifestIn m .«block_len») m) long
+        go : (i : ℕ) → (0 < i) × (i ≤ countOf (manifestIn m)) → length (updateBlock (size i) m) ≡ size i → length (withBlock (manifestIn m .«block_len») flash i (updateBlock (size i) m)) ≡ length flash
+        go zero t l = absurd (omega arith)
+        go (suc i) t l = length-with (manifestIn m) i flash (t .1) (p .room) (updateBlock (size (suc i)) m) l
 
     kept-update : kind m ≡ Update → UpdatePassed H valid d flash m → Kept (acceptUpdate d flash m) (taken ▷ m)
     unfolding acceptUpdate notComplete

@@ -3,7 +3,7 @@ use mathlib.Core.Path.{_≡_, refl, ap, sym, subst}
 use mathlib.Core.Bool.{Bool, true, false, not}
 use mathlib.Core.List.{List}
 use mathlib.Core.Option.{none}
-use Prim.Native.Nat.{ℕ, _*_, _≤_, _<_}
+use Prim.Native.Nat.{ℕ, _≤_, _<_}
 use native.Mathlib.Omega.{arith}
 use lib.ListN.{length}
 use borrow.Author.Tests.{lt-ltb, le-ltb, eq-eqb}
@@ -11,12 +11,13 @@ use Rattle.merkle.specs.Limits.{hashLength}
 use Rattle.wire.specs.declared.kind.Kind.the-variants.{Program}
 use Rattle.wire.specs.Refusal.{firstThatApplies}
 use Rattle.wire.specs.Manifest.{written}
-use Rattle.wire.specs.Message.{manifestIn}
+use Rattle.wire.specs.Geometry.{programLength}
+use Rattle.wire.specs.Message.{leastLength, short, manifestIn}
 use Rattle.wire.proofs.MessageLaws.{OfProgram, of-program}
-use Rattle.sender.specs.Job.{Job, count, manifestFor, programFor}
+use Rattle.sender.specs.Job.{Job, manifestFor, programFor}
 use Rattle.machine.specs.declared.state.Device.{Device}
-use Rattle.machine.specs.Device.{countOf, serialOf}
-use Rattle.machine.specs.Refusals.{ofManifest, wrongVersion, badSize, senseless, noKind, short, leastLength, otherModel, notNewer, tooSmall, unsigned, always, ofProgram, ofKind, refusals}
+use Rattle.machine.specs.Device.{serialOf}
+use Rattle.machine.specs.Refusals.{wrongVersion, senseless, noKind, otherModel, notNewer, tooSmall, unsigned, ofManifest, always, ofProgram, ofKind, refusals}
 use Rattle.machine.specs.Step.{refusalOf}
 use Rattle.machine.proofs.RefusalLaws.{start, _past_}
 use Rattle.guarantee.specs.Demand3.{Sendable}
@@ -32,9 +33,9 @@ module _ (H : List ℕ → List ℕ) (hash-long : (x : List ℕ) → length (H x
   is-program = of-program (manifestFor H job) (root-long H hash-long job ok) signature
 
   module _ (d : Device) (flash : List ℕ) (sense : senseless d ≡ false) (model : job .model ≡ d .model) (newer : serialOf d < job .serial)
-      (room : count (job .image) * job .image .«block_len» ≤ length flash) (signed : valid (d .key) (written (manifestFor H job)) signature ≡ true) where
+      (room : programLength (manifestFor H job) ≤ length flash) (signed : valid (d .key) (written (manifestFor H job)) signature ≡ true) where
     pub program-accepted : refusalOf H valid d flash m ≡ none
-    unfolding refusalOf refusals always ofKind ofManifest ofProgram noKind short leastLength wrongVersion badSize otherModel notNewer tooSmall unsigned countOf count manifestFor firstThatApplies
+    unfolding refusalOf refusals always ofKind ofManifest ofProgram noKind short wrongVersion otherModel notNewer tooSmall unsigned manifestFor firstThatApplies
     program-accepted =
         let p = is-program in
         let e : manifestIn m ≡ manifestFor H job = manifest-is H hash-long job ok m (p .manifest) in
@@ -42,7 +43,7 @@ module _ (H : List ℕ → List ℕ) (hash-long : (x : List ℕ) → length (H x
         ((start (refusals H valid Program d flash m)
         past sense
         past refl
-        past le-ltb (length m) 49 (omega (arith, p .size))
+        past le-ltb (length m) (leastLength Program) (omega (arith, p .size))
         past rw e refl
         past rw e (ok .size)
         past rw e (ap not (eq-eqb (job .model) (d .model) model))

@@ -1,16 +1,17 @@
 -- Recovery follows from demand 3, for any step that meets it. For our own step it holds from every state that makes sense, reached or not.
-use mathlib.Core.Path.{_≡_, refl, sym, ap, _∙_, subst}
+use mathlib.Core.Path.{_≡_, refl, sym, ap, _∙_}
 use mathlib.Core.Logic.{_⊎_, inl, inr}
 use mathlib.Core.Bool.{Bool, false, true≢false}
 use mathlib.Core.List.{List}
-use mathlib.Core.Option.{Option, none, some}
+use mathlib.Core.Option.{none, some}
 use Prim.Native.Nat.{ℕ, zero, suc, _≤_, _<_}
 use native.Mathlib.Omega.{arith}
 use lib.ListN.{length}
 use Rattle.merkle.specs.Limits.{hashLength}
 use Rattle.merkle.proofs.ShapeLaws.{lt-or-le}
 use Rattle.wire.specs.declared.manifest.Manifest.{Manifest}
-use Rattle.wire.specs.Message.{kind, manifestIn}
+use Rattle.wire.specs.Geometry.{countOf}
+use Rattle.wire.specs.Message.{manifestIn}
 use Rattle.wire.proofs.SizeLaws.{Sized}
 use Rattle.sender.specs.Job.{Job, count, programFor}
 use Rattle.machine.specs.declared.state.Stage.{Stage}
@@ -18,7 +19,7 @@ use Rattle.machine.specs.declared.state.Stage.the-variants.{Idle, Loading, Comp
 use Rattle.machine.specs.declared.state.Device.{Device}
 use Rattle.machine.specs.declared.state.Answer.{Answer}
 use Rattle.machine.specs.declared.state.Answer.the-variants.{Accepted, Refused}
-use Rattle.machine.specs.Device.{countOf, Fresh, Situation, Outcome}
+use Rattle.machine.specs.Device.{Situation, Outcome}
 use Rattle.machine.specs.Refusals.{wrongVersion, senseless, notLoading, notComplete}
 use Rattle.machine.specs.Step.{answerOf, refusalOf, step}
 use Rattle.machine.proofs.RefusalLaws.{answer-none, Passed, took-program, took-block, took-update, passed}

@@ -8,7 +8,6 @@ use lib.ListN.{length}
 use Rattle.merkle.specs.Limits.{maxBlocks, hashLength}
 use Rattle.merkle.specs.Blocks.{blockCount}
 use Rattle.merkle.specs.Shape.{shape}
-use Rattle.merkle.specs.Frontier.{messageLength}
 use Rattle.merkle.specs.Held.{sent}
 use Rattle.merkle.specs.Hash.{plain}
 use Rattle.merkle.proofs.HashLaws.{length-hash}
@@ -17,7 +16,7 @@ use Rattle.wire.specs.declared.kind.Kind.the-variants.{Block}
 use Rattle.wire.specs.Manifest.{read, written, Fits}
 use Rattle.wire.specs.Geometry.{blockLength}
 use Rattle.wire.specs.Image.{filled}
-use Rattle.wire.specs.Message.{kind, manifestBytes, manifestIn, numberIn, blockIn, hashesAfter}
+use Rattle.wire.specs.Message.{kind, manifestBytes, manifestIn, numberIn, blockIn, hashesAfter, dueLength}
 use Rattle.wire.proofs.SizeLaws.{Sized, sized}
 use Rattle.wire.proofs.ManifestLaws.{read-written}
 use Rattle.wire.proofs.ImageLaws.{length-filled, length-block}
@@ -41,8 +40,8 @@ module _ (H : List ℕ → List ℕ) (hash-long : (x : List ℕ) → length (H x
   unfolding count
   job-length = length-filled (job .image .«block_len») (job .image .bytes) job-sized
 
-  pub block-length : (j : ℕ) → j < count (job .image) → length (blocks (job .image) j) ≡ job .image .«block_len»
-  unfolding count blocks blockLength
+  pub block-length : (j : ℕ) → j < count (job .image) → length (blocks (job .image) j) ≡ blockLength (job .image .«block_len») (length (job .image .bytes)) (suc j)
+  unfolding count blocks
   block-length j h = length-block (job .image .«block_len») (job .image .bytes) job-sized j h
 
   pub root-long : length (manifestFor H job .root) ≡ hashLength
@@ -65,12 +64,12 @@ module _ (H : List ℕ → List ℕ) (hash-long : (x : List ℕ) → length (H x
   pub record Sent (j : ℕ) (m : List ℕ) : Type 0 where
     pub is : kind m ≡ Block
     pub number : numberIn m ≡ suc j
-    pub block : blockIn (job .image .«block_len») m ≡ blocks (job .image) j
-    pub after : hashesAfter (job .image .«block_len») m ≡ sent (plain H) (count (job .image)) (blocks (job .image)) j
-    pub size : length m ≡ messageLength (job .image .«block_len») (count (job .image)) (suc j)
+    pub block : blockIn (blockLength (job .image .«block_len») (length (job .image .bytes)) (suc j)) m ≡ blocks (job .image) j
+    pub after : hashesAfter (blockLength (job .image .«block_len») (length (job .image .bytes)) (suc j)) m ≡ sent (plain H) (count (job .image)) (blocks (job .image)) j
+    pub size : length m ≡ dueLength (job .image .«block_len») (length (job .image .bytes)) (suc j)
 
   pub block-sent : (j : ℕ) → j < count (job .image) → Sent j (blockFor H (job .image) (suc j))
-  unfolding blockFor messageLength
+  unfolding blockFor dueLength count
   block-sent j h =
       let most = count-most in
       let long = block-length j h in

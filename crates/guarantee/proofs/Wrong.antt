@@ -23,13 +23,15 @@ use Rattle.wire.specs.Refusal.{firstThatApplies}
 use Rattle.wire.specs.Size.{allowedLength, wrongSize, outside}
 use Rattle.wire.specs.Manifest.{written, read}
 use Rattle.wire.specs.Image.{filled, imageBlocks}
-use Rattle.wire.specs.Message.{kind, programMessage, blockMessage, updateMessage, manifestBytes, manifestIn, programSignature, numberIn, blockIn, hashesAfter, updateNumber, updateBlock, updateSignature}
+use Rattle.wire.specs.Geometry.{countOf, blockLength, programLength, blocksOf, withBlock, treeOver}
+use Rattle.wire.specs.Message.{kind, carries, short, programMessage, blockMessage, updateMessage, manifestBytes, manifestIn, programSignature, numberIn, blockIn, hashesAfter, updateNumber, updateBlock, updateSignature, dueLength, leastUpdate}
 use Rattle.sender.specs.Job.{Job, count, blocks, rootOf, manifestFor, programFor, blockFor, updateFor}
 use Rattle.machine.specs.declared.state.Stage.the-variants.{Idle, Loading, Complete}
 use Rattle.machine.specs.declared.state.Device.{Device}
 use Rattle.machine.specs.declared.state.Answer.the-variants.{Accepted, Refused}
-use Rattle.machine.specs.Device.{countOf, Fresh, serialOf, heldBy, Situation, Outcome}
-use Rattle.machine.specs.Refusals.{ofManifest, wrongVersion, badSize, senseless, noKind, leastLength, short, otherModel, notNewer, tooSmall, notLoading, notComplete, nextOf, notNext, wrongLength, unlike, withBlock, updated, treeOver, mismatch, lacksRoot, unsigned, always, ofProgram, ofBlock, ofUpdate, ofKind, refusals}
+use Rattle.machine.specs.Device.{Fresh, serialOf, nextOf, heldBy, Situation, Outcome}
+use Rattle.machine.specs.Flash.{stored, updated}
+use Rattle.machine.specs.Refusals.{wrongVersion, senseless, noKind, otherModel, notNewer, tooSmall, notLoading, notComplete, notNext, wrongLength, unlike, mismatch, lacksRoot, unsigned, ofManifest, always, ofProgram, ofBlock, ofUpdate, ofKind, refusals}
 use Rattle.machine.specs.Step.{acceptProgram, stageAfter, acceptBlock, acceptUpdate, accept, answerOf, outcome, refusalOf, step}
 use Rattle.guarantee.specs.Run.{Messages, empty, _▷_, after, answerTo, accepted, lastProgram, blocksSince, lastCarrier, signatureIn, Completed}
 use Rattle.guarantee.specs.Demand3.{thenBlocks, Calls, FirstHalf, Begun, begin, next, SecondHalf, Demand3}
@@ -87,7 +89,7 @@ unfolding blockCount cut size leastFrom depth split build shape hash hashes clim
 tree-computes = 0
 
 wire-computes : ℕ
-unfolding bytes number equal firstThatApplies allowedLength wrongSize outside written read filled imageBlocks kind programMessage blockMessage updateMessage manifestBytes manifestIn programSignature numberIn blockIn hashesAfter updateNumber updateBlock updateSignature
+unfolding bytes number equal firstThatApplies allowedLength wrongSize outside written read filled imageBlocks countOf blockLength programLength blocksOf withBlock treeOver kind carries short programMessage blockMessage updateMessage manifestBytes manifestIn programSignature numberIn blockIn hashesAfter updateNumber updateBlock updateSignature dueLength leastUpdate
 wire-computes = 0
 
 sender-computes : ℕ
@@ -95,11 +97,11 @@ unfolding count blocks rootOf manifestFor programFor blockFor updateFor
 sender-computes = 0
 
 refusals-compute : ℕ
-unfolding countOf serialOf wrongVersion badSize senseless noKind leastLength short otherModel notNewer tooSmall notLoading notComplete nextOf notNext wrongLength unlike treeOver mismatch lacksRoot unsigned always ofManifest ofProgram ofBlock ofUpdate ofKind refusals refusalOf
+unfolding serialOf nextOf heldBy wrongVersion senseless noKind otherModel notNewer tooSmall notLoading notComplete notNext wrongLength unlike mismatch lacksRoot unsigned always ofManifest ofProgram ofBlock ofUpdate ofKind refusals refusalOf
 refusals-compute = 0
 
 run-computes : ℕ
-unfolding heldBy withBlock updated acceptProgram stageAfter acceptBlock acceptUpdate accept outcome step after answerTo accepted lastProgram blocksSince lastCarrier signatureIn answerOf thenBlocks
+unfolding stored updated acceptProgram stageAfter acceptBlock acceptUpdate accept outcome step after answerTo accepted lastProgram blocksSince lastCarrier signatureIn answerOf thenBlocks
 run-computes = 0
 
 computing : ℕ

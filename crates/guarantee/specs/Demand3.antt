@@ -6,7 +6,6 @@ use mathlib.Core.List.{List, [], _++_}
 use mathlib.Core.Option.{none, some}
 use Prim.Native.Nat.{ℕ, zero, suc, _*_, _^_, max, _≤_, _<_}
 use lib.ListN.{length, take, drop}
-use Rattle.merkle.specs.Blocks.{cut}
 use Rattle.merkle.specs.Shape.{shape, depth}
 use Rattle.merkle.specs.Hash.{plain, hashes, Collision}
 use Rattle.merkle.specs.Frontier.{frontier}
@@ -16,14 +15,14 @@ use Rattle.wire.specs.declared.refusal.Refusal.{Refusal}
 use Rattle.wire.specs.Size.{wrongSize}
 use Rattle.wire.specs.Manifest.{written}
 use Rattle.wire.specs.Image.{filled, imageBlocks}
+use Rattle.wire.specs.Geometry.{countOf, programLength, blocksOf, treeOver}
 use Rattle.wire.specs.Message.{kind, manifestBytes, manifestIn}
 use Rattle.sender.specs.Job.{Image, Job, count, blocks, manifestFor, blockFor}
 use Rattle.machine.specs.declared.state.Stage.the-variants.{Idle, Loading, Complete}
 use Rattle.machine.specs.declared.state.Device.{Device}
 use Rattle.machine.specs.declared.state.Answer.{Answer}
 use Rattle.machine.specs.declared.state.Answer.the-variants.{Accepted, Refused}
-use Rattle.machine.specs.Device.{countOf, Fresh, heldBy, Outcome}
-use Rattle.machine.specs.Refusals.{treeOver}
+use Rattle.machine.specs.Device.{Fresh, heldBy, Outcome}
 use Rattle.machine.specs.Step.{answerOf, refusalOf}
 use Rattle.guarantee.specs.Run.{Messages, _▷_, after, answerTo, accepted, lastProgram, blocksSince, lastCarrier, signatureIn, Completed}
 
@@ -69,12 +68,12 @@ module _ (H : List ℕ → List ℕ) (valid : (key message signature : List ℕ)
     -- "signed means that this message's signature over it is valid under the drive's key"
     pub signed : valid (d .key) (manifestBytes carrier) (signatureIn carrier) ≡ true
     -- "the tree over its area has the slip's root", and the area has all of that tree's blocks
-    pub room : countOf s * s .«block_len» ≤ length f
+    pub room : programLength s ≤ length f
     pub rooted : treeOver H s f ≡ s .root
     -- "every image of the same length .. with that root": "filled, it equals the start of the area, or at one place its tree's hash input and the area's differ
     -- and have the same SHA-256"
     pub image : (x : List ℕ) → length x ≡ s .«image_len» → treeOver H s (filled (s .«block_len») x) ≡ s .root
-        → (filled (s .«block_len») x ≡ take (length (filled (s .«block_len») x)) f) ⊎ Collision (plain H) (imageBlocks (s .«block_len») x) (cut (s .«block_len») f) 0 (shape (countOf s))
+        → (filled (s .«block_len») x ≡ take (length (filled (s .«block_len») x)) f) ⊎ Collision (plain H) (imageBlocks (s .«block_len») x) (blocksOf s f) 0 (shape (countOf s))
 
   -- The first half.
   pub record FirstHalf (ms : Messages) : Type 0 where

@@ -1,15 +1,17 @@
 -- Lists of messages, and what a device makes of them (01, 'The list that demand 3 speaks of').
 use mathlib.Core.Path.{_≡_}
+use mathlib.Core.Bool.{cond}
 use mathlib.Core.List.{List, []}
 use mathlib.Core.Option.{Option, none, some}
 use Prim.Native.Nat.{ℕ, suc}
 use Rattle.wire.specs.declared.kind.Kind.the-variants.{Program, Block, Update, Unknown}
 use Rattle.wire.specs.declared.manifest.Manifest.{Manifest}
-use Rattle.wire.specs.Message.{kind, manifestIn, programSignature, updateSignature}
+use Rattle.wire.specs.Geometry.{countOf, blockLength}
+use Rattle.wire.specs.Message.{kind, carries, manifestIn, programSignature, updateNumber, updateSignature}
 use Rattle.machine.specs.declared.state.Device.{Device}
 use Rattle.machine.specs.declared.state.Answer.{Answer}
 use Rattle.machine.specs.declared.state.Answer.the-variants.{Accepted, Refused}
-use Rattle.machine.specs.Device.{countOf, Situation, Outcome}
+use Rattle.machine.specs.Device.{Situation, Outcome}
 
 -- A list as it grows: empty, or a beginning of it and one message more.
 infixl 25 _▷_
@@ -45,11 +47,18 @@ blocksSince (ms ▷ m) = elim (kind m) [ Program ↦ 0 | Block ↦ suc (blocksSi
 -- and the last message that carries a manifest.
 unfoldable pub lastCarrier : Messages → Option (List ℕ)
 lastCarrier empty = none
-lastCarrier (ms ▷ m) = elim (kind m) [ Program ↦ some m | Block ↦ lastCarrier ms | Update ↦ some m | Unknown ↦ lastCarrier ms ]
+lastCarrier (ms ▷ m) = cond (carries (kind m)) (some m) (lastCarrier ms)
 
 -- the signature of a message that carries a manifest
 unfoldable pub signatureIn : List ℕ → List ℕ
-signatureIn m = elim (kind m) [ Program ↦ programSignature m | Block ↦ [] | Update ↦ updateSignature (manifestIn m .«block_len») m | Unknown ↦ [] ]
+signatureIn m =
+    let s = manifestIn m in
+    elim (kind m) [
+      | Program ↦ programSignature m
+      | Block ↦ []
+      | Update ↦ updateSignature (blockLength (s .«block_len») (s .«image_len») (updateNumber m)) m
+      | Unknown ↦ []
+    ]
 
 -- "Complete: the list has an accepted kind 1, and since the last of these as many kind 2 messages were accepted as its slip has blocks."
 pub record Completed (taken : Messages) : Type 0 where

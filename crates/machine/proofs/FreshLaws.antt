@@ -1,9 +1,8 @@
--- A device as `fresh` makes it is fresh, with any model and key: the list that demand 3 speaks of starts there.
+-- A device as `freshWith` makes it is fresh.
 use mathlib.Core.Path.{refl}
-use mathlib.Core.List.{List}
-use Prim.Native.Nat.{ℕ}
-use Rattle.machine.specs.Device.{Fresh, freshWith}
+use Rattle.machine.specs.Device.{freshWith}
+use Rattle.machine.specs.Claims.{FreshIs}
 
-pub fresh-is : (model : ℕ) (key : List ℕ) → Fresh (freshWith model key)
+pub fresh-is : FreshIs
 unfolding freshWith
 fresh-is model key = record { idle = refl; array = refl }

@@ -1,6 +1,6 @@
 pub mod FreshLaws
 pub mod RefusalLaws
+pub mod HeldLaws
 pub mod SenseLaws
 pub mod SerialLaws
 pub mod OrderLaws
-pub mod FlashLaws

@@ -3,28 +3,28 @@ use mathlib.Core.Path.{_≡_, refl, sym, _∙_, subst}
 use mathlib.Core.Bool.{Bool, true, false, _||_, cond, true≢false}
 use mathlib.Core.List.{List, [], _∷_, _++_}
 use mathlib.Core.Option.{Option, none, some}
-use Prim.Native.Nat.{ℕ, pred, _+_, _*_, _≤_, _<_}
+use Prim.Native.Nat.{ℕ, _+_, _≤_, _<_}
 use native.Mathlib.Omega.{arith}
 use lib.Dec.{eqb}
 use lib.ListN.{length}
 use borrow.Author.Tests.{eqb-true, ltb-false, not-false}
 use Rattle.octets.proofs.EqualLaws.{equal-true}
-use Rattle.merkle.specs.Frontier.{messageLength}
-use Rattle.merkle.specs.Held.{fits}
-use Rattle.merkle.specs.Hash.{plain}
 use Rattle.wire.specs.declared.kind.Kind.{Kind}
 use Rattle.wire.specs.declared.kind.Kind.the-variants.{Program, Block, Update, Unknown}
 use Rattle.wire.specs.declared.refusal.Refusal.{Refusal}
 use Rattle.wire.specs.declared.refusal.Refusal.the-variants as refusal
 use Rattle.wire.specs.Refusal.{refusalNumber, firstThatApplies}
-use Rattle.wire.specs.Message.{kind, manifestBytes, manifestIn, programSignature, blockIn, hashesAfter, updateNumber, updateSignature}
+use Rattle.wire.specs.Size.{wrongSize}
+use Rattle.wire.specs.Geometry.{countOf, blockLength, programLength, treeOver}
+use Rattle.wire.specs.Message.{kind, leastLength, short, manifestBytes, manifestIn, programSignature, updateNumber, updateSignature, dueLength, leastUpdate}
 use Rattle.wire.proofs.SizeLaws.{Sized, sized, or-false, inside}
 use Rattle.machine.specs.declared.state.Stage.{Stage}
 use Rattle.machine.specs.declared.state.Stage.the-variants.{Idle, Loading, Complete}
 use Rattle.machine.specs.declared.state.Device.{Device}
 use Rattle.machine.specs.declared.state.Answer.the-variants.{Accepted, Refused}
-use Rattle.machine.specs.Device.{countOf}
-use Rattle.machine.specs.Refusals.{wrongVersion, badSize, senseless, notNewer, noKind, short, leastLength, tooSmall, notLoading, notComplete, nextOf, notNext, wrongLength, updated, treeOver, mismatch, lacksRoot, unsigned, ofManifest, always, ofProgram, ofBlock, ofUpdate, ofKind, refusals}
+use Rattle.machine.specs.Device.{nextOf}
+use Rattle.machine.specs.Flash.{updated}
+use Rattle.machine.specs.Refusals.{wrongVersion, senseless, notNewer, noKind, tooSmall, notLoading, notComplete, notNext, wrongLength, mismatch, lacksRoot, unsigned, ofManifest, always, ofProgram, ofBlock, ofUpdate, ofKind, refusals}
 use Rattle.machine.specs.Step.{answerOf, refusalOf}
 
 -- The test of a refusal; one that the list lacks never applies.
@@ -89,7 +89,8 @@ in-piece (f ∷ fs) rest {r} a = go (f .1) refl (in-piece fs rest)
 
 -- A device that makes sense and is loading, at block i.
 pub record Awaits (d : Device) (i : ℕ) : Type 0 where
-  pub size : badSize (d .manifest) ≡ false
+  pub stage : d .stage ≡ Loading i
+  pub size : wrongSize (d .manifest .«block_len») (d .manifest .«image_len») ≡ false
   pub low : 0 < i
   pub high : i ≤ countOf (d .manifest)
 
@@ -100,37 +101,37 @@ awaits d {i} e q is = go (d .stage) refl
     go : (t : Stage) → d .stage ≡ t → Awaits d i
     go Idle z = absurd (true≢false (rw z at q))
     go (Loading j) z =
-        let a = or-false (wrongVersion (d .manifest) || badSize (d .manifest)) _ (rw z at e) in
+        let a = or-false (wrongVersion (d .manifest) || wrongSize (d .manifest .«block_len») (d .manifest .«image_len»)) _ (rw z at e) in
         let b = or-false (wrongVersion (d .manifest)) _ (a .0) in
         let k = inside _ _ (a .1) in
-        rw (is, z) (record { size = b .1; low = k .0; high = k .1 })
+        rw (is, z) (record { stage = refl; size = b .1; low = k .0; high = k .1 })
     go Complete z = absurd (true≢false (rw z at q))
 
 module _ (H : List ℕ → List ℕ) (valid : (key message signature : List ℕ) → Bool) (d : Device) (flash m : List ℕ) where
   pub record ProgramPassed : Type 0 where
-    pub long : 49 ≤ length m
+    pub long : leastLength Program ≤ length m
     pub version : wrongVersion (manifestIn m) ≡ false
     pub size : Sized (manifestIn m .«block_len») (manifestIn m .«image_len»)
     pub newer : notNewer d (manifestIn m) ≡ false
-    pub room : countOf (manifestIn m) * manifestIn m .«block_len» ≤ length flash
+    pub room : programLength (manifestIn m) ≤ length flash
     pub signed : valid (d .key) (manifestBytes m) (programSignature m) ≡ true
 
   pub record BlockPassed : Type 0 where
     pub awaited : Awaits d (nextOf (d .stage))
     pub loading : notLoading (d .stage) ≡ false
-    pub room : countOf (d .manifest) * d .manifest .«block_len» ≤ length flash
-    pub long : length m ≡ messageLength (d .manifest .«block_len») (countOf (d .manifest)) (nextOf (d .stage))
-    pub same : fits (plain H) (countOf (d .manifest)) (pred (nextOf (d .stage))) (d .hashes) (blockIn (d .manifest .«block_len») m) (hashesAfter (d .manifest .«block_len») m) ≡ true
+    pub room : programLength (d .manifest) ≤ length flash
+    pub long : length m ≡ dueLength (d .manifest .«block_len») (d .manifest .«image_len») (nextOf (d .stage))
+    pub same : mismatch H d (nextOf (d .stage)) m ≡ false
 
   pub record UpdatePassed : Type 0 where
     pub complete : notComplete (d .stage) ≡ false
     pub version : wrongVersion (manifestIn m) ≡ false
     pub size : Sized (manifestIn m .«block_len») (manifestIn m .«image_len»)
     pub newer : notNewer d (manifestIn m) ≡ false
-    pub room : countOf (manifestIn m) * manifestIn m .«block_len» ≤ length flash
+    pub room : programLength (manifestIn m) ≤ length flash
     pub turn : (0 < updateNumber m) × (updateNumber m ≤ countOf (manifestIn m))
-    pub long : 51 + manifestIn m .«block_len» ≤ length m
-    pub signed : valid (d .key) (manifestBytes m) (updateSignature (manifestIn m .«block_len») m) ≡ true
+    pub long : leastUpdate (manifestIn m .«block_len») (manifestIn m .«image_len») (updateNumber m) ≤ length m
+    pub signed : valid (d .key) (manifestBytes m) (updateSignature (blockLength (manifestIn m .«block_len») (manifestIn m .«image_len») (updateNumber m)) m) ≡ true
     pub rooted : treeOver H (manifestIn m) (updated (manifestIn m) flash m) ≡ manifestIn m .root
 
   -- what is known of an accepted message, by its kind
@@ -156,10 +157,10 @@ module _ (H : List ℕ → List ℕ) (valid : (key message signature : List ℕ)
   without r k e a = clear r (refusals H valid k d flash m) (subst (λ x. firstThatApplies (refusals H valid x d flash m) ≡ none) e a)
 
   pub program-passed : kind m ≡ Program → refusalOf H valid d flash m ≡ none → ProgramPassed
-  unfolding refusals always ofKind ofManifest ofProgram testOf short leastLength badSize tooSmall unsigned
+  unfolding refusals always ofKind ofManifest ofProgram testOf short tooSmall unsigned
   program-passed k a =
       record {
-        long = ltb-false (length m) 49 (without refusal.Short Program k a);
+        long = ltb-false (length m) (leastLength Program) (without refusal.Short Program k a);
         version = without refusal.Version Program k a;
         size = sized _ _ (without refusal.Size Program k a);
         newer = without refusal.Serial Program k a;
@@ -168,18 +169,18 @@ module _ (H : List ℕ → List ℕ) (valid : (key message signature : List ℕ)
       }
 
   pub block-passed : kind m ≡ Block → refusalOf H valid d flash m ≡ none → BlockPassed
-  unfolding refusals always ofKind ofBlock testOf tooSmall wrongLength mismatch
+  unfolding refusals always ofKind ofBlock testOf tooSmall wrongLength
   block-passed k a =
       record {
         awaited = awaits d (without refusal.State Block k a) (without refusal.Stage Block k a) refl;
         loading = without refusal.Stage Block k a;
         room = ltb-false _ _ (without refusal.Area Block k a);
         long = eqb-true _ _ (not-false _ (without refusal.Length Block k a));
-        same = not-false _ (without refusal.Mismatch Block k a);
+        same = without refusal.Mismatch Block k a;
       }
 
   pub update-passed : kind m ≡ Update → refusalOf H valid d flash m ≡ none → UpdatePassed
-  unfolding refusals always ofKind ofManifest ofUpdate testOf badSize tooSmall unsigned lacksRoot
+  unfolding refusals always ofKind ofManifest ofUpdate testOf tooSmall unsigned lacksRoot
   update-passed k a =
       record {
         complete = without refusal.Stage Update k a;

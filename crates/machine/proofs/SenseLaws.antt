@@ -7,11 +7,11 @@ use borrow.Author.Tests.{ne-eqb, le-ltb}
 use Rattle.merkle.specs.Limits.{maxBlocks}
 use Rattle.merkle.specs.Blocks.{blockCount}
 use Rattle.wire.specs.Size.{wrongSize}
+use Rattle.wire.specs.Geometry.{countOf}
 use Rattle.wire.proofs.SizeLaws.{Sized, outside-not}
 use Rattle.machine.specs.declared.state.Stage.the-variants.{Idle, Loading, Complete}
 use Rattle.machine.specs.declared.state.Device.{Device}
-use Rattle.machine.specs.Device.{countOf}
-use Rattle.machine.specs.Refusals.{wrongVersion, badSize, senseless}
+use Rattle.machine.specs.Refusals.{wrongVersion, senseless}
 
 not-wrong : (L T : ℕ) → Sized L T → wrongSize L T ≡ false
 unfolding wrongSize
@@ -23,8 +23,7 @@ module _ (d : Device) where
   sense-idle e = rw (e, senseless)
 
   module _ (version : wrongVersion (d .manifest) ≡ false) (size : Sized (d .manifest .«block_len») (d .manifest .«image_len»)) where
-    whole : wrongVersion (d .manifest) || badSize (d .manifest) ≡ false
-    unfolding badSize
+    whole : wrongVersion (d .manifest) || wrongSize (d .manifest .«block_len») (d .manifest .«image_len») ≡ false
     whole = rw (version, not-wrong (d .manifest .«block_len») (d .manifest .«image_len») size)
 
     pub sense-loading : (k : ℕ) → d .stage ≡ Loading (suc k) → k < countOf (d .manifest) → senseless d ≡ false

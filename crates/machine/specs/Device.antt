@@ -4,16 +4,12 @@ use mathlib.Core.List.{List, []}
 use Prim.Native.Nat.{ℕ, pred}
 use lib.ListN.{length, replicate}
 use Rattle.merkle.specs.Limits.{hashLength, heldBytes}
-use Rattle.merkle.specs.Blocks.{blockCount}
 use Rattle.merkle.specs.Held.{heldIn}
-use Rattle.wire.specs.declared.manifest.Manifest.{Manifest}
+use Rattle.wire.specs.Geometry.{countOf}
+use Rattle.machine.specs.declared.state.Stage.{Stage}
 use Rattle.machine.specs.declared.state.Stage.the-variants.{Idle, Loading, Complete}
 use Rattle.machine.specs.declared.state.Device.{Device}
 use Rattle.machine.specs.declared.state.Answer.{Answer}
-
--- n, from the manifest alone
-unfoldable pub countOf : Manifest → ℕ
-countOf s = blockCount (s .«block_len») (s .«image_len»)
 
 -- "A fresh drive is idle."
 pub record Fresh (d : Device) : Type 0 where
@@ -35,7 +31,11 @@ freshWith model key =
 unfoldable pub serialOf : Device → ℕ
 serialOf d = elim (d .stage) [ Idle ↦ 0 | Loading i ↦ d .manifest .serial | Complete ↦ d .manifest .serial ]
 
--- the hashes held: "it follows from slip and next number"
+-- the next number of a device that is loading
+unfoldable pub nextOf : Stage → ℕ
+nextOf t = elim t [ Idle ↦ 0 | Loading i ↦ i | Complete ↦ 0 ]
+
+-- the hashes held, in block order; how many "follows from slip and next number"
 unfoldable pub heldBy : Device → List (List ℕ)
 heldBy d = elim (d .stage) [ Idle ↦ [] | Loading i ↦ heldIn (countOf (d .manifest)) (pred i) (d .hashes) | Complete ↦ [] ]
 

@@ -1,4 +1,6 @@
 pub mod Device
+pub mod Flash
 pub mod Refusals
 pub mod Step
 pub mod Readers
+pub mod Claims

@@ -1,11 +1,11 @@
 -- What a caller reads of an answer and of a device (01, 'Bundle and loader').
 use Prim.Native.Nat.{ℕ, pred}
 use Rattle.wire.specs.Refusal.{refusalNumber}
+use Rattle.wire.specs.Geometry.{countOf}
 use Rattle.machine.specs.declared.state.Stage.the-variants.{Idle, Loading, Complete}
 use Rattle.machine.specs.declared.state.Device.{Device}
 use Rattle.machine.specs.declared.state.Answer.{Answer}
 use Rattle.machine.specs.declared.state.Answer.the-variants.{Accepted, Refused}
-use Rattle.machine.specs.Device.{countOf}
 
 -- "0 if accepted or the refusal number"
 abbrev pub numberOf : Answer → ℕ

@@ -9,17 +9,19 @@ use Rattle.wire.specs.declared.kind.Kind.{Kind}
 use Rattle.wire.specs.declared.kind.Kind.the-variants as kinds
 use Rattle.wire.specs.declared.refusal.Refusal.{Refusal}
 use Rattle.wire.specs.Refusal.{firstThatApplies}
-use Rattle.wire.specs.Message.{kind, manifestIn, blockIn, hashesAfter}
+use Rattle.wire.specs.Geometry.{countOf, blockLength}
+use Rattle.wire.specs.Message.{kind, manifestIn, hashesAfter}
 use Rattle.machine.specs.declared.state.Stage.{Stage}
 use Rattle.machine.specs.declared.state.Stage.the-variants.{Loading, Complete}
 use Rattle.machine.specs.declared.state.Device.{Device}
 use Rattle.machine.specs.declared.state.Answer.{Answer}
 use Rattle.machine.specs.declared.state.Answer.the-variants.{Accepted, Refused}
-use Rattle.machine.specs.Device.{countOf, Situation, Outcome}
-use Rattle.machine.specs.Refusals.{nextOf, withBlock, updated, refusals}
+use Rattle.machine.specs.Device.{nextOf, Situation, Outcome}
+use Rattle.machine.specs.Flash.{stored, updated}
+use Rattle.machine.specs.Refusals.{refusals}
 
 -- "Accepting kind 1 makes the stage loading at block 1; the area is not written."
-unfoldable pub acceptProgram : Device → List ℕ → List ℕ → Situation
+unfoldable pub acceptProgram : Device → (flash m : List ℕ) → Situation
 acceptProgram d flash m =
     let s = manifestIn m in
     record { device = record { model = d .model; key = d .key; stage = Loading 1; manifest = s; hashes = begun (s .root) }; flash = flash }
@@ -29,10 +31,11 @@ unfoldable pub stageAfter : ℕ → ℕ → Stage
 stageAfter n i = cond (ltb i n) (Loading (suc i)) Complete
 
 -- "Accepting kind 2 writes block i to its place and nothing else; the message's labels take the place of that held label, the other held labels stay"
-unfoldable pub acceptBlock : Device → List ℕ → List ℕ → Situation
+unfoldable pub acceptBlock : Device → (flash m : List ℕ) → Situation
 acceptBlock d flash m =
     let s = d .manifest in
     let i = nextOf (d .stage) in
+    let hashes = hashesAfter (blockLength (s .«block_len») (s .«image_len») i) m in
     record {
       device =
           record {
@@ -40,18 +43,18 @@ acceptBlock d flash m =
             key = d .key;
             stage = stageAfter (countOf s) i;
             manifest = s;
-            hashes = advanced (countOf s) (pred i) (d .hashes) (hashesAfter (s .«block_len») m);
+            hashes = advanced (countOf s) (pred i) (d .hashes) hashes;
           };
-      flash = withBlock (s .«block_len») flash i (blockIn (s .«block_len») m);
+      flash = stored s i flash m;
     }
 
 -- "Accepting kind 3 writes that one block and replaces the slip."
-unfoldable pub acceptUpdate : Device → List ℕ → List ℕ → Situation
+unfoldable pub acceptUpdate : Device → (flash m : List ℕ) → Situation
 acceptUpdate d flash m =
     let s = manifestIn m in
     record { device = record { model = d .model; key = d .key; stage = d .stage; manifest = s; hashes = d .hashes }; flash = updated s flash m }
 
-unfoldable pub accept : Kind → Device → List ℕ → List ℕ → Situation
+unfoldable pub accept : Kind → Device → (flash m : List ℕ) → Situation
 accept k d flash m =
     elim k [
       | kinds.Program ↦ acceptProgram d flash m
@@ -74,8 +77,8 @@ outcome r d flash then =
 
 module _ (H : List ℕ → List ℕ) (valid : (key message signature : List ℕ) → Bool) where
   -- the first refusal that applies, if any
-  unfoldable pub refusalOf : Device → List ℕ → List ℕ → Option Refusal
+  unfoldable pub refusalOf : Device → (flash m : List ℕ) → Option Refusal
   refusalOf d flash m = firstThatApplies (refusals H valid (kind m) d flash m)
 
-  unfoldable pub step : Device → List ℕ → List ℕ → Outcome
+  unfoldable pub step : Device → (flash m : List ℕ) → Outcome
   step d flash m = outcome (refusalOf d flash m) d flash (accept (kind m) d flash m)

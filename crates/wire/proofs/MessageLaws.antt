@@ -7,18 +7,18 @@ use native.Mathlib.Omega.{arith}
 use lib.Dec.{eqb}
 use lib.ListN.{length, take, drop, getD, length-append, length-drop}
 use lib.Seq.{take-at, drop-at}
-use Rattle.octets.specs.Octets.{bytes, number}
+use Rattle.octets.specs.Octets.{Bytes, bytes, number}
 use Rattle.octets.proofs.CopyLaws.{length-part}
-use Rattle.octets.proofs.NumberLaws.{length-bytes, number-back}
+use Rattle.octets.proofs.NumberLaws.{length-bytes, part-bytes, number-back}
 use Rattle.merkle.specs.Limits.{hashLength}
 use Rattle.merkle.specs.Blocks.{blockCount}
 use Rattle.merkle.specs.Frontier.{carriedCount}
 use Rattle.wire.specs.declared.kind.Kind.the-variants.{Program, Block, Update, Unknown}
 use Rattle.wire.specs.declared.manifest.Manifest.{Manifest}
-use Rattle.wire.specs.Manifest.{manifestLength, written}
+use Rattle.wire.specs.Manifest.{manifestLength, written, read, Fits}
 use Rattle.wire.specs.Geometry.{blockLength}
-use Rattle.wire.specs.Message.{kind, kindLength, numberLength, leastLength, programMessage, blockMessage, updateMessage, manifestBytes, programSignature, numberIn, blockIn, hashesAfter, updateNumber, updateBlock, updateSignature, dueLength}
-use Rattle.wire.proofs.ManifestLaws.{length-written}
+use Rattle.wire.specs.Message.{kind, kindLength, numberLength, leastLength, programMessage, blockMessage, updateMessage, manifestBytes, manifestIn, programSignature, numberIn, blockIn, hashesAfter, updateNumber, updateBlock, updateSignature, dueLength}
+use Rattle.wire.proofs.ManifestLaws.{length-written, read-fits}
 
 pub kind-none : (m : List ℕ) → length m ≡ 0 → Unknown ≡ kind m
 unfolding kind
@@ -34,6 +34,15 @@ kind-first (x ∷ m) n = refl
 pub length-manifest : (m : List ℕ) → leastLength Program ≤ length m → length (manifestBytes m) ≡ manifestLength
 unfolding manifestBytes
 length-manifest m h = length-part m kindLength manifestLength h
+
+pub length-root : (m : List ℕ) → leastLength Program ≤ length m → length (manifestIn m .root) ≡ hashLength
+unfolding manifestIn read
+length-root m h = length-part (manifestBytes m) 16 hashLength (omega (arith, length-manifest m h))
+
+-- a manifest that is read from bytes has fields that fit theirs
+pub manifest-fits : (m : List ℕ) → Bytes m → leastLength Program ≤ length m → Fits (manifestIn m)
+unfolding manifestIn manifestBytes
+manifest-fits m bytes h = read-fits (manifestBytes m) (length-manifest m h) (part-bytes m bytes kindLength manifestLength h)
 
 module _ (k : ℕ) (m : List ℕ) where
   pub length-block : leastLength Block + k ≤ length m → length (blockIn k m) ≡ k
@@ -150,6 +159,15 @@ unfolding dueLength
 due-length L T i c pos e =
     let z : i - 1 + 1 ≡ i = omega arith in
     ap (λ (x : ℕ). leastLength Block + blockLength L T i + hashLength * x) (e ∙ ap (carriedCount (blockCount L T)) z)
+
+-- a block message of its due length: the block, and room for its hashes alone
+pub record Due (L T i : ℕ) (m : List ℕ) : Type 0 where
+  pub long : leastLength Block + blockLength L T i ≤ length m
+  pub rest : length (hashesAfter (blockLength L T i) m) ≡ hashLength * carriedCount (blockCount L T) i
+
+pub due : (L T i : ℕ) (m : List ℕ) → length m ≡ dueLength L T i → Due L T i m
+unfolding dueLength
+due L T i m e = record { long = omega arith; rest = length-hashes (blockLength L T i) m ∙ omega arith }
 
 -- a block message up to its hashes, and with them
 pub block-start : (i : ℕ) (block : List ℕ) → 2 ∷ (bytes numberLength i ++ block) ≡ blockMessage i block []

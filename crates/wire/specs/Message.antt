@@ -1,5 +1,5 @@
 -- The messages (01, 'Slip, messages, state'): what each kind consists of, where each part of a received one stands, and how long a message must be.
-use mathlib.Core.Bool.{Bool, cond}
+use mathlib.Core.Bool.{Bool, true, false, cond}
 use mathlib.Core.List.{List, [], _∷_, _++_}
 use Prim.Native.Nat.{ℕ, _+_, _*_}
 use lib.Dec.{eqb, ltb}
@@ -18,6 +18,10 @@ use Rattle.wire.specs.Geometry.{blockLength}
 unfoldable pub kind : List ℕ → Kind
 kind [] = Unknown
 kind (k ∷ m) = cond (eqb k 1) Program (cond (eqb k 2) Block (cond (eqb k 3) Update Unknown))
+
+-- whether messages of a kind carry a manifest
+unfoldable pub carries : Kind → Bool
+carries k = elim k [ Program ↦ true | Block ↦ false | Update ↦ true | Unknown ↦ false ]
 
 -- "number i (2 bytes ..)"
 abbrev pub kindLength : ℕ

@@ -1,7 +1,7 @@
 use Prim.Native.Nat.{_+_, _-_, _≤_}
 use native.Mathlib.Omega.{arith}
 use Rattle.merkle.specs.Limits.{maxBlocks}
-use Rattle.device.proofs.ConditionLaws.{sound}
+use Rattle.wire.proofs.SizeLaws.{sized}
 use Rattle.bundle.proofs.RunLaws.{Looping, looping-start, looping-end, out-kept, line-fits, one-more, stopped, all-blocks, rerun, few-blocks}
 use borrow.Author.Needs.{needs}
 use Rattle.bundle.proofs.run.blocks.Statement.{statement}
@@ -22,16 +22,16 @@ cast-block-count : tie.Need-cast-block-count Inv-loop μ-loop
 cast-block-count c = search needs
 
 block-count-requires : tie.Need-block-count-requires Inv-loop μ-loop
-block-count-requires c κs = let z = sound _ (c .before .before .before .before .before .before .pre .0) in (omega (arith, z .least), omega (arith, z .some))
+block-count-requires c κs = let z = sized _ _ (c .before .before .before .before .before .before .pre .0) in (omega (arith, z .least), omega (arith, z .some))
 
 loop-holds : tie.Need-loop-holds Inv-loop μ-loop
 loop-holds c = looping-start _ _ _ _ _ _ _
 
 message-len-requires : tie.Need-message-len-requires Inv-loop μ-loop
 message-len-requires c κs =
-    let z = sound _ (c .before .before .before .before .before .before .before .before .before .pre .0) in
+    let z = sized _ _ (c .before .before .before .before .before .before .before .before .before .pre .0) in
     let l = c .before .loop in
-    (omega (arith, z .most), l .inv .first, omega arith, few-blocks _ (c .before .before .before .before .before .before .before .before .before .pre .0) (c .before .before .block-count .ensures))
+    (omega (arith, z .most), l .inv .first, omega arith, few-blocks _ _ (c .before .before .before .before .before .before .before .before .before .pre .0) (c .before .before .block-count .ensures))
 
 cut-requires : tie.Need-cut-requires Inv-loop μ-loop
 cut-requires c κs = c .before .before .loop .inv .inside
@@ -59,7 +59,7 @@ put-message-requires c κs =
     let l = c .before .before .before .before .before .before .before .before .before .before .before .before .loop in
     let s = c .before .before .before .before .before .before .before .before .before .before .before .before .before .before .before .before .before .before .before .before in
     let n = c .before .before .before .before .before .before .before .before .before .before .before .before .before .block-count in
-    let few : n .result ≤ maxBlocks = few-blocks _ (s .pre .0) (n .ensures) in
+    let few : n .result ≤ maxBlocks = few-blocks _ _ (s .pre .0) (n .ensures) in
     line-fits _ _ _ _ _ _ _ (l .inv) (l .inv .last) few (s .pre .1) _ (omega (arith, c .before .before .before .before .before .before .before .before .before .before .before .loop-test .taken)) (omega arith)
 
 enum-told : tie.Need-enum-told Inv-loop μ-loop
@@ -76,7 +76,7 @@ same-length-2 c =
     let l = c .before .before .before .before .before .before .before .before .before .before .before .before .before .before .before .before .before .loop in
     let s = c .before .before .before .before .before .before .before .before .before .before .before .before .before .before .before .before .before .before .before .before .before .before .before .before .before in
     let n = c .before .before .before .before .before .before .before .before .before .before .before .before .before .before .before .before .before .before .block-count in
-    let few : n .result ≤ maxBlocks = few-blocks _ (s .pre .0) (n .ensures) in
+    let few : n .result ≤ maxBlocks = few-blocks _ _ (s .pre .0) (n .ensures) in
     omega (arith, out-kept _ _ _ _ _ _ _ (l .inv) (l .inv .last) few (s .pre .1))
 
 returns : tie.Need-returns Inv-loop μ-loop
@@ -84,7 +84,7 @@ returns c =
     let l = c .before .before .before .before .before .before .before .before .before .before .before .before .before .before .before .before .before .loop in
     let s = c .before .before .before .before .before .before .before .before .before .before .before .before .before .before .before .before .before .before .before .before .before .before .before .before .before in
     let n = c .before .before .before .before .before .before .before .before .before .before .before .before .before .before .before .before .before .before .block-count in
-    let few : n .result ≤ maxBlocks = few-blocks _ (s .pre .0) (n .ensures) in
+    let few : n .result ≤ maxBlocks = few-blocks _ _ (s .pre .0) (n .ensures) in
     let r = stopped _ _ _ _ _ _ _ (l .inv) (omega (arith, c .before .before .before .before .before .before .before .before .before .before .before .before .before .before .before .before .loop-test .taken)) few (s .pre .1) _ _ _ (c .before .before .before .before .before .before .before .before .before .before .before .before .before .before .before .message-len .ensures) (c .before .before .before .before .before .before .before .before .before .before .before .before .before .before .cut .ensures) (c .before .before .before .before .before .before .before .before .before .before .before .receive .ensures) _
     (c .before .before .before .before .before .answer-number .ensures) (omega arith) (c .before .before .before .before .put-message .ensures) _ (c .enum-told2 .given .1) in
     (rerun (all-blocks _ _ _ (n .ensures)) (r .0), r .1)
@@ -94,7 +94,7 @@ add-number c =
     let l = c .before .before .before .before .before .before .before .before .before .before .before .before .before .before .before .before .before .loop in
     let s = c .before .before .before .before .before .before .before .before .before .before .before .before .before .before .before .before .before .before .before .before .before .before .before .before .before in
     let n = c .before .before .before .before .before .before .before .before .before .before .before .before .before .before .before .before .before .before .block-count in
-    let few : n .result ≤ maxBlocks = few-blocks _ (s .pre .0) (n .ensures) in
+    let few : n .result ≤ maxBlocks = few-blocks _ _ (s .pre .0) (n .ensures) in
     omega (arith, c .before .before .before .before .before .before .before .before .before .before .before .before .before .before .before .before .loop-test .taken)
 
 loop-less : tie.Need-loop-less Inv-loop μ-loop
@@ -105,7 +105,7 @@ loop-again c =
     let l = c .before .before .before .before .before .before .before .before .before .before .before .before .before .before .before .before .before .loop in
     let s = c .before .before .before .before .before .before .before .before .before .before .before .before .before .before .before .before .before .before .before .before .before .before .before .before .before in
     let n = c .before .before .before .before .before .before .before .before .before .before .before .before .before .before .before .before .before .before .block-count in
-    let few : n .result ≤ maxBlocks = few-blocks _ (s .pre .0) (n .ensures) in
+    let few : n .result ≤ maxBlocks = few-blocks _ _ (s .pre .0) (n .ensures) in
     one-more _ _ _ _ _ _ _ (l .inv) (omega (arith, c .before .before .before .before .before .before .before .before .before .before .before .before .before .before .before .before .loop-test .taken)) few (s .pre .1) _ _ _ (c .before .before .before .before .before .before .before .before .before .before .before .before .before .before .before .message-len .ensures) (c .before .before .before .before .before .before .before .before .before .before .before .before .before .before .cut .ensures) (c .before .before .before .before .before .before .before .before .before .before .before .receive .ensures) _
     (c .before .before .before .before .before .answer-number .ensures) (omega arith) (c .before .before .before .before .put-message .ensures) (omega arith) (c .enum-told .given .1)
 
@@ -117,7 +117,7 @@ same-length-4 c =
     let l = c .before .loop in
     let s = c .before .before .before .before .before .before .before .before .before in
     let n = c .before .before .block-count in
-    let few : n .result ≤ maxBlocks = few-blocks _ (s .pre .0) (n .ensures) in
+    let few : n .result ≤ maxBlocks = few-blocks _ _ (s .pre .0) (n .ensures) in
     out-kept _ _ _ _ _ _ _ (l .inv) (l .inv .last) few (s .pre .1)
 
 returns-2 : tie.Need-returns-2 Inv-loop μ-loop
@@ -125,7 +125,7 @@ returns-2 c =
     let l = c .before .loop in
     let s = c .before .before .before .before .before .before .before .before .before in
     let n = c .before .before .block-count in
-    let few : n .result ≤ maxBlocks = few-blocks _ (s .pre .0) (n .ensures) in
+    let few : n .result ≤ maxBlocks = few-blocks _ _ (s .pre .0) (n .ensures) in
     let r = looping-end _ _ _ _ _ _ _ (l .inv) (omega arith) few in
     (rerun (all-blocks _ _ _ (n .ensures)) (r .0), r .1)
 

@@ -1,12 +1,13 @@
 use mathlib.Core.Path.{ap, _∙_}
-use Prim.Native.Nat.{_+_, _-_, _*_, _≤_, _<_}
+use Prim.Native.Nat.{_+_, _-_, _≤_, _<_}
 use native.Mathlib.Omega.{arith}
 use lib.ListN.{length}
-use Rattle.octets.proofs.CopyLaws.{length-part, part-between}
 use Rattle.sha256.specs.Sha256.{digest}
 use Rattle.lms.specs.Lms.{valid}
-use Rattle.wire.specs.Message.{manifestIn, updateNumber}
-use Rattle.machine.specs.Device.{countOf}
+use Rattle.wire.specs.declared.kind.Kind.the-variants.{Update}
+use Rattle.wire.specs.Geometry.{countOf}
+use Rattle.wire.specs.Message.{leastLength, leastUpdate}
+use Rattle.wire.proofs.MessageLaws.{length-update-block}
 use Rattle.machine.proofs.RefusalLaws.{UpdatePassed, update-passed}
 use Rattle.device.proofs.ConditionLaws.{room}
 use Rattle.device.proofs.AcceptLaws.{update-is}
@@ -17,61 +18,54 @@ use Rattle.device.proofs.accept.accept_update.Tie as tie
 accepted : (c : tie.Start) → UpdatePassed digest valid (c .args .device) (c .args .flash .now) (c .args .message .now)
 accepted c = update-passed digest valid _ _ _ (c .pre .0) (c .pre .1)
 
--- manifest and number, as the code reads them
-long : (c : tie.After-manifest-in) → 51 + c .manifest-in .result .«block_len» ≤ length (c .before .before .before .args .message .now)
-long c = rw (c .manifest-in .ensures) (accepted (c .before .before .before) .long)
+-- the new block is there, as the code measures it
+long : (c : tie.After-block-len) → leastLength Update + c .block-len .result ≤ length (c .before .before .before .before .before .args .message .now)
+unfolding leastUpdate
+long c = rw (c .block-len .ensures, c .before .update-number .ensures, c .before .before .manifest-in .ensures) (accepted (c .before .before .before .before .before) .long)
 
 manifest-in-requires : tie.Need-manifest-in-requires
+unfolding leastUpdate
 manifest-in-requires c κs = let l = accepted (c .before .before) .long in omega arith
 
-cast-len : tie.Need-cast-len
-cast-len c = search needs
+update-number-requires : tie.Need-update-number-requires
+unfolding leastUpdate
+update-number-requires c κs = let l = accepted (c .before .before .before) .long in omega arith
 
-add-end : tie.Need-add-end
-add-end c = search needs
+block-len-requires : tie.Need-block-len-requires
+block-len-requires c κs = search needs
 
-u16-at-requires : tie.Need-u16-at-requires
-u16-at-requires c κs = let l = accepted (c .before .before .before .before .before) .long in omega arith
+cast-write-block : tie.Need-cast-write-block
+cast-write-block c = search needs
 
-sub-write-block : tie.Need-sub-write-block
-sub-write-block c = search needs
-
-part-write-block-start : tie.Need-part-write-block-start
-part-write-block-start c = search needs
-
-part-write-block-end : tie.Need-part-write-block-end
-part-write-block-end c = let l = long (c .before .before .before) in search needs
+update-block-requires : tie.Need-update-block-requires
+update-block-requires c κs = long (c .before .before)
 
 write-block-requires : tie.Need-write-block-requires
-unfolding updateNumber
 write-block-requires c κs =
-    let s = c .before .before .before .before in
-    let m = s .before .before .before .args .message .now in
-    let p = accepted (s .before .before .before) in
-    let n = s .manifest-in .result .«block_len» in
-    let l = ap length (part-between m 51 n) ∙ length-part m 51 n (long s) in
-    let i : (0 < c .before .u16-at .result) × (c .before .u16-at .result ≤ countOf (manifestIn m)) = rw (c .before .u16-at .ensures) (p .turn) in
-    let r : (c .before .u16-at .result - 1) * n + n ≤ length (s .before .before .before .args .flash .now) = rw (s .manifest-in .ensures) (room (manifestIn m) (s .before .before .before .args .flash .now) _ (p .room) (i .0) (i .1)) in
-    (i .0, omega (arith, l, r))
+    let k = c .before .before .before in
+    let i = k .before .update-number .result in
+    let s = k .before .before .manifest-in .result in
+    let g = k .before .before .before .before .before .args in
+    let p = accepted (k .before .before .before .before .before) in
+    let turn : (0 < i) × (i ≤ countOf s) = rw (k .before .update-number .ensures, k .before .before .manifest-in .ensures) (p .turn) in
+    let l = ap length (c .update-block .ensures) ∙ length-update-block _ (g .message .now) (long k) ∙ k .block-len .ensures in
+    (turn .0, omega (arith, l, room s (g .flash .now) i (rw (k .before .before .manifest-in .ensures) (p .room)) (turn .0) (turn .1)))
 
 same-length : tie.Need-same-length
 same-length c = search needs
 
 returns : tie.Need-returns
-unfolding updateNumber
-returns c = update-is _ _ _ (c .before .before .before .before .before .before .before .manifest-in .ensures) (c .before .before .before .before .u16-at .ensures) (c .before .before .write-block .ensures)
+returns c = update-is _ _ _ (c .before .before .before .before .before .before .before .before .manifest-in .ensures) (c .before .before .before .before .before .before .before .update-number .ensures) (c .before .before .before .before .before .before .block-len .ensures) (c .before .before .before .update-block .ensures) (c .before .before .write-block .ensures)
 
 pub accept-update-spec : {M : Type 1} → statement M
 accept-update-spec =
     tie.close
     (tie.spec
     manifest-in-requires
-    cast-len
-    add-end
-    u16-at-requires
-    sub-write-block
-    part-write-block-start
-    part-write-block-end
+    update-number-requires
+    block-len-requires
+    cast-write-block
+    update-block-requires
     write-block-requires
     same-length
     returns)

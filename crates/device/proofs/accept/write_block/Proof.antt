@@ -1,4 +1,5 @@
-use Rattle.machine.specs.Refusals.{withBlock}
+use mathlib.Core.Path.{_∙_}
+use Rattle.wire.proofs.GeometryLaws.{with-copied}
 use Rattle.device.proofs.ConditionLaws.{before-is}
 use borrow.Author.Needs.{needs}
 use Rattle.device.proofs.accept.write_block.Statement.{statement}
@@ -17,8 +18,9 @@ same-length : tie.Need-same-length
 same-length c = search needs
 
 returns : tie.Need-returns
-unfolding withBlock
-returns c = rw (← before-is (c .before .before .before .before .before .before .args .number)) (c .before .before .copy .ensures)
+returns c =
+    let a = c .before .before .before .before .before .before .args in
+    rw (before-is (a .number)) at (c .before .before .copy .ensures) ∙ with-copied (a .len) (a .flash .now) (a .number) (a .block .now)
 
 pub write-block-spec : {M : Type 1} → statement M
 write-block-spec = tie.close (tie.spec sub-copy mul-copy copy-requires same-length returns)

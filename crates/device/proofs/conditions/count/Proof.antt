@@ -1,6 +1,6 @@
 use native.Mathlib.Omega.{arith}
-use Rattle.machine.specs.Device.{countOf}
-use Rattle.device.proofs.ConditionLaws.{sound}
+use Rattle.wire.specs.Geometry.{countOf}
+use Rattle.wire.proofs.SizeLaws.{sized}
 use borrow.Author.Needs.{needs}
 use Rattle.device.proofs.conditions.count.Statement.{statement}
 use Rattle.device.proofs.conditions.count.Tie as tie
@@ -12,7 +12,7 @@ cast-block-count-2 : tie.Need-cast-block-count-2
 cast-block-count-2 c = search needs
 
 block-count-requires : tie.Need-block-count-requires
-block-count-requires c κs = let z = sound _ (c .before .before .pre) in (omega arith, z .some)
+block-count-requires c κs = let z = sized _ _ (c .before .before .pre) in (omega arith, z .some)
 
 returns : tie.Need-returns
 unfolding countOf

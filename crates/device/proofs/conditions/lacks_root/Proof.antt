@@ -34,7 +34,7 @@ returns c =
     let n = e .before in
     let s = n .before .before .before .before .before in
     let z = inside _ _ (s .pre .2) in
-    lacks-is digest (s .args .manifest) (s .args .flash .now) (s .args .block .now) (s .args .number) (n .count .result) (e .root-with .result) _ (s .pre .1) (z .0) (z .1)
+    lacks-is (s .args .manifest) (s .args .flash .now) digest (s .args .block .now) (s .args .number) (n .count .result) (e .root-with .result) _ (s .pre .1) (z .0) (z .1)
     (n .count .ensures) (s .pre .3) (e .root-with .ensures) (c .equal .ensures)
 
 pub lacks-root-spec : {M : Type 1} → statement M

@@ -1,4 +1,4 @@
-use Rattle.machine.specs.Refusals.{nextOf}
+use Rattle.machine.specs.Device.{nextOf}
 use borrow.Author.Needs.{needs}
 use Rattle.device.proofs.conditions.next_of.Statement.{statement}
 use Rattle.device.proofs.conditions.next_of.Tie as tie

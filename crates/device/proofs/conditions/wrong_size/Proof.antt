@@ -1,4 +1,3 @@
-use Rattle.machine.specs.Refusals.{badSize}
 use borrow.Author.Needs.{needs}
 use Rattle.device.proofs.conditions.wrong_size.Statement.{statement}
 use Rattle.device.proofs.conditions.wrong_size.Tie as tie
@@ -13,7 +12,6 @@ wrong-size-requires : tie.Need-wrong-size-requires
 wrong-size-requires c κs = search needs
 
 returns : tie.Need-returns
-unfolding badSize
 returns c = c .wrong-size .ensures
 
 pub wrong-size-spec : {M : Type 1} → statement M

@@ -5,7 +5,8 @@ use Prim.Native.Nat.{ℕ}
 use Rattle.sha256.specs.Sha256.{digest}
 use Rattle.wire.specs.declared.refusal.Refusal.{Refusal}
 use Rattle.wire.specs.declared.refusal.Refusal.the-variants as refusal
-use Rattle.machine.specs.Refusals.{nextOf, ofBlock}
+use Rattle.machine.specs.Device.{nextOf}
+use Rattle.machine.specs.Refusals.{ofBlock}
 use Rattle.machine.proofs.RefusalLaws.{Passes, start, _past_, Awaits, awaits}
 use Rattle.device.proofs.JudgeLaws.{behind, retold, refused, accepted}
 use borrow.Author.Needs.{needs}
@@ -74,9 +75,7 @@ unfolding ofBlock behind
 returns-4 c = refused (turn (c .before .before)) (sym (c .before .wrong-length .ensures) ∙ c .if4 .taken)
 
 mismatch-requires : tie.Need-mismatch-requires
-mismatch-requires c κs =
-    let w = awaited (c .before .before .before .before .before .before .before) in
-    (w .size, w .low, w .high, sym (c .before .wrong-length .ensures) ∙ c .if4 .left)
+mismatch-requires c κs = let n = c .before .before .before .before .before .before .before in (n .before .before .before .before .before .pre .0, awaited n .stage, sym (c .before .wrong-length .ensures) ∙ c .if4 .left)
 
 returns-5 : tie.Need-returns-5
 unfolding ofBlock behind

@@ -1,12 +1,12 @@
-use mathlib.Core.Path.{sym, ap, _∙_}
+use mathlib.Core.Path.{_≡_, sym, ap, ap₂, _∙_}
 use mathlib.Core.Bool.{Bool}
 use mathlib.Core.List.{List}
 use Rattle.lms.specs.Lms.{valid}
 use Rattle.wire.specs.declared.manifest.Manifest.{Manifest}
 use Rattle.wire.specs.declared.refusal.Refusal.{Refusal}
 use Rattle.wire.specs.declared.refusal.Refusal.the-variants as refusal
-use Rattle.wire.specs.Message.{manifestIn, programSignature}
-use Rattle.machine.specs.Refusals.{ofManifest, ofProgram}
+use Rattle.wire.specs.Message.{manifestBytes, manifestIn, programSignature}
+use Rattle.machine.specs.Refusals.{unsigned, ofManifest, ofProgram}
 use Rattle.machine.proofs.RefusalLaws.{Passes, _past_}
 use Rattle.device.proofs.JudgeLaws.{behind, retold, refused, accepted, refused-in, past-all, size-passed}
 use borrow.Author.Needs.{needs}
@@ -27,11 +27,17 @@ Past r c = Passes (tests (c .before .before .before) (manifestIn (c .before .bef
 
 serial : (c : tie.After-enum-told) → Past refusal.Serial (c .before .before .before)
 unfolding ofProgram ofManifest behind
-serial c = let j = c .before .before in past-all (ofManifest (j .before .before .before .before .args .device) (j .before .manifest-in .result)) _ (read-is (j .before)) (sym (c .enum-told .given .1) ∙ j .judge-manifest .ensures)
+serial c =
+    let j = c .before .before in
+    past-all (ofManifest (j .before .before .before .before .args .device) (j .before .manifest-in .result)) _ (read-is (j .before)) (sym (c .enum-told .given .1) ∙ j .judge-manifest .ensures)
 
 area : (c : tie.Else1) → Past refusal.Area (c .before .before .before .before .before)
 unfolding ofProgram ofManifest behind
 area c = serial (c .before .before) past (sym (c .before .too-small .ensures) ∙ c .if1 .left)
+
+-- the verdict on manifest and signature, as they stand in the message
+verdict : (c : tie.After-unsigned) → c .unsigned .result ≡ unsigned valid (c .before .before .before .before .before .before .before .before .before .before .before .args .device) (manifestBytes (c .before .before .before .before .before .before .before .before .before .before .before .args .message .now)) (programSignature (c .before .before .before .before .before .before .before .before .before .before .before .args .message .now))
+verdict c = c .unsigned .ensures ∙ ap₂ (unsigned valid _) (c .before .before .manifest-bytes .ensures) (c .before .program-signature .ensures)
 
 manifest-in-requires : tie.Need-manifest-in-requires
 manifest-in-requires c κs = search needs
@@ -59,16 +65,22 @@ returns-2 : tie.Need-returns-2
 unfolding ofProgram ofManifest behind
 returns-2 c = refused (serial (c .before .before)) (sym (c .before .too-small .ensures) ∙ c .if1 .taken)
 
+manifest-bytes-requires : tie.Need-manifest-bytes-requires
+manifest-bytes-requires c κs = search needs
+
+program-signature-requires : tie.Need-program-signature-requires
+program-signature-requires c κs = search needs
+
 unsigned-requires : tie.Need-unsigned-requires
 unsigned-requires c κs = search needs
 
 returns-3 : tie.Need-returns-3
-unfolding ofProgram ofManifest behind programSignature
-returns-3 c = refused (area (c .before .before)) (sym (c .before .unsigned .ensures) ∙ c .if2 .taken)
+unfolding ofProgram ofManifest behind
+returns-3 c = refused (area (c .before .before .before .before)) (sym (verdict (c .before)) ∙ c .if2 .taken)
 
 returns-4 : tie.Need-returns-4
-unfolding ofProgram ofManifest behind programSignature
-returns-4 c = accepted (area (c .before .before) past (sym (c .before .unsigned .ensures) ∙ c .if2 .left))
+unfolding ofProgram ofManifest behind
+returns-4 c = accepted (area (c .before .before .before .before) past (sym (verdict (c .before)) ∙ c .if2 .left))
 
 pub judge-program-spec : {M : Type 1} → statement M
 judge-program-spec =
@@ -81,6 +93,8 @@ judge-program-spec =
     returns
     too-small-requires
     returns-2
+    manifest-bytes-requires
+    program-signature-requires
     unsigned-requires
     returns-3
     returns-4)

@@ -3,7 +3,7 @@ use Prim.Native.Nat.{ℕ}
 use native.Mathlib.Nat.{div-zero, div-eq-of-lt}
 use native.Mathlib.Omega.{arith}
 use Rattle.merkle.specs.Blocks.{blockCount}
-use Rattle.machine.specs.Device.{countOf}
+use Rattle.wire.specs.Geometry.{countOf}
 use Rattle.machine.specs.Readers.{acceptedBlocks}
 use Rattle.device.proofs.ConditionLaws.{before-is}
 use borrow.Author.Needs.{needs}

@@ -1,0 +1,35 @@
+-- What is shown of the device's definitions (in proofs/).
+use mathlib.Core.Path.{_≡_}
+use mathlib.Core.Bool.{Bool, true}
+use mathlib.Core.List.{List, [], _∷_}
+use mathlib.Core.Option.{none}
+use Prim.Native.Nat.{ℕ}
+use Rattle.octets.specs.Octets.{Bytes}
+use Rattle.wire.specs.declared.kind.Kind.the-variants.{Program, Block, Update}
+use Rattle.wire.specs.declared.refusal.Refusal.{Refusal}
+use Rattle.wire.specs.Refusal.{refusalNumber}
+use Rattle.wire.specs.Message.{kind, carries}
+use Rattle.machine.specs.declared.state.Device.{Device}
+use Rattle.machine.specs.Device.{Fresh, freshWith, serialOf}
+use Rattle.machine.specs.Refusals.{refusals}
+use Rattle.machine.specs.Step.{refusalOf}
+
+-- A device as `freshWith` makes it is fresh, with any model and key: the list that demand 3 speaks of starts there.
+abbrev pub FreshIs : Type 0
+FreshIs = (model : ℕ) (key : List ℕ) → Fresh (freshWith model key)
+
+-- the refusals of a list, by the document's numbers
+unfoldable pub numbers : List (Refusal × Bool) → List ℕ
+numbers [] = []
+numbers (e ∷ es) = refusalNumber (e .0) ∷ numbers es
+
+module _ (H : List ℕ → List ℕ) (valid : (key message signature : List ℕ) → Bool) (d : Device) (flash m : List ℕ) where
+  -- "Order, first that applies: always 1, 2, 3; then kind 1: 4, 5, 6, 7, 8, 9. Kind 2: 10, 8, 11, 12, 14. Kind 3: 10, 4, 5, 6, 7, 13, 8, 11, 12, 9, 14."
+  pub record Orders : Type 0 where
+    pub program : numbers (refusals H valid Program d flash m) ≡ 1 ∷ 2 ∷ 3 ∷ 4 ∷ 5 ∷ 6 ∷ 7 ∷ 8 ∷ 9 ∷ []
+    pub block : numbers (refusals H valid Block d flash m) ≡ 1 ∷ 2 ∷ 3 ∷ 10 ∷ 8 ∷ 11 ∷ 12 ∷ 14 ∷ []
+    pub update : numbers (refusals H valid Update d flash m) ≡ 1 ∷ 2 ∷ 3 ∷ 10 ∷ 4 ∷ 5 ∷ 6 ∷ 7 ∷ 13 ∷ 8 ∷ 11 ∷ 12 ∷ 9 ∷ 14 ∷ []
+
+  -- "The serial is compared as a plain number and has no wrap: after 4,294,967,295 no slip is accepted."
+  abbrev pub LastSerial : Type 0
+  LastSerial = Bytes m → serialOf d ≡ 4294967295 → carries (kind m) ≡ true → refusalOf H valid d flash m ≡ none → ⊥
