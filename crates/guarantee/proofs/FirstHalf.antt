@@ -32,6 +32,7 @@ use Rattle.guarantee.specs.Run.{Messages, lastProgram, blocksSince, last
 use Rattle.guarantee.specs.Demand3.{Bound, FirstHalf}
 use Rattle.machine.proofs.RefusalLaws.{passed}
 use Rattle.guarantee.proofs.InvariantLaws.{Carried, InComplete, Holds, Invariant, kept}
+use Rattle.guarantee.proofs.BeyondLaws.{beyond}
 use Rattle.guarantee.proofs.RunLaws.{now, taken, every-list}
 
 module _ (H : List ℕ → List ℕ) (hash-long : (x : List ℕ) → length (H x) ≡ hashLength) where
@@ -146,5 +147,6 @@ module _ (H : List ℕ → List ℕ) (hash-long : (x : List ℕ) → length (H x
         idle = stage-idle H valid d (at .device .stage) (at .device .manifest) (at .device .hashes) (at .flash) list holds;
         loading = stage-loading H valid d (at .device .stage) (at .device .manifest) (at .device .hashes) (at .flash) list holds;
         one = invariant H valid d flash fresh ms .long;
+        beyond = beyond H valid d flash ms;
         bound = bound;
       }

@@ -1,5 +1,6 @@
 pub mod InvariantLaws
 pub mod RunLaws
+pub mod BeyondLaws
 pub mod FirstHalf
 pub mod SentLaws
 pub mod ProgramLaws
@@ -7,4 +8,5 @@ pub mod HonestLaws
 pub mod SecondHalf
 pub mod Demand3Holds
 pub mod RecoveryHolds
+pub mod PowerLossHolds
 pub mod Wrong

@@ -6,7 +6,7 @@ use mathlib.Core.Option.{none, some}
 use Prim.Native.Nat.{ℕ, suc}
 use native.Mathlib.Omega.{arith}
 use lib.Dec.{ltb, lit<}
-use lib.ListN.{length, take, drop, replicate, length-append, length-replicate}
+use lib.ListN.{length, set, take, drop, replicate, length-append, length-replicate}
 use lib.Seq.{length-take-le}
 use Rattle.octets.specs.Octets.{bytes, number, joined, equal}
 use Rattle.octets.proofs.EqualLaws.{equal-self}
@@ -291,6 +291,59 @@ hasty-caught h =
     let z : _≡_ {A = ℕ} 9 3 = ap (λ (s : Situation). number (take 1 (s .flash))) r in
     omega arith
 
+-- It overwrites a byte behind the program when it takes an update.
+smearing : Step
+smearing = byKind right right (λ d f m. let o = right d f m in record { answer = o .answer; device = o .device; flash = set (o .flash) 128 0 })
+
+smearing-caught : FirstHalf toy any smearing fresh flash loaded → ⊥
+unfolding computing smearing
+smearing-caught h =
+    let z : _≡_ {A = ℕ} 0 5 = ap (λ (l : List ℕ). number (take 1 l)) (h .beyond (updateFor toy newer 2 [])) in
+    omega arith
+
+-- It lengthens the flash by a byte.
+growing : Step
+growing = byKind (λ d f m. let o = right d f m in record { answer = o .answer; device = o .device; flash = f ++ (0 ∷ []) }) right right
+
+growing-caught : FirstHalf toy any growing fresh flash (empty ▷ program) → ⊥
+unfolding computing growing
+growing-caught h =
+    let z : _≡_ {A = ℕ} 131 130 = h .one in
+    omega arith
+
+-- It changes its model, or its key, when it takes a manifest.
+loadingWith : (model : ℕ) (key m : List ℕ) → Device
+loadingWith model key m = record { model = model; key = key; stage = Loading 1; manifest = manifestIn m; hashes = begun (manifestIn m .root) }
+
+turning : Step
+turning = byKind (λ d f m. but (right d f m) (loadingWith 8 (d .key) m)) right right
+
+turning-caught : Calls toy any turning fresh flash (empty ▷ program) → ⊥
+unfolding computing turning loadingWith
+turning-caught h =
+    let z : _≡_ {A = ℕ} 8 7 = h .model in
+    omega arith
+
+rekeying : Step
+rekeying = byKind (λ d f m. but (right d f m) (loadingWith (d .model) (1 ∷ []) m)) right right
+
+rekeying-caught : Calls toy any rekeying fresh flash (empty ▷ program) → ⊥
+unfolding computing rekeying loadingWith
+rekeying-caught h =
+    let z : _≡_ {A = ℕ} 1 0 = ap (λ (l : List ℕ). length l) (h .key) in
+    omega arith
+
+-- It stores a block with another first byte. The toy hash does not look at that, so the root is right, and only the honest run shows it.
+garbling : Step
+garbling = byKind right (λ d f m. let o = right d f m in record { answer = o .answer; device = o .device; flash = set (o .flash) 0 9 }) right
+
+garbling-caught : SecondHalf toy any garbling fresh flash loaded → ⊥
+unfolding computing garbling
+garbling-caught h =
+    let r = h .loads job empty program 2 (begun-by garbling refl) (next (lit< tt) (next (lit< tt) begin)) .done refl .image in
+    let z : _≡_ {A = ℕ} 9 3 = ap (λ (l : List ℕ). number (take 1 l)) r in
+    omega arith
+
 -- None of them meets demand 3; the right device does, with the same hash function and verdict.
 is-fresh : Fresh fresh
 unfolding computing
@@ -303,6 +356,10 @@ toy-long x = ap suc (length-take-le 31 (drop 32 x ++ replicate 31 0) (omega (ari
 meets : Demand3 toy any right
 unfolding right
 meets = demand3-for toy toy-long any
+
+-- and with the verdict at which the trusting device is refuted
+meets-nobody : Demand3 toy nobody (step toy nobody)
+meets-nobody = demand3-for toy toy-long nobody
 
 none-meets : (Demand3 toy any careless → ⊥)
     × (Demand3 toy any blind → ⊥)
@@ -318,6 +375,11 @@ none-meets : (Demand3 toy any careless → ⊥)
     × (Demand3 toy any skipping → ⊥)
     × (Demand3 toy any closed → ⊥)
     × (Demand3 toy any hasty → ⊥)
+    × (Demand3 toy any smearing → ⊥)
+    × (Demand3 toy any growing → ⊥)
+    × (Demand3 toy any turning → ⊥)
+    × (Demand3 toy any rekeying → ⊥)
+    × (Demand3 toy any garbling → ⊥)
 none-meets = (
   λ c. careless-caught (c fresh is-fresh flash _ .first),
   λ c. blind-caught (c fresh is-fresh flash _ .first),
@@ -333,4 +395,9 @@ none-meets = (
   λ c. skipping-caught (c fresh is-fresh flash _ .second),
   λ c. closed-caught (c fresh is-fresh flash _ .calls),
   λ c. hasty-caught (c fresh is-fresh flash _ .calls),
+  λ c. smearing-caught (c fresh is-fresh flash _ .first),
+  λ c. growing-caught (c fresh is-fresh flash _ .first),
+  λ c. turning-caught (c fresh is-fresh flash _ .calls),
+  λ c. rekeying-caught (c fresh is-fresh flash _ .calls),
+  λ c. garbling-caught (c fresh is-fresh flash _ .second),
 )

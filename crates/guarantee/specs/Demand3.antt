@@ -86,6 +86,8 @@ module _ (H : List ℕ → List ℕ) (valid : (key message signature : List ℕ)
         → deviceAfter ms .stage ≡ Loading (suc (blocksSince (acceptedOf ms)))
     -- "The area is one throughout"
     pub one : length (flashAfter ms) ≡ length flash
+    -- "bytes beyond are never written": one message more leaves those behind the program of the manifest that the device then has
+    pub beyond : (m : List ℕ) → (let s = deviceAfter (ms ▷ m) .manifest in drop (programLength s) (flashAfter (ms ▷ m)) ≡ drop (programLength s) (flashAfter ms))
     pub bound : Completed (acceptedOf ms) → Bound (acceptedOf ms) (deviceAfter ms .manifest) (flashAfter ms)
 
   -- "an accepted kind 1 carried exactly the slip that demand 2 has the sender write for an image": message m, after the messages `before`

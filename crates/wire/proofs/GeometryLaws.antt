@@ -1,12 +1,12 @@
 -- A program's blocks in the flash: where they end, and a block written to its place.
-use mathlib.Core.Path.{_≡_, sym, ap, ap₂, _∙_}
+use mathlib.Core.Path.{_≡_, refl, sym, ap, ap₂, _∙_}
 use mathlib.Core.Bool.{false}
 use mathlib.Core.List.{List, _++_}
-use Prim.Native.Nat.{ℕ, suc, pred, _+_, _*_, _≤_, _<_}
+use Prim.Native.Nat.{ℕ, suc, pred, _+_, _-_, _*_, _≤_, _<_}
 use native.Mathlib.Nat.{le-refl, mul-le-mul-right}
 use native.Mathlib.Omega.{arith}
-use lib.ListN.{length, take, drop, length-drop}
-use lib.Seq.{paste, length-paste, length-take-le, take-at, drop-at, take-length, drop-drop}
+use lib.ListN.{length, take, drop, length-drop, length-append}
+use lib.Seq.{paste, length-paste, drop-paste, length-take-le, take-at, drop-at, take-length, drop-drop}
 use Rattle.merkle.specs.Blocks.{cut, overlay}
 use Rattle.merkle.proofs.BlockLaws.{overlay-same, overlay-other, take-blocks, written}
 use Rattle.wire.specs.declared.manifest.Manifest.{Manifest}
@@ -35,9 +35,21 @@ module _ (s : Manifest) (i : ℕ) (flash : List ℕ) (below : i < countOf s) (ro
   abbrev long : ℕ
   long = blockLength L (s .«image_len») (suc i)
 
-  pub block-end : i * L + long ≤ length flash
+  pub block-within : i * L + long ≤ programLength s
   unfolding blockLength programLength
-  block-end = let m : suc i * L ≤ countOf s * L = mul-le-mul-right L below in omega arith
+  block-within = let m : suc i * L ≤ countOf s * L = mul-le-mul-right L below in omega arith
+
+  pub block-end : i * L + long ≤ length flash
+  block-end = omega (arith, block-within)
+
+  -- only the last block may be shorter than L; it ends with the program
+  pub block-full : suc i < countOf s → long ≡ L
+  unfolding blockLength
+  block-full h = refl
+
+  pub block-last : countOf s ≤ suc i → i * L + long ≡ programLength s
+  unfolding blockLength programLength
+  block-last h = let e : countOf s ≡ suc i = omega arith in rw e (omega arith)
 
   pub length-in : length (blocksOf s flash i) ≡ long
   unfolding blocksOf cut blockLength
@@ -58,6 +70,32 @@ module _ (s : Manifest) (i : ℕ) (flash : List ℕ) (below : i < countOf s) (ro
 
     pub with-before : (j : ℕ) → j < i → blocksOf s (withBlock L flash (suc i) x) j ≡ blocksOf s flash j
     with-before j h = with-blocks j ∙ overlay-other (blocksOf s flash) i x j (λ e. omega arith)
+
+    -- nothing behind the program is written
+    pub with-behind : drop (programLength s) (withBlock L flash (suc i) x) ≡ drop (programLength s) flash
+    with-behind =
+        let to : ℕ = i * L + length x in
+        let rest : ℕ = programLength s - to in
+        let e : programLength s ≡ to + rest = omega (arith, block-within) in
+        ap (drop (programLength s)) (sym (with-copied L flash (suc i) x))
+        ∙ ap (λ k. drop k (paste flash (i * L) x (length x))) e
+        ∙ sym (drop-drop rest to (paste flash (i * L) x (length x)))
+        ∙ ap (drop rest) (drop-paste flash (i * L) x (length x) (omega (arith, block-end)) (omega arith))
+        ∙ drop-drop rest to flash
+        ∙ ap (λ k. drop k flash) (sym e)
+
+    -- up to its end the flash is what stood before the block, and the block
+    pub with-start : take (i * L + length x) (withBlock L flash (suc i) x) ≡ take (i * L) flash ++ x
+    unfolding withBlock
+    with-start =
+        let a : length (take (i * L) flash) ≡ i * L = length-take-le (i * L) flash (omega (arith, block-end)) in
+        take-at (take (i * L) flash ++ x) (drop (i * L + length x) flash) (i * L + length x) (omega (arith, length-append (take (i * L) flash) x))
+
+-- what stands before a block and behind it is all that is left of the flash
+pub with-same : (L i : ℕ) (f g x : List ℕ) → take (pred i * L) f ≡ take (pred i * L) g → drop (pred i * L + length x) f ≡ drop (pred i * L + length x) g
+    → withBlock L f i x ≡ withBlock L g i x
+unfolding withBlock
+with-same L i f g x before behind = rw (before, behind)
 
 -- the first j blocks of w over an old flash, and one block more
 pub more-blocks : (L j : ℕ) (w old : List ℕ) → j * L ≤ length w → length (cut L w j) ≡ L

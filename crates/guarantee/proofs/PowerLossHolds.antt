@@ -1,0 +1,217 @@
+-- Power loss: the same block messages over two flashes that agree where it counts, and an update over its own torn block.
+use mathlib.Core.Path.{_≡_, refl, sym, ap, _∙_, subst}
+use mathlib.Core.Logic.{_⊎_, inl, inr}
+use mathlib.Core.Bool.{Bool, false, true≢false}
+use mathlib.Core.List.{List, _++_}
+use mathlib.Core.Option.{Option, none, some}
+use Prim.Native.Nat.{ℕ, suc, pred, _+_, _*_, _≤_, _<_}
+use native.Mathlib.Omega.{arith}
+use lib.ListN.{length, take, drop}
+use borrow.Author.Tests.{lt-ltb, le-ltb}
+use Rattle.merkle.proofs.ShapeLaws.{lt-or-le}
+use Rattle.wire.specs.declared.kind.Kind.the-variants.{Block, Update}
+use Rattle.wire.specs.declared.manifest.Manifest.{Manifest}
+use Rattle.wire.specs.declared.refusal.Refusal.{Refusal}
+use Rattle.wire.specs.Geometry.{countOf, blockLength, programLength}
+use Rattle.wire.specs.Message.{kind, manifestIn, blockIn, updateNumber, updateBlock, dueLength, leastUpdate}
+use Rattle.wire.proofs.GeometryLaws.{block-full, block-last, length-with, with-behind, with-start, with-same}
+use Rattle.wire.proofs.MessageLaws.{length-block, length-update-block}
+use Rattle.machine.specs.declared.state.Stage.{Stage}
+use Rattle.machine.specs.declared.state.Stage.the-variants.{Loading, Complete}
+use Rattle.machine.specs.declared.state.Device.{Device}
+use Rattle.machine.specs.declared.state.Answer.the-variants.{Accepted}
+use Rattle.machine.specs.Device.{nextOf, Situation}
+use Rattle.machine.specs.Flash.{stored, updated}
+use Rattle.machine.specs.Refusals.{tooSmall, notLoading, ofBlock, ofUpdate, ofKind, refusals}
+use Rattle.machine.specs.Step.{stageAfter, acceptBlock, acceptUpdate, accept, answerOf, outcome, refusalOf, step}
+use Rattle.machine.proofs.RefusalLaws.{BlockPassed, block-passed, UpdatePassed, update-passed}
+use Rattle.guarantee.specs.Run.{Messages, empty, _▷_, after, answerTo}
+use Rattle.guarantee.specs.PowerLoss.{OnlyBlocks, Agree, SameLoad, TornLoad, TornUpdate}
+use Rattle.guarantee.proofs.RunLaws.{now, refusalAt, answered, none-at, more, same}
+
+module _ (H : List ℕ → List ℕ) (valid : (key message signature : List ℕ) → Bool) where
+  -- of the flash a block message's refusals see the length alone
+  block-refusal : (d : Device) (f g m : List ℕ) → kind m ≡ Block → length f ≡ length g → refusalOf H valid d f m ≡ refusalOf H valid d g m
+  unfolding refusalOf refusals ofKind ofBlock tooSmall
+  block-refusal d f g m e long = rw (e, long)
+
+  -- an update's also the flash that it would leave
+  update-refusal : (d : Device) (f g m : List ℕ) → kind m ≡ Update → length f ≡ length g → updated (manifestIn m) f m ≡ updated (manifestIn m) g m
+      → refusalOf H valid d f m ≡ refusalOf H valid d g m
+  unfolding refusalOf refusals ofKind ofUpdate tooSmall
+  update-refusal d f g m e long after = rw (e, long, after)
+
+  -- what an accepted message leaves
+  accepted-is : (d : Device) (f m : List ℕ) → refusalOf H valid d f m ≡ none
+      → step H valid d f m ≡ record { answer = Accepted; device = accept (kind m) d f m .device; flash = accept (kind m) d f m .flash }
+  unfolding step outcome
+  accepted-is d f m e = rw (e, outcome)
+
+  update-is : (d : Device) (f m : List ℕ) → kind m ≡ Update → refusalOf H valid d f m ≡ none
+      → step H valid d f m ≡ record {
+        answer = Accepted;
+        device = record { model = d .model; key = d .key; stage = d .stage; manifest = manifestIn m; hashes = d .hashes };
+        flash = updated (manifestIn m) f m;
+      }
+  unfolding accept acceptUpdate
+  update-is d f m k e = accepted-is d f m e ∙ rw (k, accept)
+
+  same-update : (d : Device) (f g m : List ℕ) → UpdatePassed H valid d f m
+      → (let s = manifestIn m in let at = pred (updateNumber m) * s .«block_len» in let end = at + blockLength (s .«block_len») (s .«image_len») (updateNumber m) in
+      (take at f ≡ take at g) → (drop end f ≡ drop end g) → updated s f m ≡ updated s g m)
+  unfolding updated leastUpdate
+  same-update d f g m p before behind =
+      let s : Manifest = manifestIn m in
+      let i : ℕ = updateNumber m in
+      let size : ℕ = blockLength (s .«block_len») (s .«image_len») i in
+      with-same (s .«block_len») i f g (updateBlock size m) before (rw (length-update-block size m (p .long)) behind)
+
+  pub torn-update : TornUpdate H valid
+  unfolding after answerTo
+  torn-update d f g m k long before behind ok =
+      let e : refusalOf H valid d f m ≡ none = none-at H valid d f empty m ok in
+      let u : updated (manifestIn m) f m ≡ updated (manifestIn m) g m = same-update d f g m (update-passed H valid d f m k e) before behind in
+      let e' : refusalOf H valid d g m ≡ none = sym (update-refusal d f g m k long u) ∙ e in
+      update-is d g m k e'
+      ∙ ap (λ (w : List ℕ). record {
+        answer = Accepted;
+        device = record { model = d .model; key = d .key; stage = d .stage; manifest = manifestIn m; hashes = d .hashes };
+        flash = w;
+      }) (sym u)
+      ∙ sym (update-is d f m k e)
+
+-- Two situations of the same run over different flashes: both wait for block k + 1, or both are complete and the same.
+data Together (a b : Situation) : Type 0 where
+  waits : (k : ℕ) → a .device ≡ b .device → a .device .stage ≡ Loading (suc k) → Agree (a .device .manifest) k (a .flash) (b .flash) → Together a b
+  done : a ≡ b → a .device .stage ≡ Complete → Together a b
+
+-- block k + 1 of a program, written to either flash
+module _ (s : Manifest) (k : ℕ) (f g m : List ℕ) (below : k < countOf s) (agree : Agree s k f g) (room : programLength s ≤ length f)
+    (due : length m ≡ dueLength (s .«block_len») (s .«image_len») (suc k)) where
+  abbrev size : ℕ
+  size = blockLength (s .«block_len») (s .«image_len») (suc k)
+
+  abbrev block : List ℕ
+  block = blockIn size m
+
+  long : length block ≡ size
+  long = length-block size m (unfold dueLength in omega arith)
+
+  room' : programLength s ≤ length g
+  room' = rw (sym (agree .long)) room
+
+  still-agree : suc k < countOf s → Agree s (suc k) (stored s (suc k) f m) (stored s (suc k) g m)
+  unfolding stored
+  still-agree h =
+      let L : ℕ = s .«block_len» in
+      let e : suc k * L ≡ k * L + length block = omega (arith, long, block-full s k f below room h) in
+      record {
+        long = length-with s k f below room block long ∙ agree .long ∙ sym (length-with s k g below room' block long);
+        accepted = rw e (with-start s k f below room block long ∙ ap (λ (w : List ℕ). w ++ block) (agree .accepted) ∙ sym (with-start s k g below room' block long));
+        behind = with-behind s k f below room block long ∙ agree .behind ∙ sym (with-behind s k g below room' block long);
+      }
+
+  now-same : countOf s ≤ suc k → stored s (suc k) f m ≡ stored s (suc k) g m
+  unfolding stored
+  now-same h =
+      let L : ℕ = s .«block_len» in
+      let e : k * L + length block ≡ programLength s = omega (arith, long, block-last s k f below room h) in
+      with-same L (suc k) f g block (agree .accepted) (rw e (agree .behind))
+
+module _ (H : List ℕ → List ℕ) (valid : (key message signature : List ℕ) → Bool) where
+  block-is : (d : Device) (k : ℕ) (f m : List ℕ) → d .stage ≡ Loading (suc k) → (t : Stage) → stageAfter (countOf (d .manifest)) (suc k) ≡ t
+      → acceptBlock d f m ≡ record {
+        device = record { model = d .model; key = d .key; stage = t; manifest = d .manifest; hashes = acceptBlock d f m .device .hashes };
+        flash = stored (d .manifest) (suc k) f m;
+      }
+  unfolding acceptBlock nextOf
+  block-is d k f m e t q = rw (e, q)
+
+  -- an accepted block over both
+  block-together : (d : Device) (k : ℕ) (f g m : List ℕ) → d .stage ≡ Loading (suc k) → Agree (d .manifest) k f g → BlockPassed H valid d f m
+      → Together (acceptBlock d f m) (acceptBlock d g m)
+  block-together d k f g m e agree p = go (lt-or-le (suc k) (countOf s))
+    where
+      s : Manifest
+      s = d .manifest
+
+      next : nextOf (d .stage) ≡ suc k
+      next = unfold nextOf in rw e
+
+      below : k < countOf (d .manifest)
+      below = rw next at (p .awaited .high)
+
+      due : length m ≡ dueLength (d .manifest .«block_len») (d .manifest .«image_len») (suc k)
+      due = rw next at (p .long)
+
+      hashes : acceptBlock d f m .device .hashes ≡ acceptBlock d g m .device .hashes
+      hashes = unfold acceptBlock in refl
+
+      go : (suc k < countOf s) ⊎ (countOf s ≤ suc k) → Together (acceptBlock d f m) (acceptBlock d g m)
+      go (inl h) =
+          let t : stageAfter (countOf (d .manifest)) (suc k) ≡ Loading (suc (suc k)) = unfold stageAfter in rw (lt-ltb (suc k) (countOf s) h) in
+          rw (block-is d k f m e (Loading (suc (suc k))) t, block-is d k g m e (Loading (suc (suc k))) t)
+          (waits (suc k) (rw hashes) refl (still-agree s k f g m below agree (p .room) due h))
+      go (inr h) =
+          let t : stageAfter (countOf (d .manifest)) (suc k) ≡ Complete = unfold stageAfter in rw (le-ltb (suc k) (countOf s) h) in
+          rw (block-is d k f m e Complete t, block-is d k g m e Complete t)
+          (done (rw (hashes, now-same s k f g m below agree (p .room) due h)) refl)
+
+  module _ (d : Device) (f g : List ℕ) where
+    abbrev over-f : Messages → Situation
+    over-f ms = now H valid d f ms
+
+    abbrev over-g : Messages → Situation
+    over-g ms = now H valid d g ms
+
+    same-refusal : (ms : Messages) (m : List ℕ) → kind m ≡ Block → over-f ms .device ≡ over-g ms .device → length (over-f ms .flash) ≡ length (over-g ms .flash)
+        → refusalAt H valid d f ms m ≡ refusalAt H valid d g ms m
+    same-refusal ms m e q long =
+        block-refusal H valid (over-f ms .device) (over-f ms .flash) (over-g ms .flash) m e long ∙ ap (λ (x : Device). refusalOf H valid x (over-g ms .flash) m) q
+
+    one-more : (ms : Messages) (m : List ℕ) → kind m ≡ Block → Together (over-f ms) (over-g ms) → Together (over-f (ms ▷ m)) (over-g (ms ▷ m))
+    unfolding accept notLoading
+    one-more ms m e (waits k q t agree) = go (refusalAt H valid d f ms m) refl
+      where
+        both : refusalAt H valid d f ms m ≡ refusalAt H valid d g ms m
+        both = same-refusal ms m e q (agree .long)
+
+        go : (r : Option Refusal) → refusalAt H valid d f ms m ≡ r → Together (over-f (ms ▷ m)) (over-g (ms ▷ m))
+        go none h =
+            let p = block-passed H valid (over-f ms .device) (over-f ms .flash) m e h in
+            let w = block-together (over-f ms .device) k (over-f ms .flash) (over-g ms .flash) m t agree p in
+            rw (more H valid d f ms m h .after-is, more H valid d g ms m (sym both ∙ h) .after-is, e, accept)
+            (subst (λ (x : Device). Together (acceptBlock (over-f ms .device) (over-f ms .flash) m) (acceptBlock x (over-g ms .flash) m)) q w)
+        go (some r) h = rw (same H valid d f ms m r h .after-is, same H valid d g ms m r (sym both ∙ h) .after-is) (waits k q t agree)
+    one-more ms m e (done q t) = go (refusalAt H valid d f ms m) refl
+      where
+        both : refusalAt H valid d f ms m ≡ refusalAt H valid d g ms m
+        both = ap (λ (x : Situation). refusalOf H valid (x .device) (x .flash) m) q
+
+        go : (r : Option Refusal) → refusalAt H valid d f ms m ≡ r → Together (over-f (ms ▷ m)) (over-g (ms ▷ m))
+        go none h = absurd (true≢false (rw t at (block-passed H valid (over-f ms .device) (over-f ms .flash) m e h .loading)))
+        go (some r) h = rw (same H valid d f ms m r h .after-is, same H valid d g ms m r (sym both ∙ h) .after-is) (done q t)
+
+    together : (k : ℕ) → d .stage ≡ Loading (suc k) → Agree (d .manifest) k f g → (ms : Messages) → OnlyBlocks ms → Together (over-f ms) (over-g ms)
+    unfolding after OnlyBlocks
+    together k e agree empty o = waits k refl e agree
+    together k e agree (ms ▷ m) o = one-more ms m (o .1) (together k e agree ms (o .0))
+
+    same-load : (ms : Messages) → Together (over-f ms) (over-g ms) → SameLoad H valid d f g ms
+    unfolding answerOf
+    same-load ms (waits k q t agree) =
+        record {
+          answers = λ m e. answered H valid d f ms m ∙ ap answerOf (same-refusal ms m e q (agree .long)) ∙ sym (answered H valid d g ms m);
+          states = q;
+          flashes = λ c. absurd (let z : _≡_ {A = ℕ} 0 1 = cc in omega arith);
+        }
+    same-load ms (done q t) =
+        record {
+          answers = λ m e.
+              answered H valid d f ms m ∙ ap (λ (x : Situation). answerOf (refusalOf H valid (x .device) (x .flash) m)) q ∙ sym (answered H valid d g ms m);
+          states = ap (λ (x : Situation). x .device) q;
+          flashes = λ c. ap (λ (x : Situation). x .flash) q;
+        }
+
+  pub torn-load : TornLoad H valid
+  torn-load d k e f g agree ms o = same-load d f g ms (together d f g k e agree ms o)

@@ -1,0 +1,46 @@
+-- Power loss: after a power cut the stored state and the flash may be of different moments. What holds then of the device's step, from every state, reached by a
+-- list or not.
+use mathlib.Core.Path.{_≡_}
+use mathlib.Core.Bool.{Bool}
+use mathlib.Core.List.{List}
+use Prim.Native.Nat.{ℕ, suc, pred, _+_, _*_}
+use lib.ListN.{length, take, drop}
+use Rattle.wire.specs.declared.kind.Kind.the-variants.{Block, Update}
+use Rattle.wire.specs.declared.manifest.Manifest.{Manifest}
+use Rattle.wire.specs.Geometry.{blockLength, programLength}
+use Rattle.wire.specs.Message.{kind, manifestIn, updateNumber}
+use Rattle.machine.specs.declared.state.Stage.the-variants.{Loading, Complete}
+use Rattle.machine.specs.declared.state.Device.{Device}
+use Rattle.machine.specs.declared.state.Answer.the-variants.{Accepted}
+use Rattle.machine.specs.Step.{step}
+use Rattle.guarantee.specs.Run.{Messages, empty, _▷_, after, answerTo}
+
+-- a list of block messages
+unfoldable pub OnlyBlocks : Messages → Type 0
+OnlyBlocks empty = Unit {0}
+OnlyBlocks (ms ▷ m) = OnlyBlocks ms × (kind m ≡ Block)
+
+-- Two flashes of one length that agree in the first k blocks of the manifest's program and behind it.
+pub record Agree (s : Manifest) (k : ℕ) (f g : List ℕ) : Type 0 where
+  pub long : length f ≡ length g
+  pub accepted : take (k * s .«block_len») f ≡ take (k * s .«block_len») g
+  pub behind : drop (programLength s) f ≡ drop (programLength s) g
+
+module _ (H : List ℕ → List ℕ) (valid : (key message signature : List ℕ) → Bool) where
+  -- A device that waits for block k + 1, over either flash: the same block messages get the same answers and lead to the same states, and where they complete
+  -- the program, to the same flash. So blocks from k + 1 on may be torn or stale, and an older state than the flash does no harm.
+  pub record SameLoad (d : Device) (f g : List ℕ) (ms : Messages) : Type 0 where
+    pub answers : (m : List ℕ) → kind m ≡ Block → answerTo (step H valid) d f ms m ≡ answerTo (step H valid) d g ms m
+    pub states : after (step H valid) d f ms .device ≡ after (step H valid) d g ms .device
+    pub flashes : after (step H valid) d f ms .device .stage ≡ Complete → after (step H valid) d f ms .flash ≡ after (step H valid) d g ms .flash
+
+  abbrev pub TornLoad : Type 0
+  TornLoad = (d : Device) (k : ℕ) → d .stage ≡ Loading (suc k) → (f g : List ℕ) → Agree (d .manifest) k f g
+      → (ms : Messages) → OnlyBlocks ms → SameLoad d f g ms
+
+  -- An update that is accepted over f is accepted over every flash that agrees with f outside the numbered block, with the same state and flash: given again
+  -- over its own torn block it does what it was to do the first time.
+  abbrev pub TornUpdate : Type 0
+  TornUpdate = (d : Device) (f g m : List ℕ) → kind m ≡ Update → length f ≡ length g
+      → (let s = manifestIn m in let at = pred (updateNumber m) * s .«block_len» in let end = at + blockLength (s .«block_len») (s .«image_len») (updateNumber m) in
+      (take at f ≡ take at g) → (drop end f ≡ drop end g) → step H valid d f m .answer ≡ Accepted → step H valid d g m ≡ step H valid d f m)
