@@ -10,7 +10,7 @@
 #include <stdlib.h>
 #include <string.h>
 
-enum { IMAGE_LENGTH = 300, BLOCK_LENGTH = 64, BLOCKS = 5, MODEL = 7, SERIAL = 1 };
+enum { IMAGE_LENGTH = 300, BLOCK_LENGTH = 64, BLOCKS = LERTXUNO_BLOCKS(IMAGE_LENGTH, BLOCK_LENGTH), MODEL = 7, SERIAL = 1 };
 
 static uint8_t image[IMAGE_LENGTH];
 
@@ -21,7 +21,7 @@ static size_t starts[BLOCKS + 2];
 
 /* What the device keeps: in a drive, a page of its own and the program memory. */
 static uint8_t state[LERTXUNO_STATE_LENGTH];
-static uint8_t flash[BLOCKS * BLOCK_LENGTH];
+static uint8_t flash[LERTXUNO_FLASH_LENGTH(IMAGE_LENGTH, BLOCK_LENGTH)];
 
 static void expect(const char *what, uint32_t answer, uint32_t due) {
     printf("%-24s %u\n", what, (unsigned)answer);
@@ -32,9 +32,11 @@ static void expect(const char *what, uint32_t answer, uint32_t due) {
 /* The sender's side. */
 
 static void sign(void) {
-    uint8_t manifest[LERTXUNO_MANIFEST_LENGTH];
+    uint8_t manifest[LERTXUNO_MANIFEST_LENGTH], hash[LERTXUNO_HASH_LENGTH];
     size_t length;
     expect("sender, manifest", lertxuno_manifest(image, sizeof image, BLOCK_LENGTH, MODEL, SERIAL, manifest, sizeof manifest, &length), LERTXUNO_ACCEPTED);
+    lertxuno_digest(manifest, length, hash);
+    printf("%-24s %02x%02x..\n", "SHA-256 of the manifest", hash[0], hash[1]);
     expect("signature", lertxuno_verify(sample_key, sizeof sample_key, manifest, length, sample_signature, sizeof sample_signature), LERTXUNO_ACCEPTED);
 }
 
@@ -61,12 +63,21 @@ static uint32_t receive(uint32_t i) {
 }
 
 static void take_block(uint32_t i) {
-    uint8_t *first = bundle + starts[i] + 3;
+    uint8_t *first = bundle + starts[i] + LERTXUNO_BLOCK_HEAD;
     *first ^= 1;
     expect("device, damaged block", receive(i), LERTXUNO_MISMATCH);
     *first ^= 1;
     expect("device, block", receive(i), LERTXUNO_ACCEPTED);
-    expect("device, the same again", receive(i), i + 1 < BLOCKS ? LERTXUNO_TURN : LERTXUNO_STAGE);
+    expect("device, the same again", receive(i), (uint32_t)(i + 1 < BLOCKS ? LERTXUNO_TURN : LERTXUNO_STAGE));
+}
+
+/* An update with an old serial: the sender writes it, the device has that program already. */
+static void update(void) {
+    uint8_t message[LERTXUNO_MAX_UPDATE_LENGTH];
+    size_t length;
+    expect("sender, update", lertxuno_update(image, sizeof image, BLOCK_LENGTH, MODEL, SERIAL, 2, sample_signature, sizeof sample_signature,
+                                             message, sizeof message, &length), LERTXUNO_ACCEPTED);
+    expect("device, old update", lertxuno_receive(state, sizeof state, flash, sizeof flash, message, length), LERTXUNO_SERIAL);
 }
 
 int main(void) {
@@ -78,6 +89,7 @@ int main(void) {
     expect("device, program", receive(BLOCKS), LERTXUNO_ACCEPTED);
     for (uint32_t i = 0; i < BLOCKS; i++)
         take_block(i);
+    update();
     if (memcmp(flash, image, sizeof image) != 0)
         return 1;
     puts("the flash begins with the image");

@@ -1,11 +1,14 @@
 /* Lertxuno: updates for motor drives. Sender, device, signature verdict and SHA-256 for C.
  *
- * Every function ends, for all inputs, in an answer: 0, or the number of the first refusal that applies (enum lertxuno_refusal). After a refusal whatever
- * the function could have written is as it was. Nothing is allocated, kept between calls, read or written but through the arguments, so calls on different
- * memory may run at the same time.
+ * Every function ends, for all inputs. Those that return a number give 0, or the number of the first refusal that applies (enum lertxuno_refusal); after a
+ * refusal whatever the function could have written is as it was. lertxuno_digest and lertxuno_fresh refuse nothing and return nothing. Nothing is allocated,
+ * kept between calls, read or written but through the arguments, so calls on different memory may run at the same time.
  *
  * The caller's part: a pointer is not null, also where its length is 0; it has as many bytes as its length, or its array type, says; and memory that a
- * function writes (out, written, state, flash) overlaps no other argument. The library is for x86-64 Linux.
+ * function writes (out, written, state, flash) overlaps no other argument. The library is for x86-64 Linux. Stack, code and time of each function are in
+ * the README ('Measured'), what firmware must do around the calls in docs/INTEGRATION.md.
+ *
+ * Words: a program is an image, cut into blocks, and its manifest, which is signed. Numbers are big-endian.
  */
 #ifndef LERTXUNO_H
 #define LERTXUNO_H
@@ -23,25 +26,53 @@ enum lertxuno_refusal {
     LERTXUNO_KIND = 2,      /* empty message, or its kind is not 1, 2, 3 */
     LERTXUNO_SHORT = 3,     /* fewer bytes than the kind's least */
     LERTXUNO_VERSION = 4,   /* the manifest's version is not 1 */
-    LERTXUNO_SIZE = 5,      /* block length not allowed, image empty, or more than 4,096 blocks */
+    LERTXUNO_SIZE = 5,      /* block length not allowed, image empty, or more than LERTXUNO_MAX_BLOCKS blocks */
     LERTXUNO_MODEL = 6,     /* the manifest's model is not the device's */
     LERTXUNO_SERIAL = 7,    /* the manifest's serial is not above the device's */
     LERTXUNO_AREA = 8,      /* flash or output buffer too short */
     LERTXUNO_UNSIGNED = 9,  /* the signature is not valid */
     LERTXUNO_STAGE = 10,    /* a block and not loading, or an update and not complete */
     LERTXUNO_TURN = 11,     /* not the next block; for update and sender: no block of the image */
-    LERTXUNO_LENGTH = 12,   /* the message's length is not the one due */
+    LERTXUNO_LENGTH = 12,   /* block: not the length due; update: shorter than its block needs. A longer update is one with a longer signature: 9 */
     LERTXUNO_UNLIKE = 13,   /* the update's block length or image length differs from the complete one's */
     LERTXUNO_MISMATCH = 14  /* the hash worked out differs from the one held or signed */
 };
 
-/* A block has 64, 128, 256, 512 or 1,024 bytes, an image 1 to 4,096 blocks; the last one is filled with 0xFF. */
+/* Order of the device's refusals, the first that applies: always 1, 2, 3; then new program 4, 5, 6, 7, 8, 9; block 10, 8, 11, 12, 14; update 10, 4, 5, 6, 7,
+ * 13, 8, 11, 12, 9, 14. The sender's: 5, 11, 8. */
+
+/* Sizes. A block has 64, 128, 256, 512 or 1,024 bytes; the last one of an image is filled with 0xFF. The flash must have a program's blocks whole. */
+#define LERTXUNO_BLOCKS(image_length, block_length) (((image_length) + (block_length) - 1) / (block_length))
+#define LERTXUNO_FLASH_LENGTH(image_length, block_length) (LERTXUNO_BLOCKS(image_length, block_length) * (block_length))
+
+/* A signature's length, from the key's types: chains 67 for signature type 3 and 34 for type 4, height 5, 10, 15, 20, 25 for tree types 5 to 9. */
+#define LERTXUNO_SIGNATURE_LENGTH(chains, height) (12 + 32 * ((chains) + 1 + (height)))
 
 enum {
     LERTXUNO_HASH_LENGTH = 32,
-    LERTXUNO_KEY_LENGTH = 56,
+    LERTXUNO_KEY_LENGTH = 56,   /* tree type (4), signature type (4), identifier (16), top hash (32): an LMS key, without HSS's four bytes in front */
+    LERTXUNO_MAX_BLOCKS = 4096,
+    LERTXUNO_MAX_BLOCK_LENGTH = 1024,
+    LERTXUNO_MAX_HASHES = 12,   /* the most that a block message carries, and the most that a device holds */
+    LERTXUNO_MAX_SIGNATURE_LENGTH = LERTXUNO_SIGNATURE_LENGTH(67, 25)
+};
+
+/* Manifest: version (2), block length (2), model (4), serial (4), image length (4), root (32).
+ * Messages, by their first byte:
+ *   1, new program   kind (1), manifest, signature over it
+ *   2, block         kind (1), number from 1 (2), block, hashes (32 each); how many follows from number and block count, 0 to 12
+ *   3, update        kind (1), new manifest, number (2), new block, signature over the new manifest */
+enum lertxuno_kind { LERTXUNO_PROGRAM = 1, LERTXUNO_BLOCK = 2, LERTXUNO_UPDATE = 3 };
+
+/* Room for the sender's output, and the longest message of each kind. */
+enum {
     LERTXUNO_MANIFEST_LENGTH = 48,
-    LERTXUNO_STATE_LENGTH = 496
+    LERTXUNO_PROGRAM_HEAD = 1 + LERTXUNO_MANIFEST_LENGTH,    /* and the signature */
+    LERTXUNO_BLOCK_HEAD = 3,                                 /* and the block and its hashes */
+    LERTXUNO_UPDATE_HEAD = 1 + LERTXUNO_MANIFEST_LENGTH + 2, /* and the block and the signature */
+    LERTXUNO_MAX_PROGRAM_LENGTH = LERTXUNO_PROGRAM_HEAD + LERTXUNO_MAX_SIGNATURE_LENGTH,
+    LERTXUNO_MAX_BLOCK_MESSAGE_LENGTH = LERTXUNO_BLOCK_HEAD + LERTXUNO_MAX_BLOCK_LENGTH + LERTXUNO_HASH_LENGTH * LERTXUNO_MAX_HASHES,
+    LERTXUNO_MAX_UPDATE_LENGTH = LERTXUNO_UPDATE_HEAD + LERTXUNO_MAX_BLOCK_LENGTH + LERTXUNO_MAX_SIGNATURE_LENGTH
 };
 
 /* SHA-256 (FIPS 180-4) of the message. */
@@ -52,9 +83,10 @@ uint32_t lertxuno_verify(const uint8_t *key, size_t key_length, const uint8_t *m
                          const uint8_t *signature, size_t signature_length);
 
 /* The sender. Each function writes its bytes to the start of out, which has room for `room` bytes, and their number to *written; bytes behind them stay.
- * It refuses LERTXUNO_SIZE, LERTXUNO_TURN, LERTXUNO_AREA, in this order; out and *written are then as before. Block numbers count from 1. */
+ * It refuses LERTXUNO_SIZE, LERTXUNO_TURN, LERTXUNO_AREA, in this order; out and *written are then as before. Block numbers count from 1. A signature is
+ * copied, not checked, and serial 0, which no device takes, is written like any other. */
 
-/* The manifest alone, for signing. */
+/* The manifest alone, for signing: LERTXUNO_MANIFEST_LENGTH bytes. */
 uint32_t lertxuno_manifest(const uint8_t *image, size_t image_length, uint32_t block_length, uint32_t model, uint32_t serial,
                            uint8_t *out, size_t room, size_t *written);
 
@@ -70,24 +102,28 @@ uint32_t lertxuno_block(const uint8_t *image, size_t image_length, uint32_t bloc
 uint32_t lertxuno_update(const uint8_t *image, size_t image_length, uint32_t block_length, uint32_t model, uint32_t serial, uint32_t number,
                          const uint8_t *signature, size_t signature_length, uint8_t *out, size_t room, size_t *written);
 
-/* The device. Its whole state is LERTXUNO_STATE_LENGTH bytes, which the caller keeps, across power loss too. Numbers are big-endian.
- *
- *   offset  bytes
- *        0      4  model
- *        4     56  key
- *       60      2  stage: 0 idle, 1 loading, 2 complete
- *       62      2  number of the next block while loading, from 1; else written as 0 and not looked at
- *       64     48  manifest: version (2), block length (2), model (4), serial (4), image length (4), root (32); means nothing while idle
- *      112    384  the hashes held while loading, 32 bytes each, at the end and in block order; how many they are follows from the manifest and the next
- *                  number. What stands before them means nothing: a new program zeroes it, later messages leave in it what they find.
- *
- * State and flash belong together: a caller that stores them apart stores both, or neither, of what a call left. */
+/* The device. Its whole state is LERTXUNO_STATE_LENGTH bytes, which the caller keeps, across power loss too (docs/INTEGRATION.md: in which order state and
+ * flash are made durable). The bytes of a state are those between an offset below and the next. */
+enum {
+    LERTXUNO_STATE_MODEL = 0,
+    LERTXUNO_STATE_KEY = 4,
+    LERTXUNO_STATE_STAGE = LERTXUNO_STATE_KEY + LERTXUNO_KEY_LENGTH,         /* 2 bytes, enum lertxuno_stage */
+    LERTXUNO_STATE_NEXT = LERTXUNO_STATE_STAGE + 2,                          /* 2 bytes, next block while loading, from 1; else written as 0, not looked at */
+    LERTXUNO_STATE_MANIFEST = LERTXUNO_STATE_NEXT + 2,                       /* means nothing while idle */
+    LERTXUNO_STATE_HASHES = LERTXUNO_STATE_MANIFEST + LERTXUNO_MANIFEST_LENGTH, /* the held hashes, at the end and in block order; how many follows from
+                                                                                manifest and next number. What stands before them means nothing: a new
+                                                                                program zeroes it, later messages leave in it what they find. */
+    LERTXUNO_STATE_LENGTH = LERTXUNO_STATE_HASHES + LERTXUNO_HASH_LENGTH * LERTXUNO_MAX_HASHES
+};
+
+enum lertxuno_stage { LERTXUNO_IDLE = 0, LERTXUNO_LOADING = 1, LERTXUNO_COMPLETE = 2 };
 
 /* Makes the state of a fresh device: idle, with this model and key. */
 void lertxuno_fresh(uint32_t model, const uint8_t key[LERTXUNO_KEY_LENGTH], uint8_t state[LERTXUNO_STATE_LENGTH]);
 
-/* Hands a message to the device. Accepted: state and flash are those after it. Refused: both are as before. Bytes that encode no state (another length,
- * another stage than 0, 1, 2) are refused with LERTXUNO_STATE. Of the flash only the first blocks x block length bytes are ever written. */
+/* Hands a whole message to the device. Accepted: state and flash are those after it. Refused: both are as before. Bytes that encode no state (another
+ * length, another stage than 0, 1, 2) are refused with LERTXUNO_STATE. Of the flash only the first LERTXUNO_FLASH_LENGTH bytes are ever written, and by
+ * plain stores: memory that needs programming commands needs a copy in RAM, programmed from that after the call. */
 uint32_t lertxuno_receive(uint8_t *state, size_t state_length, uint8_t *flash, size_t flash_length, const uint8_t *message, size_t message_length);
 
 #ifdef __cplusplus
