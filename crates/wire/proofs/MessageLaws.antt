@@ -1,14 +1,15 @@
 -- The kind of a message, and the parts of a message that was written.
 use mathlib.Core.Path.{_≡_, refl, sym, ap, _∙_}
 use mathlib.Core.Bool.{cond}
-use mathlib.Core.List.{List, [], _∷_, _++_, append-assoc, append-nil}
-use Prim.Native.Nat.{ℕ, suc, _+_, _-_, _*_, _^_, _≤_, _<_}
+use mathlib.Core.List.{List, [], _∷_, _++_, map, append-assoc, append-nil}
+use Prim.Native.Nat.{ℕ, _+_, _-_, _*_, _^_, _≤_, _<_}
 use native.Mathlib.Omega.{arith}
 use lib.Dec.{eqb}
-use lib.ListN.{length, take, drop, getD, length-append, length-drop}
-use lib.Seq.{take-at, drop-at}
-use Rattle.octets.specs.Octets.{Bytes, bytes, number}
+use lib.ListN.{length, take, drop, getD, length-drop}
+use lib.Seq.{take-all}
+use Rattle.octets.specs.Octets.{Bytes, bytes, number, part, joined}
 use Rattle.octets.proofs.CopyLaws.{length-part}
+use Rattle.octets.proofs.JoinedLaws.{total, joined-length, stands}
 use Rattle.octets.proofs.NumberLaws.{length-bytes, part-bytes, number-back}
 use Rattle.merkle.specs.Limits.{hashLength}
 use Rattle.merkle.specs.Blocks.{blockCount}
@@ -57,10 +58,24 @@ module _ (k : ℕ) (m : List ℕ) where
   unfolding updateBlock
   length-update-block h = length-part m (leastLength Update) k h
 
+-- what a message ends with: the k bytes from index at on
+ends : (m : List ℕ) {x : List ℕ} (at k : ℕ) → length m ≡ at + k → part at k m ≡ x → drop at m ≡ x
+ends m at k l e = sym (take-all k (drop at m) (rw (length-drop at m) (omega arith))) ∙ e
+
+-- the parts of a message that was written, each in its place
 module _ (s : Manifest) (root : length (s .root) ≡ hashLength) (signature : List ℕ) where
+  abbrev programParts : List (List ℕ)
+  programParts = (1 ∷ []) ∷ written s ∷ signature ∷ []
+
+  abbrev programLengths : List ℕ
+  programLengths = kindLength ∷ manifestLength ∷ length signature ∷ []
+
+  program-long : map length programParts ≡ programLengths
+  program-long = rw (length-written s root)
+
   pub program-size : length (programMessage s signature) ≡ leastLength Program + length signature
   unfolding programMessage
-  program-size = ap suc (length-append (written s) signature) ∙ omega (arith, length-written s root)
+  program-size = joined-length programLengths programParts program-long ∙ omega arith
 
   pub record OfProgram (m : List ℕ) : Type 0 where
     pub is : kind m ≡ Program
@@ -69,29 +84,29 @@ module _ (s : Manifest) (root : length (s .root) ≡ hashLength) (signature : Li
     pub size : length m ≡ leastLength Program + length signature
 
   pub of-program : OfProgram (programMessage s signature)
-  unfolding kind programMessage manifestBytes programSignature
+  unfolding kind joined programMessage manifestBytes programSignature
   of-program =
-      let l = length-written s root in
+      let at = stands programLengths programParts program-long in
       record {
         is = refl;
-        manifest = take-at (written s) signature manifestLength l;
-        signed = drop-at (written s) signature manifestLength l;
+        manifest = at 1;
+        signed = ends (programMessage s signature) (leastLength Program) (length signature) program-size (at 2);
         size = program-size;
       }
 
   module _ (i : ℕ) (block : List ℕ) where
-    abbrev head : List ℕ
-    head = written s ++ bytes numberLength i
+    abbrev updateParts : List (List ℕ)
+    updateParts = (3 ∷ []) ∷ written s ∷ bytes numberLength i ∷ block ∷ signature ∷ []
 
-    length-head : length head ≡ manifestLength + numberLength
-    length-head = length-append (written s) (bytes numberLength i) ∙ omega (arith, length-written s root, length-bytes numberLength i)
+    abbrev updateLengths : List ℕ
+    updateLengths = kindLength ∷ manifestLength ∷ numberLength ∷ length block ∷ length signature ∷ []
 
-    length-most : length (head ++ block) ≡ manifestLength + numberLength + length block
-    length-most = length-append head block ∙ omega (arith, length-head)
+    update-long : map length updateParts ≡ updateLengths
+    update-long = rw (length-written s root, length-bytes numberLength i)
 
     pub update-size : length (updateMessage s i block signature) ≡ leastLength Update + length block + length signature
     unfolding updateMessage
-    update-size = ap suc (length-append (head ++ block) signature) ∙ omega (arith, length-most)
+    update-size = joined-length updateLengths updateParts update-long ∙ omega arith
 
     pub record OfUpdate (m : List ℕ) : Type 0 where
       pub is : kind m ≡ Update
@@ -102,32 +117,32 @@ module _ (s : Manifest) (root : length (s .root) ≡ hashLength) (signature : Li
       pub size : length m ≡ leastLength Update + length block + length signature
 
     pub of-update : i < 256 ^ numberLength → OfUpdate (updateMessage s i block signature)
-    unfolding kind updateMessage manifestBytes updateNumber updateBlock updateSignature
+    unfolding kind joined updateMessage manifestBytes updateNumber updateBlock updateSignature
     of-update few =
-        let l = length-written s root in
-        let rest = block ++ signature in
-        let apart : head ++ block ++ signature ≡ written s ++ (bytes numberLength i ++ rest) = simp append-assoc in
-        let behind : drop (manifestLength + numberLength) (head ++ block ++ signature) ≡ rest =
-        ap (drop (manifestLength + numberLength)) (append-assoc head block signature) ∙ drop-at head rest (manifestLength + numberLength) length-head in
-        let end : leastLength Update + length block ≡ suc (manifestLength + numberLength + length block) = omega arith in
+        let at = stands updateLengths updateParts update-long in
+        let end : total (take 4 updateLengths) ≡ leastLength Update + length block = omega arith in
         record {
           is = refl;
-          manifest = ap (take manifestLength) apart ∙ take-at (written s) (bytes numberLength i ++ rest) manifestLength l;
-          number =
-              number-back numberLength i
-              (ap (λ (x : List ℕ). take numberLength (drop manifestLength x)) apart
-              ∙ ap (take numberLength) (drop-at (written s) (bytes numberLength i ++ rest) manifestLength l)
-              ∙ take-at (bytes numberLength i) rest numberLength (length-bytes numberLength i)) few;
-          blocks = ap (take (length block)) behind ∙ take-at block signature (length block) refl;
-          signed = rw end (drop-at (head ++ block) signature (manifestLength + numberLength + length block) length-most);
+          manifest = at 1;
+          number = number-back numberLength i (at 2) few;
+          blocks = at 3;
+          signed = ends (updateMessage s i block signature) (leastLength Update + length block) (length signature) update-size (rw end at (at 4));
           size = update-size;
         }
 
 module _ (i : ℕ) (block hashes : List ℕ) where
+  abbrev blockParts : List (List ℕ)
+  blockParts = (2 ∷ []) ∷ bytes numberLength i ∷ block ∷ hashes ∷ []
+
+  abbrev blockLengths : List ℕ
+  blockLengths = kindLength ∷ numberLength ∷ length block ∷ length hashes ∷ []
+
+  block-long : map length blockParts ≡ blockLengths
+  block-long = rw (length-bytes numberLength i)
+
   pub block-size : length (blockMessage i block hashes) ≡ leastLength Block + length block + length hashes
   unfolding blockMessage
-  block-size =
-      ap suc (length-append (bytes numberLength i ++ block) hashes) ∙ omega (arith, length-append (bytes numberLength i) block, length-bytes numberLength i)
+  block-size = joined-length blockLengths blockParts block-long ∙ omega arith
 
   pub record OfBlock (m : List ℕ) : Type 0 where
     pub is : kind m ≡ Block
@@ -137,19 +152,15 @@ module _ (i : ℕ) (block hashes : List ℕ) where
     pub size : length m ≡ leastLength Block + length block + length hashes
 
   pub of-block : i < 256 ^ numberLength → OfBlock (blockMessage i block hashes)
-  unfolding kind blockMessage numberIn blockIn hashesAfter
+  unfolding kind joined blockMessage numberIn blockIn hashesAfter
   of-block few =
-      let n = length-bytes numberLength i in
-      let most : length (bytes numberLength i ++ block) ≡ numberLength + length block = length-append (bytes numberLength i) block ∙ omega arith in
-      let apart : bytes numberLength i ++ block ++ hashes ≡ bytes numberLength i ++ (block ++ hashes) = append-assoc (bytes numberLength i) block hashes in
-      let end : leastLength Block + length block ≡ suc (numberLength + length block) = omega arith in
+      let at = stands blockLengths blockParts block-long in
+      let end : total (take 3 blockLengths) ≡ leastLength Block + length block = omega arith in
       record {
         is = refl;
-        number = number-back numberLength i (ap (take numberLength) apart ∙ take-at (bytes numberLength i) (block ++ hashes) numberLength n) few;
-        blocks =
-            ap (λ (x : List ℕ). take (length block) (drop numberLength x)) apart
-            ∙ ap (take (length block)) (drop-at (bytes numberLength i) (block ++ hashes) numberLength n) ∙ take-at block hashes (length block) refl;
-        after = rw end (drop-at (bytes numberLength i ++ block) hashes (numberLength + length block) most);
+        number = number-back numberLength i (at 1) few;
+        blocks = at 2;
+        after = ends (blockMessage i block hashes) (leastLength Block + length block) (length hashes) block-size (rw end at (at 3));
         size = block-size;
       }
 
@@ -169,11 +180,20 @@ pub due : (L T i : ℕ) (m : List ℕ) → length m ≡ dueLength L T i → Due 
 unfolding dueLength
 due L T i m e = record { long = omega arith; rest = length-hashes (blockLength L T i) m ∙ omega arith }
 
--- a block message up to its hashes, and with them
-pub block-start : (i : ℕ) (block : List ℕ) → 2 ∷ (bytes numberLength i ++ block) ≡ blockMessage i block []
-unfolding blockMessage
-block-start i block = ap (λ (x : List ℕ). 2 ∷ x) (sym (append-nil (bytes numberLength i ++ block)))
+-- messages as they are written, part behind part
+pub program-parts : (s : Manifest) (signature : List ℕ) → (1 ∷ []) ++ written s ++ signature ≡ programMessage s signature
+unfolding joined programMessage
+program-parts s signature = simp (append-assoc, append-nil)
 
+pub block-parts : (i : ℕ) (block : List ℕ) → (2 ∷ []) ++ bytes numberLength i ++ block ≡ blockMessage i block []
+unfolding joined blockMessage
+block-parts i block = simp (append-assoc, append-nil)
+
+pub update-parts : (s : Manifest) (i : ℕ) (block signature : List ℕ) → (3 ∷ []) ++ written s ++ bytes numberLength i ++ block ++ signature ≡ updateMessage s i block signature
+unfolding joined updateMessage
+update-parts s i block signature = simp (append-assoc, append-nil)
+
+-- a block message up to its hashes, and with them
 pub block-whole : (i : ℕ) (block hashes : List ℕ) → blockMessage i block [] ++ hashes ≡ blockMessage i block hashes
-unfolding blockMessage
-block-whole i block hashes = ap (λ (x : List ℕ). 2 ∷ (x ++ hashes)) (append-nil (bytes numberLength i ++ block))
+unfolding joined blockMessage
+block-whole i block hashes = simp (append-assoc, append-nil)

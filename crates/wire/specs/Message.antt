@@ -4,7 +4,7 @@ use mathlib.Core.List.{List, [], _∷_, _++_}
 use Prim.Native.Nat.{ℕ, _+_, _*_}
 use lib.Dec.{eqb, ltb}
 use lib.ListN.{length, drop}
-use Rattle.octets.specs.Octets.{bytes, number, part}
+use Rattle.octets.specs.Octets.{bytes, number, part, joined}
 use Rattle.merkle.specs.Limits.{hashLength}
 use Rattle.merkle.specs.Blocks.{blockCount}
 use Rattle.merkle.specs.Frontier.{carriedCount}
@@ -32,15 +32,15 @@ numberLength = 2
 
 -- kind 1: kind, manifest, signature over its bytes
 unfoldable pub programMessage : Manifest → List ℕ → List ℕ
-programMessage s signature = 1 ∷ (written s ++ signature)
+programMessage s signature = joined ((1 ∷ []) ∷ written s ∷ signature ∷ [])
 
 -- kind 2: kind, number i, block, c(i) hashes
 unfoldable pub blockMessage : ℕ → List ℕ → List ℕ → List ℕ
-blockMessage i block hashes = 2 ∷ (bytes numberLength i ++ block ++ hashes)
+blockMessage i block hashes = joined ((2 ∷ []) ∷ bytes numberLength i ∷ block ∷ hashes ∷ [])
 
 -- kind 3: kind, new manifest, number, new block, signature over the new manifest
 unfoldable pub updateMessage : Manifest → ℕ → List ℕ → List ℕ → List ℕ
-updateMessage s i block signature = 3 ∷ (written s ++ bytes numberLength i ++ block ++ signature)
+updateMessage s i block signature = joined ((3 ∷ []) ∷ written s ∷ bytes numberLength i ∷ block ∷ signature ∷ [])
 
 -- The parts before the signature of kind 1, and before the block of kinds 2 and 3: 49, 3 and 51 bytes. A message has at least these; with fewer it is refused 3.
 abbrev pub leastLength : Kind → ℕ

@@ -5,7 +5,7 @@ use native.Mathlib.Omega.{arith}
 use lib.ListN.{length, length-set}
 use Rattle.wire.specs.declared.kind.Kind.the-variants.{Block}
 use Rattle.wire.specs.Message.{leastLength, atStart}
-use Rattle.wire.proofs.MessageLaws.{block-start}
+use Rattle.wire.proofs.MessageLaws.{block-parts}
 use Rattle.wire.proofs.PutLaws.{Put, put-first, put-more, length-put, put-all}
 use borrow.Author.Needs.{needs}
 use Rattle.wire.proofs.writing.put_block.Statement.{statement}
@@ -43,7 +43,7 @@ same-length c = length-put (put-2 (c .before .before)) (omega (arith, c .before 
 returns : tie.Need-returns
 returns c =
     let a = c .before .before .before .before .before .before .before .before .before .before .before .before .args in
-    (rw (c .before .before .before .before .before .before .before .before .before .be16 .ensures) at (put-all (put-2 (c .before .before)))) ∙ ap (λ (p : List ℕ). atStart p (a .out .now)) (block-start (a .number) (a .block .now))
+    (rw (c .before .before .before .before .before .before .before .before .before .be16 .ensures) at (put-all (put-2 (c .before .before)))) ∙ ap (λ (p : List ℕ). atStart p (a .out .now)) (block-parts (a .number) (a .block .now))
 
 pub put-block-spec : {M : Type 1} → statement M
 put-block-spec =

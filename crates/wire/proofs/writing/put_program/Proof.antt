@@ -1,10 +1,11 @@
-use mathlib.Core.Path.{refl}
-use mathlib.Core.List.{[], _∷_, _++_}
-use Prim.Native.Nat.{_+_}
+use mathlib.Core.Path.{refl, ap, _∙_}
+use mathlib.Core.List.{List, [], _∷_, _++_}
+use Prim.Native.Nat.{ℕ, _+_}
 use native.Mathlib.Omega.{arith}
 use lib.ListN.{length, length-set}
 use Rattle.wire.specs.declared.kind.Kind.the-variants.{Program}
-use Rattle.wire.specs.Message.{leastLength, programMessage}
+use Rattle.wire.specs.Message.{leastLength, atStart}
+use Rattle.wire.proofs.MessageLaws.{program-parts}
 use Rattle.wire.proofs.PutLaws.{Put, put-first, put-more, length-put, put-all}
 use borrow.Author.Needs.{needs}
 use Rattle.wire.proofs.writing.put_program.Statement.{statement}
@@ -40,8 +41,9 @@ same-length : tie.Need-same-length
 same-length c = length-put (put-2 (c .before .before)) (omega (arith, c .before .before .before .before .before .before .before .before .before .before .before .before .pre))
 
 returns : tie.Need-returns
-unfolding programMessage
-returns c = rw (c .before .before .before .before .before .before .before .before .before .to-bytes .ensures) at (put-all (put-2 (c .before .before)))
+returns c =
+    let a = c .before .before .before .before .before .before .before .before .before .before .before .before .args in
+    (rw (c .before .before .before .before .before .before .before .before .before .to-bytes .ensures) at (put-all (put-2 (c .before .before)))) ∙ ap (λ (p : List ℕ). atStart p (a .out .now)) (program-parts (a .manifest) (a .signature .now))
 
 pub put-program-spec : {M : Type 1} → statement M
 put-program-spec =

@@ -1,10 +1,11 @@
-use mathlib.Core.Path.{refl}
-use mathlib.Core.List.{[], _∷_, _++_}
-use Prim.Native.Nat.{_+_}
+use mathlib.Core.Path.{refl, ap, _∙_}
+use mathlib.Core.List.{List, [], _∷_, _++_}
+use Prim.Native.Nat.{ℕ, _+_}
 use native.Mathlib.Omega.{arith}
 use lib.ListN.{length, length-set}
 use Rattle.wire.specs.declared.kind.Kind.the-variants.{Program, Update}
-use Rattle.wire.specs.Message.{leastLength, updateMessage}
+use Rattle.wire.specs.Message.{leastLength, atStart}
+use Rattle.wire.proofs.MessageLaws.{update-parts}
 use Rattle.wire.proofs.PutLaws.{Put, put-first, put-more, length-put, put-all}
 use borrow.Author.Needs.{needs}
 use Rattle.wire.proofs.writing.put_update.Statement.{statement}
@@ -65,8 +66,9 @@ same-length : tie.Need-same-length
 same-length c = length-put (put-4 (c .before .before)) (omega (arith, c .before .before .before .before .before .before .before .before .before .before .before .before .before .before .before .before .before .before .before .before .before .before .before .pre))
 
 returns : tie.Need-returns
-unfolding updateMessage
-returns c = rw (c .before .before .before .before .before .before .before .before .before .before .before .before .before .before .before .before .before .before .before .to-bytes .ensures, c .before .before .before .before .before .before .before .before .before .before .before .before .before .before .before .before .before .before .be16 .ensures) at (put-all (put-4 (c .before .before)))
+returns c =
+    let a = c .before .before .before .before .before .before .before .before .before .before .before .before .before .before .before .before .before .before .before .before .before .before .before .args in
+    (rw (c .before .before .before .before .before .before .before .before .before .before .before .before .before .before .before .before .before .before .before .to-bytes .ensures, c .before .before .before .before .before .before .before .before .before .before .before .before .before .before .before .before .before .before .be16 .ensures) at (put-all (put-4 (c .before .before)))) ∙ ap (λ (p : List ℕ). atStart p (a .out .now)) (update-parts (a .manifest) (a .number) (a .block .now) (a .signature .now))
 
 pub put-update-spec : {M : Type 1} → statement M
 put-update-spec =
