@@ -1,4 +1,4 @@
--- A block message against the flat array: what an accepted one keeps, and that the sender's are accepted, one after the other.
+-- A block message against the flat array: what one that fits keeps, and that the sender's fit, one after the other.
 use mathlib.Core.Path.{_≡_, sym, ap, ap₂, _∙_}
 use mathlib.Core.Bool.{true}
 use mathlib.Core.List.{List, [], _∷_, _++_, head-eq-of-cons-eq, tail-eq-of-cons-eq}
@@ -57,7 +57,7 @@ module _ (H : Hashing) where
     abbrev pub Holds : ℕ → (ℕ → List ℕ) → ℕ → List ℕ → Type 0
     Holds n f i array = heldIn n i array ≡ hashes H f (frontier 0 (shape n) i)
 
-    -- One honest step: the sender's message fits, and afterwards the image's hashes at the next frontier are held.
+    -- The sender's message fits, and afterwards the image's hashes at the next frontier are held.
     pub record SentFits (n : ℕ) (f : ℕ → List ℕ) (i : ℕ) (array : List ℕ) : Type 0 where
       pub accepted : fits H n i array (f i) (sent H n f i) ≡ true
       pub holds : Holds n f (suc i) (advanced n i array (sent H n f i))

@@ -1,4 +1,4 @@
--- Paths: the hash from a block and its siblings is the root, and a block replaced changes the hashes on its way alone.
+-- Paths: the root comes from a block and its siblings, and with a block replaced from the new block and the old siblings. For change 1 of 02.
 use mathlib.Core.Path.{_≡_, refl, sym, ap, ap₂, _∙_}
 use mathlib.Core.Logic.{_⊎_, inl, inr, _≢_}
 use mathlib.Core.Bool.{Bool, true, false}

@@ -6,13 +6,12 @@ use native.Mathlib.Nat.{mul-le-mul-right, add-mul, zero-mul, zero-add}
 use native.Mathlib.Omega.{arith}
 use native.Mathlib.Decide.{ℕ-discrete}
 use lib.ListN.{length, take, drop, length-drop}
-use lib.Seq.{paste}
 use Rattle.merkle.specs.Blocks.{cut, overlay}
-use Rattle.merkle.specs.Shape.{Shape, size, split, shape}
+use Rattle.merkle.specs.Shape.{size, split, shape}
 use Rattle.merkle.specs.Hash.{Hashing, leafHash, nodeHash, hash}
 use Rattle.merkle.proofs.ShapeLaws.{shape-leaf, size-shape, split-between, halves, size-left}
 use Rattle.merkle.proofs.HashLaws.{hash-node, hash-same}
-use Rattle.merkle.proofs.BlockLaws.{overlay-same, overlay-other, cut-drop, written}
+use Rattle.merkle.proofs.BlockLaws.{overlay-same, overlay-other, cut-drop}
 
 -- The first block, replaced or not.
 pub first-replaced : (f : ℕ → List ℕ) (at : ℕ) (b : List ℕ) → at ≡ 0 → overlay f at b 0 ≡ b
@@ -59,11 +58,6 @@ module _ (H : Hashing) (L : ℕ) (a : List ℕ) (at : ℕ) (b : List ℕ) (n : �
       ed ∙ ap₂ (λ u v. nodeHash H u v) ex (hash-behind H L a at b k n r (n - k) y behind (omega arith) (omega arith) ey)
       ∙ ap (λ o. nodeHash H (hash H f 0 (shape k)) (hash H f o (shape (n - k)))) (sym start)
       ∙ sym (ap (hash H f 0) (halves n k big is) ∙ hash-node H f 0 (shape k) (shape (n - k)))
-
--- A block written into the flash, as long as the one it replaces: the tree is the one with this block replaced.
-pub hash-written : (H : Hashing) (L : ℕ) (a x : List ℕ) (i : ℕ) → i * L ≤ length a → length x ≡ length (cut L a i) → (o : ℕ) (s : Shape)
-    → hash H (cut L (paste a (i * L) x (length x))) o s ≡ hash H (overlay (cut L a) i x) o s
-hash-written H L a x i room long o s = hash-same H s (record { block = λ j h. written L a x i room long (o + j) })
 
 -- The flash is long enough for both halves.
 pub left-fits : (L A n k : ℕ) → k < n → (n - 1) * L ≤ A → k * L ≤ A

@@ -1,12 +1,13 @@
-use Prim.Native.Nat.{_-_, _≤_}
+use Prim.Native.Nat.{suc, _-_, _≤_}
 use native.Mathlib.Omega.{arith}
+use Rattle.merkle.specs.Limits.{maxHeld}
 use Rattle.merkle.proofs.CountLaws.{counted-most, message-length}
 use borrow.Author.Needs.{needs}
 use Rattle.merkle.proofs.counting.message_len.Statement.{statement}
 use Rattle.merkle.proofs.counting.message_len.Tie as tie
 
 -- few hashes are carried
-few : (c : tie.After-struct-known) → c .before .count .result .carried ≤ 13
+few : (c : tie.After-struct-known) → c .before .count .result .carried ≤ suc maxHeld
 few c =
     let k = c .before in
     let a = k .before .args in

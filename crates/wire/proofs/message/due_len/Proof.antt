@@ -1,5 +1,6 @@
-use Prim.Native.Nat.{_-_, _≤_}
+use Prim.Native.Nat.{suc, _-_, _≤_}
 use native.Mathlib.Omega.{arith}
+use Rattle.merkle.specs.Limits.{maxHeld}
 use Rattle.merkle.proofs.CountLaws.{counted-most}
 use Rattle.wire.proofs.SizeLaws.{sized}
 use Rattle.wire.proofs.GeometryLaws.{block-length-few}
@@ -9,7 +10,7 @@ use Rattle.wire.proofs.message.due_len.Statement.{statement}
 use Rattle.wire.proofs.message.due_len.Tie as tie
 
 -- few hashes are carried
-few : (c : tie.After-count) → c .count .result .carried ≤ 13
+few : (c : tie.After-count) → c .count .result .carried ≤ suc maxHeld
 few c =
     let a = c .before .before in
     let n = c .before .block-count in
