@@ -26,7 +26,7 @@ use Rattle.machine.specs.Step.{acceptProgram, accept, outcome, refusalOf, step}
 use Rattle.machine.specs.Readers.{numberOf}
 use Rattle.machine.proofs.RefusalLaws.{program-passed, block-passed, update-passed, unknown-refused}
 use Rattle.bundle.specs.Text.{slipLine}
-use Rattle.bundle.specs.Parts.{nowhere, programIn, beforeProgram}
+use Rattle.bundle.specs.Parts.{trailerLength, nowhere, programIn, beforeProgram}
 use Rattle.bundle.specs.Load.{Printed, _before_, stop, ifAccepted, blocks, messages}
 use Rattle.bundle.specs.Steps.{Written, Ran}
 use Rattle.bundle.proofs.PartLaws.{Somewhere}
@@ -76,7 +76,7 @@ module _ (d : Device) (flash b : List ℕ) where
   pub ran-nowhere : {out out' : List ℕ} {at next : ℕ} → nowhere b ≡ true → Written out at out' next (slipLine 3) → Ran (messages d flash b) out at out' next d flash
   ran-nowhere e w = ran (sym (before-stop _ d flash) ∙ sym (no-program e)) w
 
-  module _ (start : ℕ) (z : Somewhere b start) (o : Outcome) (done : step digest valid d flash (take (length b - 4 - start) (drop start b)) ≡ o) (answer : ℕ)
+  module _ (start : ℕ) (z : Somewhere b start) (o : Outcome) (done : step digest valid d flash (take (length b - trailerLength - start) (drop start b)) ≡ o) (answer : ℕ)
       (answer-is : answer ≡ numberOf (o .answer)) where
     follows : slipLine answer before ifAccepted o (blocks (o .device) (o .flash) (take start b)) ≡ messages d flash b
     follows =

@@ -16,14 +16,15 @@ use Rattle.octets.proofs.NumberLaws.{length-bytes, bytes-mod}
 use Rattle.octets.proofs.CopyLaws.{part-from}
 use Rattle.octets.proofs.JoinedLaws.{joined-suc}
 use Rattle.sha256.specs.Sha256.{digest}
-use Rattle.merkle.specs.Limits.{maxBlocks}
+use Rattle.merkle.specs.Limits.{maxBlocks, hashLength}
 use Rattle.merkle.specs.Blocks.{blockCount}
 use Rattle.merkle.specs.Frontier.{heldCount}
 use Rattle.merkle.proofs.ShapeLaws.{lt-or-le}
 use Rattle.merkle.proofs.CountLaws.{held-zero, held-all, held-next}
+use Rattle.wire.specs.declared.kind.Kind.the-variants.{Program, Block}
 use Rattle.wire.specs.Refusal.{firstThatApplies}
 use Rattle.wire.specs.Size.{wrongSize}
-use Rattle.wire.specs.Message.{dueLength, atStart}
+use Rattle.wire.specs.Message.{leastLength, dueLength, atStart}
 use Rattle.wire.specs.Geometry.{blockLength}
 use Rattle.wire.proofs.SizeLaws.{Sized, sized, outside-not}
 use Rattle.sender.specs.declared.send.Sent.{Sent}
@@ -32,7 +33,9 @@ use Rattle.sender.specs.Job.{Image, inBlocks, Job, job, count, programFor, bloc
 use Rattle.sender.specs.Send.{lengthOf, Does, asIs, send, tooShort, unnumbered, numbered, sendProgram, sendBlock}
 use Rattle.sender.proofs.JobLaws.{length-block, length-program}
 use Rattle.wire.proofs.PutLaws.{Put, put-more, length-put, put-all, put-part}
+use Rattle.bundle.specs.Parts.{trailerLength}
 use Rattle.bundle.specs.Bundle.{blockMessages, bundleFor}
+use Rattle.bundle.specs.Steps.{unsignedLength}
 use Rattle.bundle.specs.Claims.{MessagesLength}
 
 module _ (x : Image) where
@@ -58,22 +61,28 @@ module _ (x : Image) where
 
   -- Each message takes a held hash away and brings those that it carries: before the first the root is held, after the last nothing.
   module _ (z : Sized (x .«block_len») (length (x .bytes))) where
-    length-some : (i : ℕ) → i ≤ count x → length (blockMessages digest x i) + 32 ≡ i * (35 + x .«block_len») + 32 * heldCount (count x) i
+    length-some : (i : ℕ) → i ≤ count x → length (blockMessages digest x i) + hashLength ≡ i * (leastLength Block + hashLength + x .«block_len») + hashLength * heldCount (count x) i
     unfolding blockMessages joined upTo dueLength blockLength count
     length-some zero h = omega (arith, held-zero (count x))
     length-some (suc i) h =
-        let e : suc i * (35 + x .«block_len») ≡ i * (35 + x .«block_len») + (35 + x .«block_len») = omega arith in
+        let e : suc i * (leastLength Block + hashLength + x .«block_len») ≡ i * (leastLength Block + hashLength + x .«block_len») + (leastLength Block + hashLength + x .«block_len») = omega arith in
         omega (arith, more-messages i, length-some i (omega arith), length-block x z (suc i) (omega arith) h, held-next (count x) i h)
 
     -- so all n together carry n - 1
-    length-all : length (blockMessages digest x (count x)) ≡ count x * (3 + x .«block_len») + 32 * (count x - 1)
+    length-all : length (blockMessages digest x (count x)) ≡ count x * (leastLength Block + x .«block_len») + hashLength * (count x - 1)
     length-all =
         let some : 0 < count x = unfold count in z .first in
-        let e : count x * (35 + x .«block_len») ≡ count x * (3 + x .«block_len») + 32 * count x = omega arith in
+        let e : count x * (leastLength Block + hashLength + x .«block_len») ≡ count x * (leastLength Block + x .«block_len») + hashLength * count x = omega arith in
         omega (arith, length-some (count x) (omega arith), held-all (count x) some)
 
 pub length-messages : MessagesLength
 length-messages x e = length-all x (sized (x .«block_len») (length (x .bytes)) e)
+
+-- the block messages without their hashes have so many bytes at most; k are those of a message without block and hashes
+pub product-small : (L n : ℕ) {k : ℕ} → k ≡ leastLength Block → L ≤ 1024 → n ≤ maxBlocks → n * (k + L) ≤ maxBlocks * (leastLength Block + 1024)
+product-small L n e h few =
+    let short : leastLength Block + L ≤ leastLength Block + 1024 = omega arith in
+    rw e (le-trans (mul-le-mul-right (leastLength Block + L) few) (mul-le-mul-left maxBlocks short))
 
 -- A call of the sender that has nothing to refuse writes the bytes to the start of the buffer, and answers their length.
 abbrev Wrote : (bytes buffer : List ℕ) → Sent → List ℕ → Type 0
@@ -123,8 +132,8 @@ module _ (x : Image) (z : wrongSize (x .«block_len») (length (x .bytes)) ≡ f
 
   -- the kind 1 message
   pub program-behind : {p : List ℕ} (b : Put d r p at) (model serial : ℕ) (signature : List ℕ) → (let j = job x model serial in
-      at + (49 + length signature) ≤ length d → Does asIs (sendProgram j signature (rest b)) answer mid
-      → (k ≡ 49 + length signature) × Put d (putMid at (length r - at) r mid) (p ++ programFor digest j signature) (at + k))
+      at + (leastLength Program + length signature) ≤ length d → Does asIs (sendProgram j signature (rest b)) answer mid
+      → (k ≡ leastLength Program + length signature) × Put d (putMid at (length r - at) r mid) (p ++ programFor digest j signature) (at + k))
   program-behind b model serial signature room does =
       let j = job x model serial in
       let l = length-program j signature in
@@ -138,21 +147,19 @@ pub record Ready (image : List ℕ) (L n : ℕ) : Type 0 where
   pub counted : n ≡ blockCount L (length image)
   pub some : 0 < n
   pub few : n ≤ maxBlocks
-  pub small : n * (3 + L) ≤ maxBlocks * 1027
-  pub blocks : length (blockMessages digest (inBlocks image L) n) ≡ n * (3 + L) + 32 * (n - 1)
+  pub short : L ≤ 1024
+  pub blocks : length (blockMessages digest (inBlocks image L) n) ≡ n * (leastLength Block + L) + hashLength * (n - 1)
 
 pub ready : (image : List ℕ) (L : ℕ) {n : ℕ} → wrongSize L (length image) ≡ false → n ≡ blockCount L (length image) → Ready image L n
 unfolding count
 ready image L {n} z e =
     let s = sized L (length image) z in
-    let few : n ≤ maxBlocks = omega (arith, s .count) in
-    let short : 3 + L ≤ 1027 = omega (arith, s .most) in
     record {
       sized = z;
       counted = e;
       some = omega (arith, s .first);
-      few = few;
-      small = le-trans (mul-le-mul-right (3 + L) few) (mul-le-mul-left maxBlocks short);
+      few = omega (arith, s .count);
+      short = omega (arith, s .most);
       blocks = rw e (length-all (inBlocks image L) s);
     }
 
@@ -165,7 +172,7 @@ module _ {image : List ℕ} {L n : ℕ} (y : Ready image L n) (model serial : �
   front = blockMessages digest (inBlocks image L) n ++ programFor digest this signature
 
   abbrev trailer : List ℕ
-  trailer = bytes 4 (length (programFor digest this signature))
+  trailer = bytes trailerLength (length (programFor digest this signature))
 
   bundle-is : front ++ trailer ≡ bundleFor digest this [] signature
   unfolding bundleFor count
@@ -173,18 +180,18 @@ module _ {image : List ℕ} {L n : ℕ} (y : Ready image L n) (model serial : �
       ap (λ (x : List ℕ). (x ++ programFor digest this signature) ++ trailer)
       (ap (blockMessages digest (this .image)) (y .counted) ∙ sym (append-nil (blockMessages digest (this .image) (blockCount L (length image)))))
 
-  length-trailer : length trailer ≡ 4
-  length-trailer = length-bytes 4 (length (programFor digest this signature))
+  length-trailer : length trailer ≡ trailerLength
+  length-trailer = length-bytes trailerLength (length (programFor digest this signature))
 
-  pub length-bundle : length (bundleFor digest this [] signature) ≡ n * (3 + L) + 32 * (n - 1) + 49 + 4 + length signature
+  pub length-bundle : length (bundleFor digest this [] signature) ≡ unsignedLength L n + length signature
   length-bundle =
       ap length (sym bundle-is) ∙ length-append front trailer
       ∙ omega (arith, length-append (blockMessages digest (inBlocks image L) n) (programFor digest this signature), y .blocks, length-program this signature, length-trailer)
 
   -- the trailer behind the rest: t, which the code works out from the distance k
-  pub trailer-behind : {d r r′ : List ℕ} {at k : ℕ} {t : List ℕ} → Put d r front at → k ≡ 49 + length signature → t ≡ bytes 4 (k % 4294967296) → at + 4 ≤ length d
+  pub trailer-behind : {d r r′ : List ℕ} {at k : ℕ} {t : List ℕ} → Put d r front at → k ≡ leastLength Program + length signature → t ≡ bytes trailerLength (k % 4294967296) → at + trailerLength ≤ length d
       → r′ ≡ paste r at t (length t) → r′ ≡ atStart (bundleFor digest this [] signature) d
   trailer-behind {d} {r} {r′} {at} {k} {t} b e f room g =
-      let is : t ≡ trailer = f ∙ bytes-mod 4 k ∙ ap (bytes 4) (e ∙ sym (length-program this signature)) in
-      let four : length t ≡ 4 = ap length is ∙ length-trailer in
-      put-all (put-more b t (at + 4) (omega arith) (omega arith) g) ∙ ap (λ (x : List ℕ). atStart x d) (ap (λ (x : List ℕ). front ++ x) is ∙ bundle-is)
+      let is : t ≡ trailer = f ∙ bytes-mod trailerLength k ∙ ap (bytes trailerLength) (e ∙ sym (length-program this signature)) in
+      let four : length t ≡ trailerLength = ap length is ∙ length-trailer in
+      put-all (put-more b t (at + trailerLength) (omega arith) (omega arith) g) ∙ ap (λ (x : List ℕ). atStart x d) (ap (λ (x : List ℕ). front ++ x) is ∙ bundle-is)

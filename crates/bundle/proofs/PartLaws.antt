@@ -11,7 +11,7 @@ use borrow.Author.Tests.{lt-ltb, le-ltb, ltb-false}
 use Rattle.wire.proofs.SizeLaws.{or-false}
 use Rattle.octets.specs.Octets.{number, part}
 use Rattle.bundle.specs.declared.parts.Start.the-variants.{At, Nowhere}
-use Rattle.bundle.specs.Parts.{trailerAt, distance, nowhere, programAt, programIn, beforeProgram}
+use Rattle.bundle.specs.Parts.{trailerLength, trailerAt, distance, nowhere, programAt, programIn, beforeProgram}
 use Rattle.bundle.specs.Steps.{startOf, Cut}
 
 -- the whole message is there, or the bytes end before it does
@@ -39,33 +39,33 @@ module _ (b : List ℕ) where
   unfolding startOf
   starts-at e = rw (e, startOf)
 
-  pub nowhere-short : length b < 4 → nowhere b ≡ true
+  pub nowhere-short : length b < trailerLength → nowhere b ≡ true
   unfolding nowhere
-  nowhere-short h = ap (λ (t : Bool). t || ltb (trailerAt b) (distance b)) (lt-ltb (length b) 4 h)
+  nowhere-short h = ap (λ (t : Bool). t || ltb (trailerAt b) (distance b)) (lt-ltb (length b) trailerLength h)
 
   -- d is the distance
-  module _ (d : ℕ) (long : 4 ≤ length b) (e : d ≡ number (part (length b - 4) 4 b)) where
-    test-is : nowhere b ≡ ltb (length b - 4) d
+  module _ (d : ℕ) (long : trailerLength ≤ length b) (e : d ≡ number (part (length b - trailerLength) trailerLength b)) where
+    test-is : nowhere b ≡ ltb (length b - trailerLength) d
     unfolding nowhere trailerAt distance
-    test-is = ap₂ {C = Bool} (λ (t : Bool) (x : ℕ). t || ltb (length b - 4) x) (le-ltb (length b) 4 long) (sym e)
+    test-is = ap₂ {C = Bool} (λ (t : Bool) (x : ℕ). t || ltb (length b - trailerLength) x) (le-ltb (length b) trailerLength long) (sym e)
 
-    pub nowhere-beyond : length b - 4 < d → nowhere b ≡ true
-    nowhere-beyond h = test-is ∙ lt-ltb (length b - 4) d h
+    pub nowhere-beyond : length b - trailerLength < d → nowhere b ≡ true
+    nowhere-beyond h = test-is ∙ lt-ltb (length b - trailerLength) d h
 
-    pub somewhere : d ≤ length b - 4 → nowhere b ≡ false
-    somewhere h = test-is ∙ le-ltb (length b - 4) d h
+    pub somewhere : d ≤ length b - trailerLength → nowhere b ≡ false
+    somewhere h = test-is ∙ le-ltb (length b - trailerLength) d h
 
-    pub program-at : length b - 4 - d ≡ programAt b
+    pub program-at : length b - trailerLength - d ≡ programAt b
     unfolding programAt trailerAt distance
-    program-at = ap (λ (x : ℕ). length b - 4 - x) e
+    program-at = ap (λ (x : ℕ). length b - trailerLength - x) e
 
   -- what the answer of `start_of` says
   pub record Somewhere (at : ℕ) : Type 0 where
     pub there : nowhere b ≡ false
     pub is : at ≡ programAt b
-    pub long : 4 ≤ length b
-    pub below : at ≤ length b - 4
-    pub program : take (length b - 4 - at) (drop at b) ≡ programIn b
+    pub long : trailerLength ≤ length b
+    pub below : at ≤ length b - trailerLength
+    pub program : take (length b - trailerLength - at) (drop at b) ≡ programIn b
     pub front : take at b ≡ beforeProgram b
 
   pub nothing : startOf b ≡ Nowhere → nowhere b ≡ true
@@ -84,14 +84,14 @@ module _ (b : List ℕ) where
       go true q = absurd (let x = starts-nowhere q in let z : _≡_ {A = ℕ} 0 1 = cc in omega arith)
       go false q =
           let x = starts-at q in
-          let o = or-false (ltb (length b) 4) _ q in
-          let near : distance b ≤ length b - 4 = ltb-false _ _ (o .1) in
-          let i : at ≡ length b - 4 - distance b = cc in
-          let k : length b - 4 - at ≡ distance b = omega arith in
+          let o = or-false (ltb (length b) trailerLength) _ q in
+          let near : distance b ≤ length b - trailerLength = ltb-false _ _ (o .1) in
+          let i : at ≡ length b - trailerLength - distance b = cc in
+          let k : length b - trailerLength - at ≡ distance b = omega arith in
           record {
             there = q;
             is = i;
-            long = ltb-false (length b) 4 (o .0);
+            long = ltb-false (length b) trailerLength (o .0);
             below = omega arith;
             program = ap₂ {C = List ℕ} (λ (n f : ℕ). take n (drop f b)) k i;
             front = ap (λ (f : ℕ). take f b) i;

@@ -35,7 +35,7 @@ use Rattle.guarantee.proofs.HonestLaws.{Here, next-accepted, next-here, first-h
 use Rattle.machine.proofs.SenseLaws.{sense-idle}
 use Rattle.guarantee.proofs.ProgramLaws.{is-program, program-accepted}
 use Rattle.bundle.specs.Text.{ascii, bundleLine, slipLine, blockLine, line, stateWords, stateLine}
-use Rattle.bundle.specs.Parts.{trailerAt, distance, nowhere, programAt, programIn, beforeProgram}
+use Rattle.bundle.specs.Parts.{trailerLength, trailerAt, distance, nowhere, programAt, programIn, beforeProgram}
 use Rattle.bundle.specs.Load.{maxBundle, Printed, _before_, ifAccepted, blocksFrom, blocks, messages, withState, deviceFor, loaded}
 use Rattle.bundle.specs.Bundle.{blockMessages, bundleFor}
 use Rattle.bundle.specs.Claims.{Loadable, acceptedFrom, Whole, LoadsWhole}
@@ -104,7 +104,7 @@ module _ (job : Job) (ok : Sendable job) (old : List ℕ) where
 -- where the loader finds the kind 1 message, and what stands before it
 module _ (front program : List ℕ) where
   abbrev bundle : List ℕ
-  bundle = front ++ program ++ bytes 4 (length program)
+  bundle = front ++ program ++ bytes trailerLength (length program)
 
   record Found : Type 0 where
     somewhere : nowhere bundle ≡ false
@@ -114,17 +114,17 @@ module _ (front program : List ℕ) where
   found : length bundle ≤ maxBundle → Found
   unfolding nowhere trailerAt distance programAt programIn beforeProgram
   found h =
-      let t : List ℕ = bytes 4 (length program) in
-      let four : length t ≡ 4 = length-bytes 4 (length program) in
+      let t : List ℕ = bytes trailerLength (length program) in
+      let four : length t ≡ trailerLength = length-bytes trailerLength (length program) in
       let both = length-append front program in
       let all : length bundle ≡ length (front ++ program) + length t = length-append (front ++ program) t in
-      let at : length (front ++ program) ≡ length bundle - 4 = omega arith in
-      let trailer : part (length bundle - 4) 4 bundle ≡ t = part-second (front ++ program) t (length bundle - 4) 4 at four in
-      let far : distance bundle ≡ length program = ap number trailer ∙ number-bytes 4 (length program) ∙ mod-eq-of-lt (omega arith) in
+      let at : length (front ++ program) ≡ length bundle - trailerLength = omega arith in
+      let trailer : part (length bundle - trailerLength) trailerLength bundle ≡ t = part-second (front ++ program) t (length bundle - trailerLength) trailerLength at four in
+      let far : distance bundle ≡ length program = ap number trailer ∙ number-bytes trailerLength (length program) ∙ mod-eq-of-lt (omega arith) in
       let start : programAt bundle ≡ length front = omega arith in
       let split : bundle ≡ front ++ (program ++ t) = append-assoc front program t in
       record {
-        somewhere = rw (le-ltb (length bundle) 4 (omega arith), le-ltb (length bundle - 4) (distance bundle) (omega arith)) refl;
+        somewhere = rw (le-ltb (length bundle) trailerLength (omega arith), le-ltb (length bundle - trailerLength) (distance bundle) (omega arith)) refl;
         program-is = ap₂ (λ i k. take k (drop i bundle)) start far ∙ ap (λ b. take (length program) (drop (length front) b)) split
             ∙ ap (take (length program)) (drop-at front (program ++ t) (length front) refl) ∙ take-at program t (length program) refl;
         front-is = ap (λ i. take i bundle) start ∙ ap (take (length front)) split ∙ take-at front (program ++ t) (length front) refl;

@@ -6,6 +6,7 @@ use Rattle.octets.specs.Octets.{bytes, joined, upTo}
 use Rattle.sha256.specs.Sha256.{digest}
 use Rattle.sender.specs.Job.{Image, Job, count, programFor, blockFor}
 use Rattle.sender.specs.Send.{Result, unnumbered}
+use Rattle.bundle.specs.Parts.{trailerLength}
 
 module _ (H : List ℕ → List ℕ) where
   -- the sender's block messages from 1 to j, one behind the other
@@ -17,7 +18,7 @@ module _ (H : List ℕ → List ℕ) where
   unfoldable pub bundleFor : Job → (filler signature : List ℕ) → List ℕ
   bundleFor job filler signature =
       let program = programFor H job signature in
-      blockMessages (job .image) (count (job .image)) ++ filler ++ program ++ bytes 4 (length program)
+      blockMessages (job .image) (count (job .image)) ++ filler ++ program ++ bytes trailerLength (length program)
 
 -- What `pack` answers, and what it leaves in the caller's buffer: a bundle without filler. It refuses 5 and 8, as the sender does.
 unfoldable pub sendBundle : Job → (signature buffer : List ℕ) → Result

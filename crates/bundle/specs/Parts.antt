@@ -6,17 +6,21 @@ use lib.Dec.{ltb}
 use lib.ListN.{length, take}
 use Rattle.octets.specs.Octets.{number, part}
 
+-- "a 4-byte trailer"
+abbrev pub trailerLength : ℕ
+trailerLength = 4
+
 -- the trailer's first byte
 unfoldable pub trailerAt : List ℕ → ℕ
-trailerAt b = length b - 4
+trailerAt b = length b - trailerLength
 
 -- "the distance back from the trailer's first byte to the kind 1 message's first byte"
 unfoldable pub distance : List ℕ → ℕ
-distance b = number (part (trailerAt b) 4 b)
+distance b = number (part (trailerAt b) trailerLength b)
 
 -- "A file under 4 bytes, or a distance beyond its start"
 unfoldable pub nowhere : List ℕ → Bool
-nowhere b = ltb (length b) 4 || ltb (trailerAt b) (distance b)
+nowhere b = ltb (length b) trailerLength || ltb (trailerAt b) (distance b)
 
 -- where the kind 1 message (01: the slip) starts, and the message
 unfoldable pub programAt : List ℕ → ℕ

@@ -1,19 +1,23 @@
 // A bundle as the showroom makes it (01, 'Bundle and loader'): the block messages, the kind 1 message and the trailer, with no filler.
+use crate::parts::TRAILER_LEN;
 use octets::copy;
 use sender::Sent;
+use wire::Kind;
 use wire::Refusal;
 use wire::block_count;
 use wire::wrong_size;
 ghost use mathlib.Core.Path.{_≡_};
 ghost use mathlib.Core.Bool.{false};
-ghost use Prim.Native.Nat.{_≤_};
+ghost use Prim.Native.Nat.{_≤_, _<_};
 ghost use lib.ListN.{length};
 ghost use Rattle.sha256.specs.Sha256.{digest};
+ghost use Rattle.merkle.specs.Limits.{maxBlocks};
 ghost use Rattle.wire.specs.Size.{wrongSize};
 ghost use Rattle.wire.specs.Message.{atStart};
 ghost use Rattle.sender.specs.Job.{inBlocks, job, count};
 ghost use Rattle.sender.specs.Send.{lengthOf, Does, asIs};
 ghost use Rattle.bundle.specs.Bundle.{blockMessages, sendBundle};
+ghost use Rattle.bundle.specs.Steps.{unsignedLength};
 
 // How many bytes the sender wrote.
 fn written(sent: Sent) -> usize
@@ -23,6 +27,15 @@ fn written(sent: Sent) -> usize
         Sent::Written(k) => k,
         Sent::Refused(_) => 0,
     }
+}
+
+// The bytes of a bundle but for its signature: the n block messages, which together carry n - 1 hashes, the kind 1 message and the trailer.
+fn unsigned_len(block: usize, n: usize) -> usize
+    requires { ⌜ (block ≤ 1024) × (0 < n) × (n ≤ maxBlocks) ⌝ }
+    ensures { λ r. ⌜ r ≡ unsignedLength block n ⌝ }
+{
+    let messages = n * (wire::least_len(Kind::Block) + block) + merkle::HASH_LEN * (n - 1);
+    messages + wire::least_len(Kind::Program) + TRAILER_LEN
 }
 
 // The n block messages, from the start of `out`, and the index behind them. Only `pack` calls this, and nothing is left to refuse.
@@ -57,8 +70,7 @@ pub fn pack(
         return Sent::Refused(Refusal::Size);
     }
     let n = block_count(block, image.len());
-    // A block message has kind, number and block; all n together carry n - 1 hashes. Then the kind 1 message, without its signature, and the trailer.
-    let least = n * (3 + block) + merkle::HASH_LEN * (n - 1) + 49 + 4;
+    let least = unsigned_len(block, n);
     if out.len() < least {
         return Sent::Refused(Refusal::Area);
     }
@@ -69,5 +81,5 @@ pub fn pack(
     let distance = written(sender::program(image, len, model, serial, signature, &mut out[at..]));
     let end = at + distance;
     copy(out, end, &octets::be32((distance % 0x100000000) as u32));
-    Sent::Written(end + 4)
+    Sent::Written(end + TRAILER_LEN)
 }

@@ -4,6 +4,9 @@ ghost use Prim.Native.Nat.{_≤_};
 ghost use lib.ListN.{length};
 ghost use Rattle.bundle.specs.Steps.{startOf, Cut};
 
+// The bytes of the trailer.
+pub const TRAILER_LEN: usize = 4;
+
 // Where the kind 1 message (01: the slip) starts.
 pub enum Start {
     At(usize),
@@ -14,10 +17,10 @@ pub enum Start {
 pub fn start_of(bundle: &[u8]) -> Start
     ensures { λ r. ⌜ r ≡ startOf (now (bundle .entry)) ⌝ }
 {
-    if bundle.len() < 4 {
+    if bundle.len() < TRAILER_LEN {
         return Start::Nowhere;
     }
-    let trailer = bundle.len() - 4;
+    let trailer = bundle.len() - TRAILER_LEN;
     let distance = octets::u32_at(bundle, trailer) as usize;
     if trailer < distance {
         return Start::Nowhere;

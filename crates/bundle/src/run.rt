@@ -1,5 +1,6 @@
 // The messages of a bundle, handed to a device one after the other. Only `load` calls these, and meets their `requires`.
 use crate::parts::Start;
+use crate::parts::TRAILER_LEN;
 use crate::parts::cut;
 use crate::parts::start_of;
 use crate::text::put_message;
@@ -67,7 +68,7 @@ pub fn messages(
         let at = put_message(out, from, b"slip ", 0, 3);
         return Progress { device: fresh, at };
     };
-    let end = bundle.len() - 4;
+    let end = bundle.len() - TRAILER_LEN;
     let reply = device::receive(fresh, flash, &bundle[start..end]);
     let answer = reply.answer;
     let device = reply.device;

@@ -1,4 +1,4 @@
-// The showroom's tool. In a folder with image.bin, `pack BLOCK MODEL SERIAL` writes slip.bin, the 48 bytes for signing, and, where signature.bin is there
+// The showroom's tool. In a folder with image.bin, `pack BLOCK MODEL SERIAL` writes slip.bin, the manifest for signing, and, where signature.bin is there
 // too, bundle.bin: both or neither. What was written is told on standard output, what went wrong on standard error.
 mod decimal;
 mod files;
@@ -38,6 +38,13 @@ fn argument(i: usize, name: &[u8]) -> Parsed {
     number
 }
 
+// A line: a file that was written, and its length.
+fn tell(name: &[u8], len: usize) {
+    io::write_all(STDOUT_FILENO, name);
+    io::print_decimal(STDOUT_FILENO, len as u64);
+    io::write_all(STDOUT_FILENO, b"\n");
+}
+
 fn with_signature(
     image: &[u8],
     len: u32,
@@ -53,23 +60,23 @@ fn with_signature(
     }
     let n = made.len;
     if files::save_both(manifest, &bundle[..n]) {
-        io::write_all(STDOUT_FILENO, b"slip.bin 48\nbundle.bin ");
-        io::print_decimal(STDOUT_FILENO, n as u64);
-        io::write_all(STDOUT_FILENO, b"\n");
+        tell(b"slip.bin ", manifest.len());
+        tell(b"bundle.bin ", n);
     }
 }
 
 fn without_signature(manifest: &[u8]) {
     if files::save_manifest(manifest) {
+        tell(b"slip.bin ", manifest.len());
         io::write_all(
             STDOUT_FILENO,
-            b"slip.bin 48\nno signature.bin: bundle.bin was not written\n",
+            b"no signature.bin: bundle.bin was not written\n",
         );
     }
 }
 
 fn with_image(image: &[u8], len: u32, model: u32, serial: u32) {
-    let mut manifest = [0u8; 48];
+    let mut manifest = [0u8; wire::MANIFEST_LEN];
     let made = make::manifest(image, len, model, serial, &mut manifest);
     if !made.done {
         return;

@@ -7,10 +7,13 @@ use borrow.Author.Needs.{needs}
 use borrow.Rule.Slice.PartMut.{putMid}
 use Rattle.octets.proofs.NumberLaws.{length-bytes}
 use Rattle.sha256.specs.Sha256.{digest}
+use Rattle.wire.specs.declared.kind.Kind.the-variants.{Program}
+use Rattle.wire.specs.Message.{leastLength}
 use Rattle.wire.proofs.SizeLaws.{sized}
 use Rattle.sender.specs.Job.{Job, inBlocks, job, count, programFor}
 use Rattle.sender.proofs.SendLaws.{size-refused, area-refused, all-written}
 use Rattle.wire.proofs.PutLaws.{Put, put-start, length-put}
+use Rattle.bundle.specs.Parts.{trailerLength}
 use Rattle.bundle.specs.Bundle.{blockMessages, bundleFor, sendBundle}
 use Rattle.bundle.proofs.PackLaws.{Ready, ready, length-bundle, program-behind, trailer-behind}
 use Rattle.bundle.proofs.packing.pack.Statement.{statement}
@@ -34,21 +37,21 @@ abbrev messages : tie.After-block-count → List ℕ
 messages c = blockMessages digest (this c .image) (c .block-count .result)
 
 -- the block messages stand at the start, and what follows has room
-blocks-put : (c : tie.After-put-blocks) → (let s = c .before .before .before .before in (c .put-blocks .result ≡ length (messages s)) × (c .put-blocks .result + 53 + length (signature s) ≤ length (out s))
+blocks-put : (c : tie.After-put-blocks) → (let s = c .before .before .before .before .before in (c .put-blocks .result ≡ length (messages s)) × (c .put-blocks .result + (leastLength Program + trailerLength) + length (signature s) ≤ length (out s))
     × Put (out s) (c .put-blocks .last .1 .1 .1 .0) (messages s) (c .put-blocks .result))
 blocks-put c =
     let e = c .put-blocks .ensures in
-    let y = known (c .before .before .before .before) in
+    let y = known (c .before .before .before .before .before) in
     (e .0, omega (arith, y .blocks, e .0, y .some), put-start (c .put-blocks .result) (sym (e .0)) (e .1))
 
 -- and the kind 1 message behind them
 program-put : (c : tie.After-written) → (let b = c .before .before .before .before .before .before .before .put-blocks in
-    let s = c .before .before .before .before .before .before .before .before .before .before .before in (c .written .result ≡ 49 + length (signature s))
+    let s = c .before .before .before .before .before .before .before .before .before .before .before .before in (c .written .result ≡ leastLength Program + length (signature s))
     × Put (out s) (putMid (b .result) (length (b .last .1 .1 .1 .0) - b .result) (b .last .1 .1 .1 .0) (c .before .before .before .program .last .1 .1 .1 .1 .1 .0))
     (messages s ++ programFor digest (this s) (signature s)) (b .result + c .written .result))
 program-put c =
     let b = blocks-put (c .before .before .before .before .before .before .before) in
-    let s = c .before .before .before .before .before .before .before .before .before .before .before in
+    let s = c .before .before .before .before .before .before .before .before .before .before .before .before in
     program-behind (this s .image) (known s .sized) (c .written .ensures) (b .2) (this s .model) (this s .serial) (signature s) (omega (arith, b .1)) (c .before .before .before .program .ensures)
 
 wrong-size-requires : tie.Need-wrong-size-requires
@@ -64,31 +67,13 @@ returns c =
 block-count-requires : tie.Need-block-count-requires
 block-count-requires c κs = let z = sized _ _ (sym (c .before .wrong-size .ensures) ∙ c .if1 .left) in (omega (arith, z .least), omega (arith, z .some))
 
-add-least : tie.Need-add-least
-add-least c = search needs
-
-mul-least : tie.Need-mul-least
-mul-least c = let y = known c in omega (arith, y .small, y .some, y .few)
-
-sub-least : tie.Need-sub-least
-sub-least c = let y = known c in omega (arith, y .small, y .some, y .few)
-
-mul-least-2 : tie.Need-mul-least-2
-mul-least-2 c = let y = known c in omega (arith, y .small, y .some, y .few)
-
-add-least-2 : tie.Need-add-least-2
-add-least-2 c = let y = known c in omega (arith, y .small, y .some, y .few)
-
-add-least-3 : tie.Need-add-least-3
-add-least-3 c = let y = known c in omega (arith, y .small, y .some, y .few)
-
-add-least-4 : tie.Need-add-least-4
-add-least-4 c = let y = known c in omega (arith, y .small, y .some, y .few)
+unsigned-len-requires : tie.Need-unsigned-len-requires
+unsigned-len-requires c κs = let y = known c in (y .short, y .some, y .few)
 
 returns-2 : tie.Need-returns-2
 unfolding sendBundle
 returns-2 c =
-    let s = c .before in
+    let s = c .before .before in
     let l = length-bundle (known s) (this s .model) (this s .serial) (signature s) in
     area-refused (this s .image) (bundleFor digest (this s) [] (signature s)) (out s) (known s .sized) (omega (arith, l))
 
@@ -98,16 +83,16 @@ sub-if3 c = search needs
 returns-3 : tie.Need-returns-3
 unfolding sendBundle
 returns-3 c =
-    let s = c .before .before in
+    let s = c .before .before .before in
     let l = length-bundle (known s) (this s .model) (this s .serial) (signature s) in
     area-refused (this s .image) (bundleFor digest (this s) [] (signature s)) (out s) (known s .sized) (omega (arith, l))
 
 cast-put-blocks : tie.Need-cast-put-blocks
-cast-put-blocks c = let y = known (c .before .before) in omega (arith, y .few)
+cast-put-blocks c = let y = known (c .before .before .before) in omega (arith, y .few)
 
 put-blocks-requires : tie.Need-put-blocks-requires
 unfolding count
-put-blocks-requires c κs = let y = known (c .before .before .before) in (y .sized, y .counted, omega (arith, y .blocks))
+put-blocks-requires c κs = let y = known (c .before .before .before .before) in (y .sized, y .counted, omega (arith, y .blocks))
 
 sub-program : tie.Need-sub-program
 sub-program c = let b = blocks-put (c .before .before) in omega (arith, b .1, length-put (b .2) (omega arith))
@@ -142,8 +127,8 @@ copy-requires c κs =
     let p = program-put (c .before .before .before) in
     omega (arith, b .1, p .0, length-put (p .1) (omega (arith, b .1, p .0)), simp length-bytes at (ap length (c .before .be32 .ensures)))
 
-add-t19 : tie.Need-add-t19
-add-t19 c = omega (arith, blocks-put (c .before .before .before .before .before .before .before .before .before .before .before .before .before) .1, program-put (c .before .before .before .before .before .before) .0)
+add-t14 : tie.Need-add-t14
+add-t14 c = let s = c .before .before .before .before .before .before .before .before .before .before .before .before .before .before .before .before .before .before in omega (arith, blocks-put (c .before .before .before .before .before .before .before .before .before .before .before .before .before) .1, program-put (c .before .before .before .before .before .before) .0)
 
 same-length : tie.Need-same-length
 same-length c = search needs
@@ -151,14 +136,14 @@ same-length c = search needs
 returns-4 : tie.Need-returns-4
 unfolding sendBundle
 returns-4 c =
-    let s = c .before .before .before .before .before .before .before .before .before .before .before .before .before .before .before .before .before in
+    let s = c .before .before .before .before .before .before .before .before .before .before .before .before .before .before .before .before .before .before in
     let y = known s in
     let b = blocks-put (c .before .before .before .before .before .before .before .before .before .before .before .before .before) in
     let p = program-put (c .before .before .before .before .before .before) in
     let end = c .before .before .before .before .before .before .before .before .before .before .before .before .before .put-blocks .result + c .before .before .before .before .before .before .written .result in
-    let room : end + 4 ≤ length (out s) = omega (arith, b .1, p .0) in
-    let l : length (bundleFor digest (this s) [] (signature s)) ≡ end + 4 = length-bundle y (this s .model) (this s .serial) (signature s) ∙ omega (arith, b .0, y .blocks, p .0) in
-    all-written (this s .image) (bundleFor digest (this s) [] (signature s)) (out s) (y .sized) (end + 4) _ l room
+    let room : end + trailerLength ≤ length (out s) = omega (arith, b .1, p .0) in
+    let l : length (bundleFor digest (this s) [] (signature s)) ≡ end + trailerLength = length-bundle y (this s .model) (this s .serial) (signature s) ∙ omega (arith, b .0, y .blocks, p .0) in
+    all-written (this s .image) (bundleFor digest (this s) [] (signature s)) (out s) (y .sized) (end + trailerLength) _ l room
     (trailer-behind y (this s .model) (this s .serial) (signature s) (p .1) (p .0) (c .before .before .before .before .be32 .ensures) room (c .before .before .copy .ensures))
 
 pub pack-spec : {M : Type 1} → statement M
@@ -168,13 +153,7 @@ pack-spec =
     wrong-size-requires
     returns
     block-count-requires
-    add-least
-    mul-least
-    sub-least
-    mul-least-2
-    add-least-2
-    add-least-3
-    add-least-4
+    unsigned-len-requires
     returns-2
     sub-if3
     returns-3
@@ -190,6 +169,6 @@ pack-spec =
     be32-requires
     slice-aggregate-copy
     copy-requires
-    add-t19
+    add-t14
     same-length
     returns-4)
