@@ -8,10 +8,10 @@ use lib.ListN.{length, take, drop, length-append}
 use Rattle.sha256.specs.Sha256.{digest}
 use Rattle.merkle.specs.Limits.{maxBlocks}
 use Rattle.merkle.specs.Blocks.{blockCount}
-use Rattle.merkle.specs.Frontier.{messageLength}
 use Rattle.lms.specs.Lms.{valid}
 use Rattle.wire.specs.Size.{wrongSize}
 use Rattle.wire.specs.Geometry.{countOf}
+use Rattle.wire.specs.Message.{dueLength}
 use Rattle.wire.proofs.SizeLaws.{sized}
 use Rattle.wire.specs.declared.refusal.Refusal.{Refusal}
 use Rattle.machine.specs.declared.state.Device.{Device}
@@ -49,12 +49,12 @@ if-refused o p r e = rw (e, ifAccepted)
 pub ran : {p : Printed} {out out' text f : List ℕ} {at next : ℕ} {d : Device} → record { text = text; device = d; flash = f } ≡ p → Written out at out' next text → Ran p out at out' next d f
 ran e w = record { written = retold w (ap (λ (q : Printed). q .text) e); device = ap (λ (q : Printed). q .device) e; flash = ap (λ (q : Printed). q .flash) e }
 
-module _ (L n : ℕ) where
+module _ (L T n : ℕ) where
   -- one message, and the rest
   one-block : (i : ℕ) (d : Device) (f b : List ℕ) → i ≤ n
-      → blocksFrom L n (n + 1 - i) i d f b
-      ≡ (let o = step digest valid d f (take (messageLength L n i) b) in
-      blockLine i (numberOf (o .answer)) before ifAccepted o (blocksFrom L n (n + 1 - (i + 1)) (i + 1) (o .device) (o .flash) (drop (messageLength L n i) b)))
+      → blocksFrom L T (n + 1 - i) i d f b
+      ≡ (let o = step digest valid d f (take (dueLength L T i) b) in
+      blockLine i (numberOf (o .answer)) before ifAccepted o (blocksFrom L T (n + 1 - (i + 1)) (i + 1) (o .device) (o .flash) (drop (dueLength L T i) b)))
   unfolding blocksFrom
   one-block i d f b h =
       let e : n + 1 - i ≡ suc (n - i) = omega arith in
@@ -72,7 +72,7 @@ module _ (L n : ℕ) where
       pub text : List ℕ
       pub written : Written out₀ from out at text
       pub short : length text ≤ 15 * (i - 1)
-      pub whole : text before blocksFrom L n (n + 1 - i) i d flash (drop read bytes) ≡ blocksFrom L n n 1 start flash₀ bytes
+      pub whole : text before blocksFrom L T (n + 1 - i) i d flash (drop read bytes) ≡ blocksFrom L T n 1 start flash₀ bytes
 
     pub looping-start : Looping flash₀ out₀ start from 0 1
     looping-start =
@@ -85,16 +85,16 @@ module _ (L n : ℕ) where
           text = [];
           written = written-none out₀ from;
           short = omega arith;
-          whole = before-none _ ∙ ap (λ (k : ℕ). blocksFrom L n k 1 start flash₀ bytes) e;
+          whole = before-none _ ∙ ap (λ (k : ℕ). blocksFrom L T k 1 start flash₀ bytes) e;
         }
 
     pub looping-end : {flash out : List ℕ} {d : Device} {at read i : ℕ} → Looping flash out d at read i → n < i → n ≤ maxBlocks
-        → Ran (blocksFrom L n n 1 start flash₀ bytes) out₀ from out at d flash × (at ≤ from + 15 * maxBlocks)
+        → Ran (blocksFrom L T n 1 start flash₀ bytes) out₀ from out at d flash × (at ≤ from + 15 * maxBlocks)
     unfolding blocksFrom
     looping-end {flash} {out} {d} {at} {read} {i} w h m =
         let e : n + 1 - i ≡ 0 = omega (arith, w .last) in
-        let all : w .text before stop d flash ≡ blocksFrom L n n 1 start flash₀ bytes =
-        ap (λ (k : ℕ). w .text before blocksFrom L n k i d flash (drop read bytes)) (sym e) ∙ w .whole in
+        let all : w .text before stop d flash ≡ blocksFrom L T n 1 start flash₀ bytes =
+        ap (λ (k : ℕ). w .text before blocksFrom L T k i d flash (drop read bytes)) (sym e) ∙ w .whole in
         (ran (sym (before-stop (w .text) d flash) ∙ all) (w .written), omega (arith, w .short, w .last, w .written .end))
 
     module _ {flash out : List ℕ} {d : Device} {at read i : ℕ} (w : Looping flash out d at read i) (h : i ≤ n + 1) (few : n ≤ maxBlocks) (room : from + 15 * maxBlocks ≤ length out₀) where
@@ -105,7 +105,7 @@ module _ (L n : ℕ) where
       line-fits answer g small = omega (arith, out-kept, w .short, w .first, w .written .end, message-short (ascii "block ") i answer (omega arith) (omega arith))
 
     module _ {flash out out' : List ℕ} {d : Device} {at at' read i : ℕ} (w : Looping flash out d at read i) (h : i ≤ n) (few : n ≤ maxBlocks)
-        (room : from + 15 * maxBlocks ≤ length out₀) (o : Outcome) (len end : ℕ) (due : len ≡ messageLength L n i) (cut : Cut bytes read len end)
+        (room : from + 15 * maxBlocks ≤ length out₀) (o : Outcome) (len end : ℕ) (due : len ≡ dueLength L T i) (cut : Cut bytes read len end)
         (done : step digest valid d flash (take (end - read) (drop read bytes)) ≡ o) (answer : ℕ) (answer-is : answer ≡ numberOf (o .answer)) (small : answer < 256)
         (v : Written out at out' at' (blockLine i answer)) where
       abbrev line : List ℕ
@@ -120,13 +120,13 @@ module _ (L n : ℕ) where
       both-short : length (w .text ++ line) ≤ 15 * (i + 1 - 1)
       both-short = omega (arith, length-append (w .text) line, w .short, line-short, w .first)
 
-      follows : (w .text ++ line) before ifAccepted o (blocksFrom L n (n + 1 - (i + 1)) (i + 1) (o .device) (o .flash) (drop end bytes)) ≡ blocksFrom L n n 1 start flash₀ bytes
+      follows : (w .text ++ line) before ifAccepted o (blocksFrom L T (n + 1 - (i + 1)) (i + 1) (o .device) (o .flash) (drop end bytes)) ≡ blocksFrom L T n 1 start flash₀ bytes
       follows =
           let b : List ℕ = drop read bytes in
-          let m : take (messageLength L n i) b ≡ take (end - read) b = ap (λ (k : ℕ). take k b) (sym due) ∙ sym (cut .message) in
-          let r : drop (messageLength L n i) b ≡ drop end bytes = ap (λ (k : ℕ). drop k b) (sym due) ∙ sym (cut .rest) in
-          let q : step digest valid d flash (take (messageLength L n i) b) ≡ o = ap (step digest valid d flash) m ∙ done in
-          let after : Outcome → ℕ → List ℕ → Printed = λ x y z. blockLine i y before ifAccepted x (blocksFrom L n (n + 1 - (i + 1)) (i + 1) (x .device) (x .flash) z) in
+          let m : take (dueLength L T i) b ≡ take (end - read) b = ap (λ (k : ℕ). take k b) (sym due) ∙ sym (cut .message) in
+          let r : drop (dueLength L T i) b ≡ drop end bytes = ap (λ (k : ℕ). drop k b) (sym due) ∙ sym (cut .rest) in
+          let q : step digest valid d flash (take (dueLength L T i) b) ≡ o = ap (step digest valid d flash) m ∙ done in
+          let after : Outcome → ℕ → List ℕ → Printed = λ x y z. blockLine i y before ifAccepted x (blocksFrom L T (n + 1 - (i + 1)) (i + 1) (x .device) (x .flash) z) in
           sym (before-both (w .text) line _)
           ∙ ap (λ (p : Printed). w .text before p)
           (ap (λ (y : ℕ). after o y (drop end bytes)) answer-is
@@ -148,16 +148,16 @@ module _ (L n : ℕ) where
           }
 
       pub stopped : (r : Refusal) → o .answer ≡ Refused r
-          → Ran (blocksFrom L n n 1 start flash₀ bytes) out₀ from out' at' (o .device) (o .flash) × (at' ≤ from + 15 * maxBlocks)
+          → Ran (blocksFrom L T n 1 start flash₀ bytes) out₀ from out' at' (o .device) (o .flash) × (at' ≤ from + 15 * maxBlocks)
       stopped r e = (
         ran (sym (before-stop (w .text ++ line) (o .device) (o .flash)) ∙ ap (λ (p : Printed). (w .text ++ line) before p) (sym (if-refused o _ r e)) ∙ follows) both,
         omega (arith, both-short, both .end),
       )
 
 pub all-blocks : (start : Device) (flash bytes : List ℕ) {n : ℕ} → n ≡ blockCount (start .manifest .«block_len») (start .manifest .«image_len»)
-    → blocksFrom (start .manifest .«block_len») n n 1 start flash bytes ≡ blocks start flash bytes
+    → blocksFrom (start .manifest .«block_len») (start .manifest .«image_len») n 1 start flash bytes ≡ blocks start flash bytes
 unfolding blocks countOf
-all-blocks start flash bytes e = ap (λ (k : ℕ). blocksFrom (start .manifest .«block_len») k k 1 start flash bytes) e
+all-blocks start flash bytes e = ap (λ (k : ℕ). blocksFrom (start .manifest .«block_len») (start .manifest .«image_len») k 1 start flash bytes) e
 
 -- the same run, told in another way
 pub rerun : {p q : Printed} {out out' f : List ℕ} {at next : ℕ} {d : Device} → p ≡ q → Ran p out at out' next d f → Ran q out at out' next d f

@@ -15,11 +15,10 @@ use Rattle.octets.proofs.CopyLaws.{part-second}
 use Rattle.sha256.specs.Sha256.{digest}
 use Rattle.sha256.proofs.DigestLaws.{length-digest}
 use Rattle.merkle.specs.Limits.{heldBytes}
-use Rattle.merkle.specs.Frontier.{messageLength}
 use Rattle.lms.specs.Lms.{valid}
 use Rattle.wire.specs.declared.manifest.Manifest.{Manifest}
 use Rattle.wire.specs.declared.kind.Kind.the-variants.{Program, Block}
-use Rattle.wire.specs.Geometry.{countOf, blockLength}
+use Rattle.wire.specs.Geometry.{countOf}
 use Rattle.wire.specs.Message.{kind, dueLength}
 use Rattle.wire.proofs.MessageLaws.{OfProgram}
 use Rattle.sender.specs.Job.{Job, count, manifestFor, programFor, blockFor}
@@ -73,23 +72,22 @@ module _ (job : Job) (ok : Sendable job) (old : List ℕ) where
 
   one : (left j : ℕ) (s : Situation) (rest : List ℕ) → j < count (job .image) → Loading j s
       → (let t = accept Block (s .device) (s .flash) (blockFor digest (job .image) (suc j)) in
-      blocksFrom (job .image .«block_len») (count (job .image)) (suc left) (suc j) (s .device) (s .flash) (blockFor digest (job .image) (suc j) ++ rest)
-      ≡ blockLine (suc j) 0 before blocksFrom (job .image .«block_len») (count (job .image)) left (suc (suc j)) (t .device) (t .flash) rest)
+      blocksFrom (job .image .«block_len») (length (job .image .bytes)) (suc left) (suc j) (s .device) (s .flash) (blockFor digest (job .image) (suc j) ++ rest)
+      ≡ blockLine (suc j) 0 before blocksFrom (job .image .«block_len») (length (job .image .bytes)) left (suc (suc j)) (t .device) (t .flash) rest)
   unfolding blocksFrom ifAccepted
   one left j s rest h w =
       let m : List ℕ = blockFor digest (job .image) (suc j) in
       let b = block-sent digest length-digest job ok j h in
-      let due : ℕ = messageLength (job .image .«block_len») (count (job .image)) (suc j) in
-      let long : length m ≡ due = unfold messageLength dueLength blockLength count in b .size in
-      let first : take due (m ++ rest) ≡ m = take-at m rest due long in
-      let behind : drop due (m ++ rest) ≡ rest = drop-at m rest due long in
+      let due : ℕ = dueLength (job .image .«block_len») (length (job .image .bytes)) (suc j) in
+      let first : take due (m ++ rest) ≡ m = take-at m rest due (b .size) in
+      let behind : drop due (m ++ rest) ≡ rest = drop-at m rest due (b .size) in
       let o : step digest valid (s .device) (s .flash) m ≡ (let t = accept Block (s .device) (s .flash) m in record { answer = Accepted; device = t .device; flash = t .flash }) =
       accepted-step (s .device) (s .flash) m (next-accepted digest length-digest valid job ok old j s w h)
       ∙ ap (λ k. let t = accept k (s .device) (s .flash) m in record { answer = Accepted; device = t .device; flash = t .flash }) (b .is) in
       rw (first, behind, o) refl
 
   runs : (left j : ℕ) (s : Situation) (filler : List ℕ) → j + left ≡ count (job .image) → Loading j s
-      → Runs left j (blocksFrom (job .image .«block_len») (count (job .image)) left (suc j) (s .device) (s .flash) (messagesAfter job j left ++ filler))
+      → Runs left j (blocksFrom (job .image .«block_len») (length (job .image .bytes)) left (suc j) (s .device) (s .flash) (messagesAfter job j left ++ filler))
   unfolding blocksFrom acceptedFrom _before_ messagesAfter
   runs zero j s filler e w = let z : j ≡ count (job .image) = omega arith in record { text = refl; here = subst (λ k. Loading k s) z w }
   runs (suc left) j s filler e w =
@@ -97,7 +95,7 @@ module _ (job : Job) (ok : Sendable job) (old : List ℕ) where
       let m : List ℕ = blockFor digest (job .image) (suc j) in
       let t : Situation = accept Block (s .device) (s .flash) m in
       let r = runs left (suc j) t filler (omega arith) (next-here digest length-digest valid job ok old j s w h) in
-      let same = ap (blocksFrom (job .image .«block_len») (count (job .image)) (suc left) (suc j) (s .device) (s .flash)) (append-assoc m (messagesAfter job (suc j) left) filler)
+      let same = ap (blocksFrom (job .image .«block_len») (length (job .image .bytes)) (suc left) (suc j) (s .device) (s .flash)) (append-assoc m (messagesAfter job (suc j) left) filler)
       ∙ one left j s (messagesAfter job (suc j) left ++ filler) h w in
       subst (Runs (suc left) j) (sym same) (record { text = ap (λ x. blockLine (suc j) 0 ++ x) (r .text); here = r .here })
 
@@ -168,15 +166,18 @@ module _ (key flash : List ℕ) (job : Job) (filler signature : List ℕ) (h : L
   unfolding blocks
   ran = subst (Runs job ok flash (count (job .image)) 0) (sym (of-manifest ∙ of-messages)) (runs job ok flash (count (job .image)) 0 begun filler (zero-add (count (job .image))) here)
     where
-      from : (L n : ℕ) → List ℕ → Printed
-      from L n b = blocksFrom L n n 1 (begun .device) (begun .flash) (b ++ filler)
+      from : (L T n : ℕ) → List ℕ → Printed
+      from L T n b = blocksFrom L T n 1 (begun .device) (begun .flash) (b ++ filler)
 
-      of-manifest : blocks (begun .device) (begun .flash) front ≡ from (job .image .«block_len») (count (job .image)) (blockMessages digest (job .image) (count (job .image)))
-      of-manifest = unfold countOf manifestFor count in ap (λ (s : Manifest). from (s .«block_len») (countOf s) (blockMessages digest (job .image) (count (job .image)))) (here .manifest)
+      this : List ℕ → Printed
+      this b = from (job .image .«block_len») (length (job .image .bytes)) (count (job .image)) b
 
-      of-messages : from (job .image .«block_len») (count (job .image)) (blockMessages digest (job .image) (count (job .image))) ≡ from (job .image .«block_len») (count (job .image)) (messagesAfter job 0 (count (job .image)))
+      of-manifest : blocks (begun .device) (begun .flash) front ≡ this (blockMessages digest (job .image) (count (job .image)))
+      of-manifest = unfold countOf manifestFor count in ap (λ (s : Manifest). from (s .«block_len») (s .«image_len») (countOf s) (blockMessages digest (job .image) (count (job .image)))) (here .manifest)
+
+      of-messages : this (blockMessages digest (job .image) (count (job .image))) ≡ this (messagesAfter job 0 (count (job .image)))
       of-messages = unfold blockMessages joined upTo in
-          ap (from (job .image .«block_len») (count (job .image))) (ap (blockMessages digest (job .image)) (sym (zero-add (count (job .image)))) ∙ messages-after job (count (job .image)) 0)
+          ap this (ap (blockMessages digest (job .image)) (sym (zero-add (count (job .image)))) ∙ messages-after job (count (job .image)) 0)
 
   taken : messages d flash (bundle front program) ≡ slipLine 0 before blocks (begun .device) (begun .flash) front
   unfolding messages ifAccepted

@@ -6,9 +6,9 @@ use lib.Dec.{eqb, ltb}
 use lib.ListN.{length, take, drop}
 use Rattle.octets.specs.Octets.{number, part}
 use Rattle.sha256.specs.Sha256.{digest}
-use Rattle.merkle.specs.Frontier.{messageLength}
 use Rattle.lms.specs.Lms.{keyLength, valid}
 use Rattle.wire.specs.Geometry.{countOf}
+use Rattle.wire.specs.Message.{dueLength}
 use Rattle.machine.specs.declared.state.Device.{Device}
 use Rattle.machine.specs.declared.state.Answer.the-variants.{Accepted, Refused}
 use Rattle.machine.specs.Device.{freshWith, Outcome}
@@ -48,18 +48,18 @@ stop d flash = record { text = []; device = d; flash = flash }
 unfoldable pub ifAccepted : Outcome → Printed → Printed
 ifAccepted o then = elim (o .answer) [ Accepted ↦ then | Refused r ↦ stop (o .device) (o .flash) ]
 
--- `left` block messages of blocks of L bytes, from number i on, n in all; bytes are those left before the kind 1 message.
+-- `left` block messages, from number i on, of an image of T bytes in blocks of L; bytes are those left before the kind 1 message.
 -- "Each block message is cut at its due length, or at the bytes left before the slip." "`block` and the number due, then 0 if accepted or the refusal number"
-unfoldable pub blocksFrom : (L n left i : ℕ) → Device → (flash bytes : List ℕ) → Printed
-blocksFrom L n zero i d flash bytes = stop d flash
-blocksFrom L n (suc left) i d flash bytes =
-    let due = messageLength L n i in
+unfoldable pub blocksFrom : (L T left i : ℕ) → Device → (flash bytes : List ℕ) → Printed
+blocksFrom L T zero i d flash bytes = stop d flash
+blocksFrom L T (suc left) i d flash bytes =
+    let due = dueLength L T i in
     let o = step digest valid d flash (take due bytes) in
-    blockLine i (numberOf (o .answer)) before ifAccepted o (blocksFrom L n left (suc i) (o .device) (o .flash) (drop due bytes))
+    blockLine i (numberOf (o .answer)) before ifAccepted o (blocksFrom L T left (suc i) (o .device) (o .flash) (drop due bytes))
 
 -- all blocks of the device's manifest
 unfoldable pub blocks : Device → (flash bytes : List ℕ) → Printed
-blocks d flash bytes = let s = d .manifest in blocksFrom (s .«block_len») (countOf s) (countOf s) 1 d flash bytes
+blocks d flash bytes = let s = d .manifest in blocksFrom (s .«block_len») (s .«image_len») (countOf s) 1 d flash bytes
 
 -- "hands over the slip, and if that is accepted the blocks"; where there is no slip, "the line `slip 0 3`"
 unfoldable pub messages : Device → (flash bundle : List ℕ) → Printed

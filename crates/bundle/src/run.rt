@@ -29,14 +29,15 @@ fn blocks(start: Device, flash: &mut [u8], bytes: &[u8], out: &mut [u8], from: u
         × (r .at ≤ from + 15 * maxBlocks) ⌝ }
 {
     let manifest = start.manifest;
-    let block = manifest.block_len as usize;
-    let n = wire::block_count(block, manifest.image_len as usize);
+    let block_len = manifest.block_len as usize;
+    let image_len = manifest.image_len as usize;
+    let n = wire::block_count(block_len, image_len);
     let mut device = start;
     let mut at = from;
     let mut read: usize = 0;
     let mut number: usize = 1;
     while number <= n {
-        let end = cut(bytes, read, merkle::message_len(block, n, number));
+        let end = cut(bytes, read, wire::due_len(block_len, image_len, number));
         let reply = device::receive(device, flash, &bytes[read..end]);
         let answer = reply.answer;
         let next = reply.device;

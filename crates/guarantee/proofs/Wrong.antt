@@ -14,7 +14,7 @@ use Rattle.merkle.specs.Limits.{hashLength, heldBytes}
 use Rattle.merkle.specs.Blocks.{blockCount, cut}
 use Rattle.merkle.specs.Shape.{size, leastFrom, depth, split, build, shape}
 use Rattle.merkle.specs.Hash.{hash, hashes, climbFrom, climb}
-use Rattle.merkle.specs.Frontier.{largest, rightSiblings, siblings, carriedCount, messageLength, frontier, heldCount}
+use Rattle.merkle.specs.Frontier.{largest, rightSiblings, siblings, carriedCount, frontier, heldCount}
 use Rattle.merkle.specs.Held.{hashesIn, heldStart, heldIn, nextHeld, begun, advanced, fits, sent}
 use Rattle.wire.specs.declared.kind.Kind.the-variants.{Program, Block, Update, Unknown}
 use Rattle.wire.specs.declared.manifest.Manifest.{Manifest}
@@ -85,7 +85,7 @@ byKind p b u d f m = elim (kind m) [ Program ↦ p d f m | Block ↦ b d f m | U
 
 -- What the runs compute with, by layer: to unfold the last is to unfold all.
 tree-computes : ℕ
-unfolding blockCount cut size leastFrom depth split build shape hash hashes climbFrom climb largest rightSiblings siblings carriedCount messageLength frontier heldCount joined hashesIn heldStart heldIn nextHeld begun advanced fits sent
+unfolding blockCount cut size leastFrom depth split build shape hash hashes climbFrom climb largest rightSiblings siblings carriedCount frontier heldCount joined hashesIn heldStart heldIn nextHeld begun advanced fits sent
 tree-computes = 0
 
 wire-computes : ℕ

@@ -2,13 +2,13 @@
 use mathlib.Core.Path.{_≡_, refl, sym, ap, _∙_}
 use mathlib.Core.Logic.{⊎-elim}
 use mathlib.Core.List.{List, [], _∷_}
-use Prim.Native.Nat.{ℕ, zero, suc, _+_, _-_, _*_, _^_, max, _≤_, _<_}
+use Prim.Native.Nat.{ℕ, zero, suc, _+_, _-_, _^_, max, _≤_, _<_}
 use native.Mathlib.Omega.{arith}
 use lib.Dec.{lit≤}
 use lib.ListN.{length, length-append}
-use Rattle.merkle.specs.Limits.{maxBlocks, maxHeld, hashLength}
+use Rattle.merkle.specs.Limits.{maxBlocks, maxHeld}
 use Rattle.merkle.specs.Shape.{Shape, leaf, node, size, height, depth, split, shape}
-use Rattle.merkle.specs.Frontier.{rightSiblings, siblings, frontier, carriedCount, messageLength, heldCount}
+use Rattle.merkle.specs.Frontier.{rightSiblings, siblings, frontier, carriedCount, heldCount}
 use Rattle.merkle.specs.Hash.{plain}
 use Rattle.merkle.specs.Claims.{Next}
 use Rattle.merkle.proofs.ShapeLaws.{lt-or-le, shape-leaf, size-shape, depth-least, height-node, depth-known, halves, size-left, size-right}
@@ -147,8 +147,3 @@ counted-most n i h c lt le e =
     let most = k .most in
     let enough = k .enough in
     (omega arith, omega arith, omega arith)
-
--- the bytes of a block message, from the count of hashes that it carries
-pub message-length : (L n i c : ℕ) → 0 < i → c ≡ carriedCount n (i - 1 + 1) → 3 + L + hashLength * c ≡ messageLength L n i
-unfolding messageLength
-message-length L n i c pos e = let z : i - 1 + 1 ≡ i = omega arith in ap (λ x. 3 + L + hashLength * x) (e ∙ ap (carriedCount n) z)

@@ -1,10 +1,9 @@
 -- What a block message carries, and what a loading device holds.
 use mathlib.Core.Bool.{cond}
 use mathlib.Core.List.{List, [], _∷_, _++_}
-use Prim.Native.Nat.{ℕ, pred, _+_, _-_, _*_}
+use Prim.Native.Nat.{ℕ, pred, _+_, _-_}
 use lib.Dec.{ltb}
 use lib.ListN.{length}
-use Rattle.merkle.specs.Limits.{hashLength}
 use Rattle.merkle.specs.Shape.{Shape, leaf, node, size, Place, shape}
 
 -- The largest subtree whose first block has i blocks of the tree s before it; o blocks stand before s.
@@ -25,10 +24,6 @@ siblings o s i = let p = largest o s i in rightSiblings (p .0) (p .1)
 -- 01: c(i), i from 1: how many hashes message i carries. For n = 5: 3, 0, 1, 0, 0.
 unfoldable pub carriedCount : (n i : ℕ) → ℕ
 carriedCount n i = length (siblings 0 (shape n) (pred i))
-
--- The bytes of block message i: kind, number, block, hashes. With L = 256 and n = 8, message 1 has 355.
-unfoldable pub messageLength : ℕ → ℕ → ℕ → ℕ
-messageLength L n i = 3 + L + hashLength * carriedCount n i
 
 -- The frontier (01: the subtrees whose labels the drive holds) after i blocks of a tree that has o blocks before it: the fewest subtrees that cover
 -- exactly the blocks after these, in block order. Before the first block it is the root alone.

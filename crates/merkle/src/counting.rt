@@ -1,11 +1,10 @@
 // How many hashes are held and carried. Neither number is stored: both follow from the block count and the blocks before.
-use crate::limits::HASH_LEN;
 ghost use mathlib.Core.Path.{_≡_};
 ghost use Prim.Native.Nat.{_+_, _^_, _≤_, _<_};
 ghost use lib.Count.{trailingZeros};
 ghost use Rattle.merkle.specs.Limits.{maxBlocks};
 ghost use Rattle.merkle.specs.Shape as shape;
-ghost use Rattle.merkle.specs.Frontier.{heldCount, carriedCount, messageLength};
+ghost use Rattle.merkle.specs.Frontier.{heldCount, carriedCount};
 
 // How many hashes are held before a block, and how many its message carries.
 pub struct Counts {
@@ -64,13 +63,4 @@ pub fn count(n: usize, before: usize) -> Counts
         held: held_after(n, before),
         carried: depth(size),
     }
-}
-
-// The bytes of block message `number` of n, from 1: kind, number, block, hashes.
-pub fn message_len(block: usize, n: usize, number: usize) -> usize
-    requires { ⌜ (block ≤ 1024) × (0 < number) × (number ≤ n) × (n ≤ maxBlocks) ⌝ }
-    ensures { λ r. ⌜ r ≡ messageLength block n number ⌝ }
-{
-    let counts = count(n, number - 1);
-    3 + block + HASH_LEN * counts.carried
 }

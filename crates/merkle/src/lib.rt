@@ -7,7 +7,6 @@ mod path;
 mod tree;
 
 pub use counting::count;
-pub use counting::message_len;
 pub use frontier::advance;
 pub use frontier::begin;
 pub use frontier::fits;

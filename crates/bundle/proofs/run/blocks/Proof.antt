@@ -8,30 +8,30 @@ use Rattle.bundle.proofs.run.blocks.Statement.{statement}
 use Rattle.bundle.proofs.run.blocks.Tie as tie
 
 abbrev Inv-loop : tie.InvT-loop
-Inv-loop flash₀ bytes out₀ from block n device₀ at₀ read₀ number₀ t17 flash out device at read number =
-    Looping block n device₀ flash₀ bytes out₀ from flash out device at read number
+Inv-loop flash₀ bytes out₀ from block-len image-len n device₀ at₀ read₀ number₀ t18 flash out device at read number =
+    Looping block-len image-len n device₀ flash₀ bytes out₀ from flash out device at read number
 
 abbrev μ-loop : tie.MeasureT-loop
-μ-loop flash₀ bytes out₀ from block n device₀ at₀ read₀ number₀ t17 flash out device at read number =
+μ-loop flash₀ bytes out₀ from block-len image-len n device₀ at₀ read₀ number₀ t18 flash out device at read number =
     n + 1 - number
 
-cast-block : tie.Need-cast-block Inv-loop μ-loop
-cast-block c = search needs
+cast-block-len : tie.Need-cast-block-len Inv-loop μ-loop
+cast-block-len c = search needs
 
-cast-block-count : tie.Need-cast-block-count Inv-loop μ-loop
-cast-block-count c = search needs
+cast-image-len : tie.Need-cast-image-len Inv-loop μ-loop
+cast-image-len c = search needs
 
 block-count-requires : tie.Need-block-count-requires Inv-loop μ-loop
 block-count-requires c κs = let z = sized _ _ (c .before .before .before .before .before .before .pre .0) in (omega (arith, z .least), omega (arith, z .some))
 
 loop-holds : tie.Need-loop-holds Inv-loop μ-loop
-loop-holds c = looping-start _ _ _ _ _ _ _
+loop-holds c = looping-start _ _ _ _ _ _ _ _
 
-message-len-requires : tie.Need-message-len-requires Inv-loop μ-loop
-message-len-requires c κs =
-    let z = sized _ _ (c .before .before .before .before .before .before .before .before .before .pre .0) in
+due-len-requires : tie.Need-due-len-requires Inv-loop μ-loop
+due-len-requires c κs =
+    let n = c .before .before .block-count in
     let l = c .before .loop in
-    (omega (arith, z .most), l .inv .first, omega arith, few-blocks _ _ (c .before .before .before .before .before .before .before .before .before .pre .0) (c .before .before .block-count .ensures))
+    (c .before .before .before .before .before .before .before .before .before .pre .0, l .inv .first, omega (arith, n .ensures))
 
 cut-requires : tie.Need-cut-requires Inv-loop μ-loop
 cut-requires c κs = c .before .before .loop .inv .inside
@@ -60,7 +60,7 @@ put-message-requires c κs =
     let s = c .before .before .before .before .before .before .before .before .before .before .before .before .before .before .before .before .before .before .before .before in
     let n = c .before .before .before .before .before .before .before .before .before .before .before .before .before .block-count in
     let few : n .result ≤ maxBlocks = few-blocks _ _ (s .pre .0) (n .ensures) in
-    line-fits _ _ _ _ _ _ _ (l .inv) (l .inv .last) few (s .pre .1) _ (omega (arith, c .before .before .before .before .before .before .before .before .before .before .before .loop-test .taken)) (omega arith)
+    line-fits _ _ _ _ _ _ _ _ (l .inv) (l .inv .last) few (s .pre .1) _ (omega (arith, c .before .before .before .before .before .before .before .before .before .before .before .loop-test .taken)) (omega arith)
 
 enum-told : tie.Need-enum-told Inv-loop μ-loop
 enum-told c = search needs
@@ -77,7 +77,7 @@ same-length-2 c =
     let s = c .before .before .before .before .before .before .before .before .before .before .before .before .before .before .before .before .before .before .before .before .before .before .before .before .before in
     let n = c .before .before .before .before .before .before .before .before .before .before .before .before .before .before .before .before .before .before .block-count in
     let few : n .result ≤ maxBlocks = few-blocks _ _ (s .pre .0) (n .ensures) in
-    omega (arith, out-kept _ _ _ _ _ _ _ (l .inv) (l .inv .last) few (s .pre .1))
+    omega (arith, out-kept _ _ _ _ _ _ _ _ (l .inv) (l .inv .last) few (s .pre .1))
 
 returns : tie.Need-returns Inv-loop μ-loop
 returns c =
@@ -85,7 +85,7 @@ returns c =
     let s = c .before .before .before .before .before .before .before .before .before .before .before .before .before .before .before .before .before .before .before .before .before .before .before .before .before in
     let n = c .before .before .before .before .before .before .before .before .before .before .before .before .before .before .before .before .before .before .block-count in
     let few : n .result ≤ maxBlocks = few-blocks _ _ (s .pre .0) (n .ensures) in
-    let r = stopped _ _ _ _ _ _ _ (l .inv) (omega (arith, c .before .before .before .before .before .before .before .before .before .before .before .before .before .before .before .before .loop-test .taken)) few (s .pre .1) _ _ _ (c .before .before .before .before .before .before .before .before .before .before .before .before .before .before .before .message-len .ensures) (c .before .before .before .before .before .before .before .before .before .before .before .before .before .before .cut .ensures) (c .before .before .before .before .before .before .before .before .before .before .before .receive .ensures) _
+    let r = stopped _ _ _ _ _ _ _ _ (l .inv) (omega (arith, c .before .before .before .before .before .before .before .before .before .before .before .before .before .before .before .before .loop-test .taken)) few (s .pre .1) _ _ _ (c .before .before .before .before .before .before .before .before .before .before .before .before .before .before .before .due-len .ensures) (c .before .before .before .before .before .before .before .before .before .before .before .before .before .before .cut .ensures) (c .before .before .before .before .before .before .before .before .before .before .before .receive .ensures) _
     (c .before .before .before .before .before .answer-number .ensures) (omega arith) (c .before .before .before .before .put-message .ensures) _ (c .enum-told2 .given .1) in
     (rerun (all-blocks _ _ _ (n .ensures)) (r .0), r .1)
 
@@ -106,7 +106,7 @@ loop-again c =
     let s = c .before .before .before .before .before .before .before .before .before .before .before .before .before .before .before .before .before .before .before .before .before .before .before .before .before in
     let n = c .before .before .before .before .before .before .before .before .before .before .before .before .before .before .before .before .before .before .block-count in
     let few : n .result ≤ maxBlocks = few-blocks _ _ (s .pre .0) (n .ensures) in
-    one-more _ _ _ _ _ _ _ (l .inv) (omega (arith, c .before .before .before .before .before .before .before .before .before .before .before .before .before .before .before .before .loop-test .taken)) few (s .pre .1) _ _ _ (c .before .before .before .before .before .before .before .before .before .before .before .before .before .before .before .message-len .ensures) (c .before .before .before .before .before .before .before .before .before .before .before .before .before .before .cut .ensures) (c .before .before .before .before .before .before .before .before .before .before .before .receive .ensures) _
+    one-more _ _ _ _ _ _ _ _ (l .inv) (omega (arith, c .before .before .before .before .before .before .before .before .before .before .before .before .before .before .before .before .loop-test .taken)) few (s .pre .1) _ _ _ (c .before .before .before .before .before .before .before .before .before .before .before .before .before .before .before .due-len .ensures) (c .before .before .before .before .before .before .before .before .before .before .before .before .before .before .cut .ensures) (c .before .before .before .before .before .before .before .before .before .before .before .receive .ensures) _
     (c .before .before .before .before .before .answer-number .ensures) (omega arith) (c .before .before .before .before .put-message .ensures) (omega arith) (c .enum-told .given .1)
 
 same-length-3 : tie.Need-same-length-3 Inv-loop μ-loop
@@ -118,7 +118,7 @@ same-length-4 c =
     let s = c .before .before .before .before .before .before .before .before .before in
     let n = c .before .before .block-count in
     let few : n .result ≤ maxBlocks = few-blocks _ _ (s .pre .0) (n .ensures) in
-    out-kept _ _ _ _ _ _ _ (l .inv) (l .inv .last) few (s .pre .1)
+    out-kept _ _ _ _ _ _ _ _ (l .inv) (l .inv .last) few (s .pre .1)
 
 returns-2 : tie.Need-returns-2 Inv-loop μ-loop
 returns-2 c =
@@ -126,7 +126,7 @@ returns-2 c =
     let s = c .before .before .before .before .before .before .before .before .before in
     let n = c .before .before .block-count in
     let few : n .result ≤ maxBlocks = few-blocks _ _ (s .pre .0) (n .ensures) in
-    let r = looping-end _ _ _ _ _ _ _ (l .inv) (omega arith) few in
+    let r = looping-end _ _ _ _ _ _ _ _ (l .inv) (omega arith) few in
     (rerun (all-blocks _ _ _ (n .ensures)) (r .0), r .1)
 
 pub blocks-spec : {M : Type 1} → statement M
@@ -135,11 +135,11 @@ blocks-spec =
     (tie.spec
     Inv-loop
     μ-loop
-    cast-block
-    cast-block-count
+    cast-block-len
+    cast-image-len
     block-count-requires
     loop-holds
-    message-len-requires
+    due-len-requires
     cut-requires
     sub-receive
     part-receive-start
