@@ -20,6 +20,7 @@ ghost use Rattle.wire.specs.Message as messages;
 ghost use Rattle.machine.specs.Step.{acceptProgram, stageAfter, acceptBlock, acceptUpdate, refusalOf};
 ghost use Rattle.machine.specs.Step as spec;
 
+// Device and flash after an accepted message of this kind.
 pub fn accept(device: Device, kind: Kind, flash: &mut [u8], message: &[u8]) -> Device
     requires { ⌜ (kind ≡ messages.kind (now message)) × (refusalOf digest valid device (now flash) (now message) ≡ none) ⌝ }
     ensures { λ r. ⌜ spec.accept kind device (now (flash .entry)) (now (message .entry)) ≡ record { device = r; flash = now (flash .exit) } ⌝ }

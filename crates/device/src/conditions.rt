@@ -75,6 +75,7 @@ pub fn other_model(device: Device, manifest: Manifest) -> bool
     manifest.model != device.model
 }
 
+// The serial that a new one must be above: 0 when idle.
 fn serial_of(device: Device) -> u32
     ensures { λ r. ⌜ r ≡ serialOf device ⌝ }
 {

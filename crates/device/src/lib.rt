@@ -17,7 +17,7 @@ ghost use Rattle.lms.specs.Lms.{valid};
 ghost use Rattle.machine.specs.Device.{freshWith};
 ghost use Rattle.machine.specs.Step.{step};
 
-// Idle, with this model and key.
+// A fresh device: idle, with this model and key.
 pub fn fresh(model: u32, key: [u8; 56]) -> Device
     ensures { λ r. ⌜ r ≡ freshWith model key ⌝ }
 {
@@ -38,6 +38,7 @@ pub fn fresh(model: u32, key: [u8; 56]) -> Device
     }
 }
 
+// The answer to a message, and the device after it.
 pub struct Reply {
     pub answer: Answer,
     pub device: Device,

@@ -104,7 +104,7 @@ module _ (H : List ℕ → List ℕ) (hash-long : (x : List ℕ) → length (H x
         let t : s .device .stage ≡ Loading (suc j) = w .stage ∙ rw (lt-ltb j (count (job .image)) h) in
         λ i. record { model = s .device .model; key = s .device .key; stage = t i; manifest = w .manifest i; hashes = s .device .hashes }
 
-    pub next-due : j < count (job .image) → NextDue H valid (s .device) (s .flash) (blockFor H (job .image) (suc j))
+    next-due : j < count (job .image) → NextDue H valid (s .device) (s .flash) (blockFor H (job .image) (suc j))
     next-due h =
         subst (λ d. NextDue H valid d (s .flash) (blockFor H (job .image) (suc j))) (sym (is-loading h))
         (is-due j (s .device .hashes) h (w .array) (w .holds) (s .device .model) (s .device .key) (s .flash) room-now)

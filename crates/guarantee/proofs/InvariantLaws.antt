@@ -30,11 +30,10 @@ use Rattle.machine.specs.declared.state.Stage.the-variants.{Idle, Loading, Comp
 use Rattle.machine.specs.declared.state.Device.{Device}
 use Rattle.machine.specs.Device.{nextOf, Situation}
 use Rattle.machine.specs.Flash.{stored, updated}
-use Rattle.machine.specs.Refusals.{wrongVersion, senseless, notLoading, notComplete, mismatch}
+use Rattle.machine.specs.Refusals.{notLoading, notComplete, mismatch}
 use Rattle.machine.specs.Step.{acceptProgram, stageAfter, acceptBlock, acceptUpdate, accept}
 use Rattle.guarantee.specs.Run.{Messages, _▷_, lastProgram, blocksSince, lastCarrier, signatureIn}
 use Rattle.machine.proofs.RefusalLaws.{ProgramPassed, BlockPassed, UpdatePassed, Passed, took-program, took-block, took-update}
-use Rattle.machine.proofs.SenseLaws.{sense-idle, sense-loading, sense-complete}
 use Rattle.machine.proofs.HeldLaws.{mismatch-is}
 
 -- what an accepted message of each kind adds to the list of those accepted
@@ -63,7 +62,6 @@ module _ (H : List ℕ → List ℕ) (valid : (key message signature : List ℕ)
   -- loading, k blocks accepted
   pub record InLoading (k : ℕ) (s : Manifest) (array flash : List ℕ) (taken : Messages) : Type 0 where
     pub below : k < countOf s
-    pub version : wrongVersion s ≡ false
     pub size : Sized (s .«block_len») (s .«image_len»)
     pub array-size : length array ≡ heldBytes
     pub room : programLength s ≤ length flash
@@ -74,7 +72,6 @@ module _ (H : List ℕ → List ℕ) (valid : (key message signature : List ℕ)
 
   -- complete; first is the manifest of the last program message, before any update
   pub record InComplete (s : Manifest) (flash : List ℕ) (taken : Messages) : Type 0 where
-    pub version : wrongVersion s ≡ false
     pub size : Sized (s .«block_len») (s .«image_len»)
     pub room : programLength s ≤ length flash
     pub carries : Carried taken s
@@ -110,7 +107,6 @@ module _ (H : List ℕ → List ℕ) (valid : (key message signature : List ℕ)
           long = v .long;
           holds = record {
             below = p .size .first;
-            version = p .version;
             size = p .size;
             array-size = length-begun (s .root) lr;
             room = p .room;
@@ -199,7 +195,6 @@ module _ (H : List ℕ → List ℕ) (valid : (key message signature : List ℕ)
               rw (lt-ltb (suc k) n g)
               (record {
                 below = g;
-                version = w .version;
                 size = w .size;
                 array-size = array-long;
                 room = rw flash-long (w .room);
@@ -212,7 +207,6 @@ module _ (H : List ℕ → List ℕ) (valid : (key message signature : List ℕ)
               let q : suc k ≡ n = let b = w .below in omega arith in
               rw (le-ltb (suc k) n g)
               (record {
-                version = w .version;
                 size = w .size;
                 room = rw flash-long (w .room);
                 carries = carried-on;
@@ -260,7 +254,6 @@ module _ (H : List ℕ → List ℕ) (valid : (key message signature : List ℕ)
               long = length-updated p ∙ v .long;
               holds = rw q
                   (record {
-                    version = p .version;
                     size = p .size;
                     room = rw (length-updated p) (p .room);
                     carries = record { carrier = m; last = a .2; manifest = refl; signed = rw (a .3) (rw (v .same) at (p .signed)) };
@@ -276,13 +269,3 @@ module _ (H : List ℕ → List ℕ) (valid : (key message signature : List ℕ)
     kept (took-program q p) = rw q (kept-program q p)
     kept (took-block q p) = rw q (kept-block q p)
     kept (took-update q p) = rw q (kept-update q p)
-
-  -- A device that has the invariant makes sense: refusal 1 never applies.
-  pub makes-sense : (total : ℕ) (d : Device) (flash : List ℕ) (taken : Messages) → Invariant total d flash taken → senseless d ≡ false
-  makes-sense total d flash taken v = go (d .stage) refl (v .holds)
-    where
-      go : (t : Stage) → d .stage ≡ t → Holds t (d .manifest) (d .hashes) flash taken → senseless d ≡ false
-      go Idle q w = sense-idle d q
-      go (Loading zero) q w = absurd w
-      go (Loading (suc k)) q w = sense-loading d (w .version) (w .size) k q (w .below)
-      go Complete q w = sense-complete d (w .version) (w .size) q

@@ -26,6 +26,7 @@ use Rattle.machine.proofs.RefusalLaws.{answer-none, Passed, took-program, took-
 use Rattle.machine.proofs.SenseLaws.{sense-idle, sense-loading, sense-complete}
 use Rattle.guarantee.specs.Run.{Messages, empty, _▷_, after, answerTo, accepted, lastProgram, blocksSince, lastCarrier, Completed}
 use Rattle.guarantee.specs.Demand3.{thenBlocks, Calls, Begun, Honest, begin, next, Loaded, Claim, SecondHalf, Demand3}
+use Rattle.guarantee.specs.Claims.{MakesSense}
 use Rattle.guarantee.specs.Recovery.{Offered, Recovers, Recovery, RecoveryFrom}
 use Rattle.guarantee.proofs.InvariantLaws.{with-program, with-block, with-update}
 use Rattle.guarantee.proofs.RunLaws.{calls}
@@ -106,9 +107,12 @@ module _ (H : List ℕ → List ℕ) (valid : (key message signature : List ℕ)
       go Accepted e t = rw (e, accepted) (more ms m (passed H valid (at ms .device) (at ms .flash) m (unrefused ms m e)) t)
       go (Refused r) e t = rw (e, accepted) t
 
-  -- Where demand 3 holds refusal 1 never applies.
-  pub sense : (ms : Messages) → senseless (at ms .device) ≡ false
+  sense : (ms : Messages) → senseless (at ms .device) ≡ false
   sense ms = sense-of ms (standing ms)
+
+-- Where demand 3 holds refusal 1 never applies.
+pub makes-sense : (H : List ℕ → List ℕ) (valid : (key message signature : List ℕ) → Bool) (any : Device → List ℕ → List ℕ → Outcome) → Demand3 H valid any → MakesSense H valid any
+makes-sense H valid any meets d fresh flash ms = sense H valid any d flash (meets d fresh flash) ms
 
 -- A device that makes sense takes the program that it is offered, and then its blocks.
 module _ (H : List ℕ → List ℕ) (hash-long : (x : List ℕ) → length (H x) ≡ hashLength) (valid : (key message signature : List ℕ) → Bool)
@@ -146,7 +150,7 @@ pub recovery : (H : List ℕ → List ℕ) → ((x : List ℕ) → length (H x) 
     (any : Device → List ℕ → List ℕ → Outcome) → Demand3 H valid any → Recovery H valid any
 recovery H hash-long valid any meets d fresh flash ms job signature =
     let claim : (ms : Messages) → Claim H valid any d flash ms = meets d fresh flash in
-    recovers H hash-long valid any d flash ms job signature (claim ms .calls) (claim ms .first .one) (λ list. claim list .second) (sense H valid any d flash claim ms)
+    recovers H hash-long valid any d flash ms job signature (claim ms .calls) (claim ms .first .one) (λ list. claim list .second) (makes-sense H valid any meets d fresh flash ms)
 
 pub recovery-from : (H : List ℕ → List ℕ) → ((x : List ℕ) → length (H x) ≡ hashLength) → (valid : (key message signature : List ℕ) → Bool) → RecoveryFrom H valid
 unfolding after

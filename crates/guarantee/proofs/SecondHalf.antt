@@ -13,6 +13,7 @@ use Rattle.machine.specs.Device.{Situation, Outcome}
 use Rattle.machine.specs.Step.{step}
 use Rattle.guarantee.specs.Run.{Messages, _▷_}
 use Rattle.guarantee.specs.Demand3.{thenBlocks, Begun, Honest, begin, next, other, Loads, SecondHalf}
+use Rattle.guarantee.specs.Claims.{Beginning, whole, shorter, EachBeginning}
 use Rattle.machine.proofs.RefusalLaws.{program-passed}
 use Rattle.guarantee.proofs.RunLaws.{now, taken, none-at, some-at, more, same}
 use Rattle.guarantee.proofs.SentLaws.{block-sent}
@@ -70,19 +71,16 @@ module _ (H : List ℕ → List ℕ) (hash-long : (x : List ℕ) → length (H x
             };
       }
 
--- A beginning of an honest list is a beginning of what came before the manifest, or an honest list itself: so the second half counts for it as well.
-pub data Beginning (ms : Messages) : Messages → Type 0 where
-  whole : Beginning ms ms
-  shorter : {more : Messages} {x : List ℕ} → Beginning ms more → Beginning ms (more ▷ x)
+module _ (H : List ℕ → List ℕ) (valid : (key message signature : List ℕ) → Bool) (any : Device → List ℕ → List ℕ → Outcome) where
+  shortened : (d : Device) (flash : List ℕ) (job : Job) (before : Messages) (m : List ℕ) {j : ℕ} {ms part : Messages} → Honest H valid any d flash job before m j ms
+      → Beginning part ms → Beginning part before ⊎ ((i : ℕ) × (i ≤ j) × Honest H valid any d flash job before m i part)
+  shortened d flash job before m {j} h whole = inr (j, omega arith, h)
+  shortened d flash job before m begin (shorter b) = inl b
+  shortened d flash job before m (next lt h) (shorter b) = ⊎-elim (λ e. inl e) (λ e. inr (e .0, omega arith, e .2)) (shortened d flash job before m h b)
+  shortened d flash job before m (other x r e h) (shorter b) = shortened d flash job before m h b
 
-module _ (H : List ℕ → List ℕ) (valid : (key message signature : List ℕ) → Bool) (anyStep : Device → List ℕ → List ℕ → Outcome) (d : Device) (flash : List ℕ)
-    (job : Job) (before : Messages) (m : List ℕ) where
-  pub each-beginning : {j : ℕ} {ms part : Messages} → Honest H valid anyStep d flash job before m j ms → Beginning part ms
-      → Beginning part before ⊎ ((i : ℕ) × (i ≤ j) × Honest H valid anyStep d flash job before m i part)
-  each-beginning {j} h whole = inr (j, omega arith, h)
-  each-beginning begin (shorter b) = inl b
-  each-beginning (next lt h) (shorter b) = ⊎-elim (λ e. inl e) (λ e. inr (e .0, omega arith, e .2)) (each-beginning h b)
-  each-beginning (other x r e h) (shorter b) = each-beginning h b
+  pub each-beginning : EachBeginning H valid any
+  each-beginning d flash job before m j ms part h b = shortened d flash job before m h b
 
 pub second-half : (H : List ℕ → List ℕ) → ((x : List ℕ) → length (H x) ≡ hashLength) → (valid : (key message signature : List ℕ) → Bool) (d : Device) (flash : List ℕ) (ms : Messages)
     → SecondHalf H valid (step H valid) d flash ms

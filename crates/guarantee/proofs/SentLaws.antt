@@ -25,7 +25,7 @@ use Rattle.sender.specs.Job.{Job, count, blocks, rootOf, manifestFor, blockFor}
 use Rattle.guarantee.specs.Demand3.{Sendable}
 
 module _ (H : List ℕ → List ℕ) (hash-long : (x : List ℕ) → length (H x) ≡ hashLength) (job : Job) (ok : Sendable job) where
-  pub job-sized : Sized (job .image .«block_len») (length (job .image .bytes))
+  job-sized : Sized (job .image .«block_len») (length (job .image .bytes))
   job-sized = sized (job .image .«block_len») (length (job .image .bytes)) (ok .size)
 
   pub count-some : 0 < count (job .image)

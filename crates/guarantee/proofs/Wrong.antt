@@ -3,7 +3,7 @@ use mathlib.Core.Path.{_≡_, refl, sym, ap, _∙_}
 use mathlib.Core.Bool.{Bool, true, false, cond, true≢false, false≢true}
 use mathlib.Core.List.{List, [], _∷_, _++_}
 use mathlib.Core.Option.{none, some}
-use Prim.Native.Nat.{ℕ, suc}
+use Prim.Native.Nat.{ℕ, suc, _-_}
 use native.Mathlib.Omega.{arith}
 use lib.Dec.{ltb, lit<}
 use lib.ListN.{length, set, take, drop, replicate, length-append, length-replicate}
@@ -32,6 +32,7 @@ use Rattle.machine.specs.declared.state.Answer.the-variants.{Accepted, Refused}
 use Rattle.machine.specs.Device.{Fresh, serialOf, nextOf, heldBy, Situation, Outcome}
 use Rattle.machine.specs.Flash.{stored, updated}
 use Rattle.machine.specs.Refusals.{wrongVersion, senseless, noKind, otherModel, notNewer, tooSmall, notLoading, notComplete, notNext, wrongLength, unlike, mismatch, lacksRoot, unsigned, ofManifest, always, ofProgram, ofBlock, ofUpdate, ofKind, refusals}
+use Rattle.machine.specs.Readers.{numberOf}
 use Rattle.machine.specs.Step.{acceptProgram, stageAfter, acceptBlock, acceptUpdate, accept, answerOf, outcome, refusalOf, step}
 use Rattle.guarantee.specs.Run.{Messages, empty, _▷_, after, answerTo, accepted, lastProgram, blocksSince, lastCarrier, signatureIn, Completed}
 use Rattle.guarantee.specs.Demand3.{thenBlocks, Calls, FirstHalf, Begun, begin, next, SecondHalf, Demand3}
@@ -50,12 +51,15 @@ any k m s = true
 nobody : (key message signature : List ℕ) → Bool
 nobody k m s = false
 
--- an image of two blocks of 64 bytes, and its successor, with another second block
+-- an image of two blocks of 64 bytes, its successor, with another second block, and the image again with a serial that is not new
 job : Job
 job = record { image = record { bytes = replicate 128 3; «block_len» = 64 }; model = 7; serial = 1 }
 
 newer : Job
 newer = record { image = record { bytes = replicate 64 3 ++ replicate 64 4; «block_len» = 64 }; model = 7; serial = 2 }
+
+old : Job
+old = record { image = job .image; model = 7; serial = 0 }
 
 fresh : Device
 fresh = record { model = 7; key = []; stage = Idle; manifest = record { version = 0; «block_len» = 0; model = 0; serial = 0; «image_len» = 0; root = [] }; hashes = replicate heldBytes 0 }
@@ -105,7 +109,7 @@ unfolding stored updated acceptProgram stageAfter acceptBlock acceptUpdate accep
 run-computes = 0
 
 computing : ℕ
-unfolding tree-computes wire-computes sender-computes refusals-compute run-computes toy any nobody job newer fresh flash program right taking refusing but byKind
+unfolding tree-computes wire-computes sender-computes refusals-compute run-computes toy any nobody job newer old fresh flash program right taking refusing but byKind
 computing = 0
 
 abbrev loaded : Messages
@@ -344,6 +348,40 @@ garbling-caught h =
     let z : _≡_ {A = ℕ} 9 3 = ap (λ (l : List ℕ). number (take 1 l)) r in
     omega arith
 
+-- It keeps the hashes of a refused block message, as the paper's algorithm 3.2 does.
+leaking : Step
+leaking = byKind right (λ d f m.
+    let o = right d f m in
+    but o (record { model = d .model; key = d .key; stage = o .device .stage; manifest = d .manifest; hashes = acceptBlock d f m .device .hashes })) right
+
+leaking-caught : Calls toy any leaking fresh flash (empty ▷ program) → ⊥
+unfolding computing leaking
+leaking-caught h =
+    let r = h .refused (blockFor toy (newer .image) 1) refusal.Mismatch refl in
+    let z : _≡_ {A = ℕ} 4 1 = ap (λ (s : Situation). number (take 1 (drop (heldBytes - 31) (s .device .hashes)))) r in
+    omega arith
+
+-- It writes a block before it compares.
+spilling : Step
+spilling = byKind right (λ d f m. let o = right d f m in record { answer = o .answer; device = o .device; flash = acceptBlock d f m .flash }) right
+
+spilling-caught : Calls toy any spilling fresh flash (empty ▷ program ▷ blockFor toy (job .image) 1) → ⊥
+unfolding computing spilling
+spilling-caught h =
+    let r = h .refused (blockFor toy (newer .image) 2) refusal.Mismatch refl in
+    let z : _≡_ {A = ℕ} 4 5 = ap (λ (s : Situation). number (take 1 (drop 64 (s .flash)))) r in
+    omega arith
+
+-- It looks at the flash before it looks at the serial: 8 before 7.
+reordering : Step
+reordering = byKind (λ d f m. cond (tooSmall (manifestIn m) f) (outcome (some refusal.Area) d f (record { device = d; flash = f })) (right d f m)) right right
+
+reordering-caught : Calls toy any reordering fresh [] empty → ⊥
+unfolding computing reordering
+reordering-caught h =
+    let z : _≡_ {A = ℕ} 8 7 = ap numberOf (h .answers (programFor toy old [])) in
+    omega arith
+
 -- None of them meets demand 3; the right device does, with the same hash function and verdict.
 is-fresh : Fresh fresh
 unfolding computing
@@ -380,6 +418,9 @@ none-meets : (Demand3 toy any careless → ⊥)
     × (Demand3 toy any turning → ⊥)
     × (Demand3 toy any rekeying → ⊥)
     × (Demand3 toy any garbling → ⊥)
+    × (Demand3 toy any leaking → ⊥)
+    × (Demand3 toy any spilling → ⊥)
+    × (Demand3 toy any reordering → ⊥)
 none-meets = (
   λ c. careless-caught (c fresh is-fresh flash _ .first),
   λ c. blind-caught (c fresh is-fresh flash _ .first),
@@ -400,4 +441,7 @@ none-meets = (
   λ c. turning-caught (c fresh is-fresh flash _ .calls),
   λ c. rekeying-caught (c fresh is-fresh flash _ .calls),
   λ c. garbling-caught (c fresh is-fresh flash _ .second),
+  λ c. leaking-caught (c fresh is-fresh flash _ .calls),
+  λ c. spilling-caught (c fresh is-fresh flash _ .calls),
+  λ c. reordering-caught (c fresh is-fresh [] _ .calls),
 )

@@ -2,6 +2,7 @@
 use wire::Manifest;
 use wire::Refusal;
 
+// 01: the stage.
 pub enum Stage {
     Idle,
     // With the number of the next block, from 1.
@@ -9,6 +10,7 @@ pub enum Stage {
     Complete,
 }
 
+// 01: the drive's state.
 pub struct Device {
     pub model: u32,
     pub key: [u8; 56],
@@ -19,6 +21,7 @@ pub struct Device {
     pub hashes: [u8; merkle::HELD_LEN],
 }
 
+// To a message.
 pub enum Answer {
     Accepted,
     Refused(Refusal),
