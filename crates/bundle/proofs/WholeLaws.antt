@@ -19,16 +19,17 @@ use Rattle.lms.specs.Lms.{valid}
 use Rattle.wire.specs.declared.manifest.Manifest.{Manifest}
 use Rattle.wire.specs.declared.kind.Kind.the-variants.{Program, Block}
 use Rattle.wire.specs.Geometry.{countOf}
-use Rattle.wire.specs.Message.{kind, dueLength}
+use Rattle.wire.specs.Message.{dueLength}
 use Rattle.wire.proofs.MessageLaws.{OfProgram}
 use Rattle.sender.specs.Job.{Job, count, manifestFor, programFor, blockFor}
 use Rattle.machine.specs.declared.state.Device.{Device}
 use Rattle.machine.specs.declared.state.Answer.the-variants.{Accepted}
 use Rattle.machine.specs.Device.{Fresh, freshWith, serialOf, Situation}
-use Rattle.machine.specs.Step.{accept, outcome, refusalOf, step}
+use Rattle.machine.specs.Step.{accept, refusalOf, step}
 use Rattle.machine.specs.Readers.{acceptedBlocks}
 use Rattle.guarantee.specs.Demand3.{Sendable}
 use Rattle.machine.proofs.RefusalLaws.{program-passed}
+use Rattle.guarantee.proofs.RunLaws.{accepted-step}
 use Rattle.guarantee.proofs.SentLaws.{root-long, block-sent}
 use Rattle.guarantee.proofs.HonestLaws.{Here, next-accepted, next-here, first-here, is-complete, flash-is}
 use Rattle.machine.proofs.SenseLaws.{sense-idle}
@@ -40,12 +41,6 @@ use Rattle.bundle.specs.Bundle.{blockMessages, bundleFor}
 use Rattle.bundle.specs.Claims.{Loadable, acceptedFrom, Whole, LoadsWhole}
 use Rattle.bundle.proofs.LoadLaws.{all-printed}
 use Rattle.bundle.proofs.PackLaws.{messages-suc}
-
--- what an accepted message does
-accepted-step : (d : Device) (f m : List ℕ) → refusalOf digest valid d f m ≡ none
-    → step digest valid d f m ≡ (let s = accept (kind m) d f m in record { answer = Accepted; device = s .device; flash = s .flash })
-unfolding step outcome
-accepted-step d f m e = rw (e, step, outcome)
 
 module _ (job : Job) where
   -- the messages after the first j
@@ -82,7 +77,7 @@ module _ (job : Job) (ok : Sendable job) (old : List ℕ) where
       let first : take due (m ++ rest) ≡ m = take-at m rest due (b .size) in
       let behind : drop due (m ++ rest) ≡ rest = drop-at m rest due (b .size) in
       let o : step digest valid (s .device) (s .flash) m ≡ (let t = accept Block (s .device) (s .flash) m in record { answer = Accepted; device = t .device; flash = t .flash }) =
-      accepted-step (s .device) (s .flash) m (next-accepted digest length-digest valid job ok old j s w h)
+      accepted-step digest valid (s .device) (s .flash) m (next-accepted digest length-digest valid job ok old j s w h)
       ∙ ap (λ k. let t = accept k (s .device) (s .flash) m in record { answer = Accepted; device = t .device; flash = t .flash }) (b .is) in
       rw (first, behind, o) refl
 
@@ -184,7 +179,7 @@ module _ (key flash : List ℕ) (job : Job) (filler signature : List ℕ) (h : L
   taken =
       let f = found front program (unfold bundleFor in h .fits) in
       let o : step digest valid d flash program ≡ record { answer = Accepted; device = begun .device; flash = begun .flash } =
-      accepted-step d flash program none-applies ∙ ap (λ k. let t = accept k d flash program in record { answer = Accepted; device = t .device; flash = t .flash }) (is-sent .is) in
+      accepted-step digest valid d flash program none-applies ∙ ap (λ k. let t = accept k d flash program in record { answer = Accepted; device = t .device; flash = t .flash }) (is-sent .is) in
       rw (f .somewhere, f .program-is, f .front-is, o, messages) refl
 
   state-is : (p : Printed) → Runs job ok flash (count (job .image)) 0 p → stateLine (p .device) ≡ line (ascii "state complete ") (count (job .image))

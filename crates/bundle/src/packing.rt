@@ -5,6 +5,7 @@ use sender::Sent;
 use wire::Kind;
 use wire::Refusal;
 use wire::block_count;
+use wire::too_short;
 use wire::wrong_size;
 ghost use mathlib.Core.Path.{_≡_};
 ghost use mathlib.Core.Bool.{false};
@@ -71,10 +72,7 @@ pub fn pack(
     }
     let n = block_count(block, image.len());
     let least = unsigned_len(block, n);
-    if out.len() < least {
-        return Sent::Refused(Refusal::Area);
-    }
-    if out.len() - least < signature.len() {
+    if too_short(out.len(), least, signature.len()) {
         return Sent::Refused(Refusal::Area);
     }
     let at = put_blocks(image, len, n as u32, out);

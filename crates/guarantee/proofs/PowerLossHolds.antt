@@ -1,7 +1,7 @@
 -- Power loss: the same block messages over two flashes that agree where it counts, and an update over its own torn block.
 use mathlib.Core.Path.{_≡_, refl, sym, ap, _∙_, subst}
 use mathlib.Core.Logic.{_⊎_, inl, inr}
-use mathlib.Core.Bool.{Bool, false, true≢false}
+use mathlib.Core.Bool.{Bool, true≢false}
 use mathlib.Core.List.{List, _++_}
 use mathlib.Core.Option.{Option, none, some}
 use Prim.Native.Nat.{ℕ, suc, pred, _+_, _*_, _≤_, _<_}
@@ -23,11 +23,11 @@ use Rattle.machine.specs.declared.state.Answer.the-variants.{Accepted}
 use Rattle.machine.specs.Device.{nextOf, Situation}
 use Rattle.machine.specs.Flash.{stored, updated}
 use Rattle.machine.specs.Refusals.{tooSmall, notLoading, ofBlock, ofUpdate, ofKind, refusals}
-use Rattle.machine.specs.Step.{stageAfter, acceptBlock, acceptUpdate, accept, answerOf, outcome, refusalOf, step}
+use Rattle.machine.specs.Step.{stageAfter, acceptBlock, acceptUpdate, accept, answerOf, refusalOf, step}
 use Rattle.machine.proofs.RefusalLaws.{BlockPassed, block-passed, UpdatePassed, update-passed}
 use Rattle.guarantee.specs.Run.{Messages, empty, _▷_, after, answerTo}
 use Rattle.guarantee.specs.PowerLoss.{OnlyBlocks, Agree, SameLoad, TornLoad, TornUpdate}
-use Rattle.guarantee.proofs.RunLaws.{now, refusalAt, answered, none-at, more, same}
+use Rattle.guarantee.proofs.RunLaws.{accepted-step, now, refusalAt, answered, none-at, more, same}
 
 module _ (H : List ℕ → List ℕ) (valid : (key message signature : List ℕ) → Bool) where
   -- of the flash a block message's refusals see the length alone
@@ -41,12 +41,6 @@ module _ (H : List ℕ → List ℕ) (valid : (key message signature : List ℕ)
   unfolding refusalOf refusals ofKind ofUpdate tooSmall
   update-refusal d f g m e long after = rw (e, long, after)
 
-  -- what an accepted message leaves
-  accepted-is : (d : Device) (f m : List ℕ) → refusalOf H valid d f m ≡ none
-      → step H valid d f m ≡ record { answer = Accepted; device = accept (kind m) d f m .device; flash = accept (kind m) d f m .flash }
-  unfolding step outcome
-  accepted-is d f m e = rw (e, outcome)
-
   update-is : (d : Device) (f m : List ℕ) → kind m ≡ Update → refusalOf H valid d f m ≡ none
       → step H valid d f m ≡ record {
         answer = Accepted;
@@ -54,7 +48,7 @@ module _ (H : List ℕ → List ℕ) (valid : (key message signature : List ℕ)
         flash = updated (manifestIn m) f m;
       }
   unfolding accept acceptUpdate
-  update-is d f m k e = accepted-is d f m e ∙ rw (k, accept)
+  update-is d f m k e = accepted-step H valid d f m e ∙ rw (k, accept)
 
   same-update : (d : Device) (f g m : List ℕ) → UpdatePassed H valid d f m
       → (let s = manifestIn m in let at = pred (updateNumber m) * s .«block_len» in let end = at + blockLength (s .«block_len») (s .«image_len») (updateNumber m) in

@@ -23,6 +23,12 @@ accept-keeps Block d flash m = (refl, refl)
 accept-keeps Update d flash m = (refl, refl)
 accept-keeps Unknown d flash m = (refl, refl)
 
+-- what an accepted message does
+pub accepted-step : (H : List ℕ → List ℕ) (valid : (key message signature : List ℕ) → Bool) (d : Device) (f m : List ℕ) → refusalOf H valid d f m ≡ none
+    → step H valid d f m ≡ (let s = accept (kind m) d f m in record { answer = Accepted; device = s .device; flash = s .flash })
+unfolding step outcome
+accepted-step H valid d f m e = rw (e, step, outcome)
+
 module _ (H : List ℕ → List ℕ) (valid : (key message signature : List ℕ) → Bool) (d : Device) (flash : List ℕ) where
   abbrev pub now : Messages → Situation
   now ms = after (step H valid) d flash ms

@@ -18,16 +18,6 @@ module _ (L : ℕ) (image : List ℕ) (z : Sized L (length image)) where
       let k = blockCount L (length image) * L - length image in
       length-append image (replicate k 0xFF) ∙ omega (arith, length-replicate {A = ℕ} k 0xFF, z .above)
 
-  -- the filled image goes on: its blocks stay
-  pub blocks-front : (rest : List ℕ) (k : ℕ) → k < blockCount L (length image) → cut L (filled L image ++ rest) k ≡ imageBlocks L image k
-  unfolding cut imageBlocks
-  blocks-front rest k h =
-      let m : suc k * L ≤ blockCount L (length image) * L = mul-le-mul-right L h in
-      let e : suc k * L ≡ k * L + L = omega arith in
-      let l = length-filled in
-      ap (take L) (drop-append-le (k * L) (filled L image) rest (omega arith))
-      ∙ take-append-le L (drop (k * L) (filled L image)) rest (rw (length-drop (k * L) (filled L image)) (omega arith))
-
   -- each has its length
   pub length-block : (k : ℕ) → k < blockCount L (length image) → length (imageBlocks L image k) ≡ blockLength L (length image) (suc k)
   unfolding cut imageBlocks blockLength

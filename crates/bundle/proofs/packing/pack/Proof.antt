@@ -4,6 +4,7 @@ use Prim.Native.Nat.{ℕ, _+_, _-_, _≤_}
 use native.Mathlib.Omega.{arith}
 use lib.ListN.{length}
 use borrow.Author.Needs.{needs}
+use borrow.Author.Tests.{ltb-true, ltb-false}
 use borrow.Rule.Slice.PartMut.{putMid}
 use Rattle.octets.proofs.NumberLaws.{length-bytes}
 use Rattle.sha256.specs.Sha256.{digest}
@@ -36,12 +37,19 @@ known c = ready _ _ (sym (c .before .before .wrong-size .ensures) ∙ c .before 
 abbrev messages : tie.After-block-count → List ℕ
 messages c = blockMessages digest (this c .image) (c .block-count .result)
 
+-- refusal 8 does not apply
+room : (c : tie.Else2) → (let s = c .before .before .before in c .before .before .unsigned-len .result + length (signature s) ≤ length (out s))
+room c =
+    let s = c .before .before .before in
+    ltb-false (length (out s)) (c .before .before .unsigned-len .result + length (signature s)) (sym (c .before .too-short .ensures) ∙ c .if2 .left)
+
 -- the block messages stand at the start, and what follows has room
 blocks-put : (c : tie.After-put-blocks) → (let s = c .before .before .before .before .before in (c .put-blocks .result ≡ length (messages s)) × (c .put-blocks .result + (leastLength Program + trailerLength) + length (signature s) ≤ length (out s))
     × Put (out s) (c .put-blocks .last .1 .1 .1 .0) (messages s) (c .put-blocks .result))
 blocks-put c =
     let e = c .put-blocks .ensures in
     let y = known (c .before .before .before .before .before) in
+    let r = room (c .before .before) in
     (e .0, omega (arith, y .blocks, e .0, y .some), put-start (c .put-blocks .result) (sym (e .0)) (e .1))
 
 -- and the kind 1 message behind them
@@ -70,20 +78,14 @@ block-count-requires c κs = let z = sized _ _ (sym (c .before .wrong-size .ensu
 unsigned-len-requires : tie.Need-unsigned-len-requires
 unsigned-len-requires c κs = let y = known c in (y .short, y .some, y .few)
 
+too-short-requires : tie.Need-too-short-requires
+too-short-requires c κs = search needs
+
 returns-2 : tie.Need-returns-2
 unfolding sendBundle
 returns-2 c =
-    let s = c .before .before in
-    let l = length-bundle (known s) (this s .model) (this s .serial) (signature s) in
-    area-refused (this s .image) (bundleFor digest (this s) [] (signature s)) (out s) (known s .sized) (omega (arith, l))
-
-sub-if3 : tie.Need-sub-if3
-sub-if3 c = search needs
-
-returns-3 : tie.Need-returns-3
-unfolding sendBundle
-returns-3 c =
     let s = c .before .before .before in
+    let short = ltb-true (length (out s)) (c .before .before .unsigned-len .result + length (signature s)) (sym (c .before .too-short .ensures) ∙ c .if2 .taken) in
     let l = length-bundle (known s) (this s .model) (this s .serial) (signature s) in
     area-refused (this s .image) (bundleFor digest (this s) [] (signature s)) (out s) (known s .sized) (omega (arith, l))
 
@@ -92,7 +94,10 @@ cast-put-blocks c = let y = known (c .before .before .before) in omega (arith, y
 
 put-blocks-requires : tie.Need-put-blocks-requires
 unfolding count
-put-blocks-requires c κs = let y = known (c .before .before .before .before) in (y .sized, y .counted, omega (arith, y .blocks))
+put-blocks-requires c κs =
+    let y = known (c .before .before .before .before) in
+    let r = room (c .before) in
+    (y .sized, y .counted, omega (arith, y .blocks))
 
 sub-program : tie.Need-sub-program
 sub-program c = let b = blocks-put (c .before .before) in omega (arith, b .1, length-put (b .2) (omega arith))
@@ -133,9 +138,9 @@ add-t14 c = let s = c .before .before .before .before .before .before .before .b
 same-length : tie.Need-same-length
 same-length c = search needs
 
-returns-4 : tie.Need-returns-4
+returns-3 : tie.Need-returns-3
 unfolding sendBundle
-returns-4 c =
+returns-3 c =
     let s = c .before .before .before .before .before .before .before .before .before .before .before .before .before .before .before .before .before .before in
     let y = known s in
     let b = blocks-put (c .before .before .before .before .before .before .before .before .before .before .before .before .before) in
@@ -154,9 +159,8 @@ pack-spec =
     returns
     block-count-requires
     unsigned-len-requires
+    too-short-requires
     returns-2
-    sub-if3
-    returns-3
     cast-put-blocks
     put-blocks-requires
     sub-program
@@ -171,4 +175,4 @@ pack-spec =
     copy-requires
     add-t14
     same-length
-    returns-4)
+    returns-3)
