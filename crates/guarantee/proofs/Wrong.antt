@@ -337,7 +337,7 @@ rekeying-caught h =
     let z : _≡_ {A = ℕ} 1 0 = ap (λ (l : List ℕ). length l) (h .key) in
     omega arith
 
--- It stores a block with another first byte. The toy hash does not look at that, so the root is right, and only the honest run shows it.
+-- It stores a block with another first byte. The toy hash does not look at that byte, so the root is right.
 garbling : Step
 garbling = byKind right (λ d f m. let o = right d f m in record { answer = o .answer; device = o .device; flash = set (o .flash) 0 9 }) right
 
