@@ -3,7 +3,7 @@ use mathlib.Core.Path.{_≡_}
 use mathlib.Core.Bool.{true, false}
 use mathlib.Core.List.{List, [], _∷_, _++_}
 use Prim.Native.Nat.{ℕ, zero, suc, _+_, _-_, _*_, _≤_, _<_}
-use lib.ListN.{length, drop}
+use lib.ListN.{length}
 use Rattle.sha256.specs.Sha256.{digest}
 use Rattle.merkle.specs.Limits.{hashLength}
 use Rattle.lms.specs.Lms.{valid}
@@ -12,7 +12,7 @@ use Rattle.wire.specs.Size.{wrongSize}
 use Rattle.wire.specs.Geometry.{programLength}
 use Rattle.wire.specs.Image.{filled}
 use Rattle.wire.specs.Manifest.{written}
-use Rattle.wire.specs.Message.{leastLength}
+use Rattle.wire.specs.Message.{leastLength, atStart}
 use Rattle.sender.specs.Job.{Image, Job, count, manifestFor}
 use Rattle.machine.specs.declared.state.Stage.the-variants.{Complete}
 use Rattle.guarantee.specs.Demand3.{Sendable}
@@ -50,7 +50,7 @@ pub record Whole (job : Job) (bundle flash : List ℕ) (p : Printed) : Type 0 wh
   pub text : p .text ≡ bundleLine (length bundle) ++ slipLine 0 ++ acceptedFrom (count (job .image)) 1 ++ line (ascii "state complete ") (count (job .image))
   pub stage : p .device .stage ≡ Complete
   pub manifest : p .device .manifest ≡ manifestFor digest job
-  pub image : p .flash ≡ filled (job .image .«block_len») (job .image .bytes) ++ drop (count (job .image) * job .image .«block_len») flash
+  pub image : p .flash ≡ atStart (filled (job .image .«block_len») (job .image .bytes)) flash
 
 -- The showroom's bundle for an image, with any filler, loads to complete with that image.
 abbrev pub LoadsWhole : Type 0

@@ -8,7 +8,10 @@ use Rattle.octets.specs.Octets.{number, part}
 use Rattle.sha256.specs.Sha256.{digest}
 use Rattle.lms.specs.Lms.{keyLength, valid}
 use Rattle.wire.specs.Geometry.{countOf}
-use Rattle.wire.specs.Message.{dueLength}
+use Rattle.wire.specs.declared.refusal.Refusal.the-variants.{Area}
+use Rattle.wire.specs.Message.{dueLength, atStart}
+use Rattle.sender.specs.declared.send.Sent.{Sent}
+use Rattle.sender.specs.declared.send.Sent.the-variants as sent
 use Rattle.machine.specs.declared.state.Device.{Device}
 use Rattle.machine.specs.declared.state.Answer.the-variants.{Accepted, Refused}
 use Rattle.machine.specs.Device.{freshWith, Outcome}
@@ -86,9 +89,9 @@ loaded key bundle flash =
     (ascii "bundle over\n" before stop d flash)
     (bundleLine (length bundle) before withState (messages d flash bundle)))
 
--- The text goes to the start of a buffer, which must have room for the longest; else nothing is done. `written` is the text's length.
+-- The text goes to the start of a buffer, which must have room for the longest; else it is refused 8 and nothing is done. The answer is the text's length.
 pub record Loading : Type 0 where
-  pub written : ℕ
+  pub answer : Sent
   pub flash : List ℕ
   pub out : List ℕ
 
@@ -96,4 +99,6 @@ unfoldable pub load : (key bundle flash out : List ℕ) → Loading
 load key bundle flash out =
     let p = loaded key bundle flash in
     let n = length (p .text) in
-    cond (ltb (length out) outputRoom) (record { written = 0; flash = flash; out = out }) (record { written = n; flash = p .flash; out = p .text ++ drop n out })
+    cond (ltb (length out) outputRoom)
+    (record { answer = sent.Refused Area; flash = flash; out = out })
+    (record { answer = sent.Written n; flash = p .flash; out = atStart (p .text) out })

@@ -1,4 +1,4 @@
--- For the code alone: what the contracts of its inner functions say besides, and what helps the proof of a caller.
+-- For the code alone: what the contracts of its inner functions say besides.
 use mathlib.Core.Path.{_≡_}
 use mathlib.Core.Bool.{cond}
 use mathlib.Core.List.{List}
@@ -38,7 +38,3 @@ pub record Ran (p : Printed) (out : List ℕ) (at : ℕ) (out' : List ℕ) (next
   pub written : Written out at out' next (p .text)
   pub device : d ≡ p .device
   pub flash : f ≡ p .flash
-
--- r bytes at the start of the buffer. The second part follows from the first; with it the proof that Rattle makes of `&out[..r]` needs no help.
-abbrev pub Counts : ℕ → List ℕ → Type 0
-Counts r out = (r ≤ length out) × (r ≡ length (take r out))

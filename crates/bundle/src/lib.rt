@@ -6,15 +6,18 @@ mod text;
 
 use lms::KEY_LEN;
 pub use packing::pack;
+pub use packing::written;
+use sender::Sent;
 use text::put;
 use text::put_line;
 use text::put_state;
+use wire::Refusal;
 ghost use mathlib.Core.Path.{_≡_};
 ghost use lib.ListN.{length, take};
 ghost use Prim.Native.Nat.{_≤_};
 ghost use Rattle.lms.specs.Lms.{keyLength};
+ghost use Rattle.sender.specs.Send.{lengthOf};
 ghost use Rattle.bundle.specs.Load as spec;
-ghost use Rattle.bundle.specs.Steps.{Counts};
 
 // A bundle has at most so many bytes.
 pub const BUNDLE_LEN: usize = 65536;
@@ -35,24 +38,24 @@ fn key_of(key: &[u8]) -> [u8; KEY_LEN]
     r
 }
 
-// Loads the bundle into the flash, puts the output at the start of `out` and answers its length. Does nothing and answers 0 where `out` has not
+// Loads the bundle into the flash, puts the output at the start of `out` and answers its length. Does nothing and refuses 8 where `out` has not
 // OUT_LEN bytes. `key` is the content of key.bin, `bundle` that of bundle.bin or, of a longer one, more than BUNDLE_LEN bytes of it.
-pub fn load(key: &[u8], bundle: &[u8], flash: &mut [u8], out: &mut [u8]) -> usize
-    ensures { λ r. ⌜ spec.load (now (key .entry)) (now (bundle .entry)) (now (flash .entry)) (now (out .entry)) ≡ record { written = r; flash = now (flash .exit); out = now (out .exit) } ⌝ }
-    ensures { λ r. ⌜ Counts r (now (out .exit)) ⌝ }
+pub fn load(key: &[u8], bundle: &[u8], flash: &mut [u8], out: &mut [u8]) -> Sent
+    ensures { λ r. ⌜ spec.load (now (key .entry)) (now (bundle .entry)) (now (flash .entry)) (now (out .entry)) ≡ record { answer = r; flash = now (flash .exit); out = now (out .exit) } ⌝ }
+    ensures { λ r. ⌜ lengthOf r ≤ length (now (out .exit)) ⌝ }
 {
     if out.len() < OUT_LEN {
-        return 0;
+        return Sent::Refused(Refusal::Area);
     }
     if key.len() != KEY_FILE_LEN {
-        return put(out, 0, b"key\n");
+        return Sent::Written(put(out, 0, b"key\n"));
     }
     if BUNDLE_LEN < bundle.len() {
-        return put(out, 0, b"bundle over\n");
+        return Sent::Written(put(out, 0, b"bundle over\n"));
     }
     let device = device::fresh(octets::u32_at(key, KEY_LEN), key_of(key));
     let at = put_line(out, 0, b"bundle ", bundle.len());
     let done = run::messages(device, flash, bundle, out, at);
     let last = done.device;
-    put_state(out, done.at, last)
+    Sent::Written(put_state(out, done.at, last))
 }

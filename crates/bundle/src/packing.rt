@@ -20,8 +20,8 @@ ghost use Rattle.sender.specs.Send.{lengthOf, Does, asIs};
 ghost use Rattle.bundle.specs.Bundle.{blockMessages, sendBundle};
 ghost use Rattle.bundle.specs.Steps.{unsignedLength};
 
-// How many bytes the sender wrote.
-fn written(sent: Sent) -> usize
+// How many bytes an answer says were written.
+pub fn written(sent: Sent) -> usize
     ensures { λ r. ⌜ r ≡ lengthOf sent ⌝ }
 {
     match sent {

@@ -28,7 +28,7 @@ use Rattle.wire.specs.Size.{outside}
 use Rattle.wire.specs.Manifest.{written}
 use Rattle.wire.specs.Image.{filled, imageBlocks}
 use Rattle.wire.specs.Geometry.{countOf, blockLength, programLength, withBlock}
-use Rattle.wire.specs.Message.{leastLength, short, manifestBytes, manifestIn, numberIn, blockIn, hashesAfter, dueLength}
+use Rattle.wire.specs.Message.{leastLength, short, manifestBytes, manifestIn, numberIn, blockIn, hashesAfter, dueLength, atStart}
 use Rattle.wire.proofs.GeometryLaws.{more-blocks}
 use Rattle.sender.specs.Job.{Job, count, blocks, rootOf, manifestFor, blockFor}
 use Rattle.machine.specs.declared.state.Stage.the-variants.{Loading, Complete}
@@ -160,11 +160,12 @@ module _ (H : List ℕ → List ℕ) (hash-long : (x : List ℕ) → length (H x
     unfolding heldBy
     none-held e = rw (is-complete e, heldBy)
 
-    pub flash-is : j ≡ count (job .image) → s .flash ≡ filled (job .image .«block_len») (job .image .bytes) ++ drop (count (job .image) * job .image .«block_len») old
+    pub flash-is : j ≡ count (job .image) → s .flash ≡ atStart (filled (job .image .«block_len») (job .image .bytes)) old
     flash-is e =
         let L = job .image .«block_len» in
-        w .flash ∙ ap (λ x. take (x * L) (filled L (job .image .bytes)) ++ drop (x * L) old) e
-        ∙ ap (λ x. x ++ drop (count (job .image) * L) old) (take-all (count (job .image) * L) (filled L (job .image .bytes)) (omega (arith, job-length H hash-long job ok)))
+        let x = filled L (job .image .bytes) in
+        let long : j * L ≡ length x = ap (λ k. k * L) e ∙ sym (job-length H hash-long job ok) in
+        w .flash ∙ ap (λ k. take k x ++ drop k old) long ∙ ap (λ y. y ++ drop (length x) old) (take-all (length x) x (omega arith))
 
   -- the manifest came
   pub first-here : (d : Device) (f m : List ℕ) → manifestBytes m ≡ written (manifestFor H job) → ProgramPassed H valid d f m → Here f 0 (accept Program d f m)

@@ -7,10 +7,12 @@ use Prim.Native.Nat.{ℕ}
 use Rattle.wire.specs.declared.kind.Kind.{Kind}
 use Rattle.wire.specs.declared.kind.Kind.the-variants.{Program, Block, Update, Unknown}
 use Rattle.wire.specs.declared.refusal.Refusal.{Refusal}
+use Rattle.wire.specs.Refusal.{refusalNumber}
 use Rattle.wire.specs.Message.{kind}
 use Rattle.machine.specs.declared.state.Device.{Device}
 use Rattle.machine.specs.declared.state.Answer.the-variants.{Accepted, Refused}
 use Rattle.machine.specs.Device.{Situation}
+use Rattle.machine.specs.Readers.{numberOf}
 use Rattle.machine.specs.Step.{acceptProgram, acceptBlock, acceptUpdate, accept, answerOf, outcome, refusalOf, step}
 use Rattle.guarantee.specs.Run.{Messages, empty, _▷_, after, answerTo, accepted}
 use Rattle.machine.proofs.RefusalLaws.{answer-none, answer-some}
@@ -91,10 +93,16 @@ module _ (H : List ℕ → List ℕ) (valid : (key message signature : List ℕ)
       every-list (λ s taken. (s .device .model ≡ d .model) × (s .device .key ≡ d .key))
       (λ ms m p e. let a = accept-keeps (kind m) (now ms .device) (now ms .flash) m in (a .0 ∙ p .0, a .1 ∙ p .1)) (refl, refl) ms
 
+  by-number : (r : Option Refusal) → numberOf (answerOf r) ≡ elim r [ none ↦ 0 | some x ↦ refusalNumber x ]
+  unfolding answerOf
+  by-number none = refl
+  by-number (some x) = refl
+
   pub calls : (ms : Messages) → Calls H valid (step H valid) d flash ms
   calls ms =
       record {
         answers = λ m. answered ms m;
+        numbers = λ m. ap numberOf (answered ms m) ∙ by-number (refusalAt ms m);
         refused = λ m r e. same ms m r (some-at ms m r e) .after-is;
         model = keeps ms .0;
         key = keeps ms .1;

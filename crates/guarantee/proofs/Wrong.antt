@@ -1,12 +1,13 @@
--- Wrong devices, each with the part of demand 3 that it breaks: by runs that compute, with a toy hash function and a toy verdict.
+-- Wrong devices, each with the part of demand 3 that it breaks: by runs that compute, with a toy hash function and a toy verdict. Where the comment says 'alone',
+-- all other clauses hold of it, by reading.
 use mathlib.Core.Path.{_≡_, refl, sym, ap, _∙_}
-use mathlib.Core.Bool.{Bool, true, false, cond, true≢false, false≢true}
+use mathlib.Core.Bool.{Bool, true, false, not, cond, _&&_, true≢false, false≢true}
 use mathlib.Core.List.{List, [], _∷_, _++_}
 use mathlib.Core.Option.{none, some}
 use Prim.Native.Nat.{ℕ, suc, _-_}
 use native.Mathlib.Omega.{arith}
-use lib.Dec.{ltb, lit<}
-use lib.ListN.{length, set, take, drop, replicate, length-append, length-replicate}
+use lib.Dec.{eqb, ltb, lit<}
+use lib.ListN.{length, getD, set, take, drop, replicate, length-append, length-replicate}
 use lib.Seq.{length-take-le}
 use Rattle.octets.specs.Octets.{bytes, number, joined, equal}
 use Rattle.octets.proofs.EqualLaws.{equal-self}
@@ -26,6 +27,7 @@ use Rattle.wire.specs.Image.{filled, imageBlocks}
 use Rattle.wire.specs.Geometry.{countOf, blockLength, programLength, blocksOf, withBlock, treeOver}
 use Rattle.wire.specs.Message.{kind, carries, short, programMessage, blockMessage, updateMessage, manifestBytes, manifestIn, programSignature, numberIn, blockIn, hashesAfter, updateNumber, updateBlock, updateSignature, dueLength, leastUpdate}
 use Rattle.sender.specs.Job.{Job, count, blocks, rootOf, manifestFor, programFor, blockFor, updateFor}
+use Rattle.machine.specs.declared.state.Stage.{Stage}
 use Rattle.machine.specs.declared.state.Stage.the-variants.{Idle, Loading, Complete}
 use Rattle.machine.specs.declared.state.Device.{Device}
 use Rattle.machine.specs.declared.state.Answer.the-variants.{Accepted, Refused}
@@ -51,7 +53,7 @@ any k m s = true
 nobody : (key message signature : List ℕ) → Bool
 nobody k m s = false
 
--- an image of two blocks of 64 bytes, its successor, with another second block, and the image again with a serial that is not new
+-- an image of two blocks of 64 bytes, its successor, with another second block, the image again with a serial that is not new, and one that needs a byte of filling
 job : Job
 job = record { image = record { bytes = replicate 128 3; «block_len» = 64 }; model = 7; serial = 1 }
 
@@ -61,6 +63,9 @@ newer = record { image = record { bytes = replicate 64 3 ++ replicate 64 4; «bl
 old : Job
 old = record { image = job .image; model = 7; serial = 0 }
 
+unfilled : Job
+unfilled = record { image = record { bytes = replicate 127 3; «block_len» = 64 }; model = 7; serial = 1 }
+
 fresh : Device
 fresh = record { model = 7; key = []; stage = Idle; manifest = record { version = 0; «block_len» = 0; model = 0; serial = 0; «image_len» = 0; root = [] }; hashes = replicate heldBytes 0 }
 
@@ -69,6 +74,13 @@ flash = replicate 130 5
 
 program : List ℕ
 program = programFor toy job []
+
+-- a manifest with a root that no image has, since each toy hash begins with 1: no run with it is honest
+nobodys : List ℕ
+nobodys = programMessage (record { version = 1; «block_len» = 64; model = 7; serial = 1; «image_len» = 128; root = replicate 32 9 }) []
+
+noImage : Manifest → Bool
+noImage s = not (eqb (getD (s .root) 0 0) 1)
 
 -- the device as it should be; one that accepts without a look; one that refuses
 right : Step
@@ -80,9 +92,14 @@ taking d f m = outcome none d f (accept (kind m) d f m)
 refusing : Step
 refusing d f m = outcome (some refusal.State) d f (record { device = d; flash = f })
 
--- an outcome with another device; a device with a step for each kind
+-- An accepted message's outcome with another device, or another flash; a refused one's stays.
 but : Outcome → Device → Outcome
-but o d = record { answer = o .answer; device = d; flash = o .flash }
+but o d = elim (o .answer) [ Accepted ↦ record { answer = Accepted; device = d; flash = o .flash } | Refused r ↦ o ]
+
+butFlash : Outcome → List ℕ → Outcome
+butFlash o f = elim (o .answer) [ Accepted ↦ record { answer = Accepted; device = o .device; flash = f } | Refused r ↦ o ]
+
+-- a device with a step for each kind
 
 byKind : Step → Step → Step → Step
 byKind p b u d f m = elim (kind m) [ Program ↦ p d f m | Block ↦ b d f m | Update ↦ u d f m | Unknown ↦ right d f m ]
@@ -109,7 +126,7 @@ unfolding stored updated acceptProgram stageAfter acceptBlock acceptUpdate accep
 run-computes = 0
 
 computing : ℕ
-unfolding tree-computes wire-computes sender-computes refusals-compute run-computes toy any nobody job newer old fresh flash program right taking refusing but byKind
+unfolding tree-computes wire-computes sender-computes refusals-compute run-computes toy any nobody job newer old unfilled fresh flash program nobodys noImage right taking refusing but butFlash byKind
 computing = 0
 
 abbrev loaded : Messages
@@ -155,46 +172,59 @@ other-serial : (wrong : Step) (ms : Messages) (m : List ℕ) → lastCarrier (ac
     → (after wrong fresh flash ms .device .manifest .serial ≡ manifestIn m .serial → ⊥) → FirstHalf toy any wrong fresh flash ms → ⊥
 other-serial wrong ms m c n h = n (ap (λ (s : Manifest). s .serial) (h .manifest m c))
 
--- It keeps the old manifest when it takes an update.
+-- the device after an accepted message, with another serial in its manifest
+withSerial : ℕ → Device → Device
+withSerial serial d =
+    let s = d .manifest in
+    record {
+      model = d .model;
+      key = d .key;
+      stage = d .stage;
+      manifest = record { version = s .version; «block_len» = s .«block_len»; model = s .model; serial = serial; «image_len» = s .«image_len»; root = s .root };
+      hashes = d .hashes;
+    }
+
+-- It keeps the old serial when it takes an update, so that older updates are taken again: alone.
 keeping : Step
-keeping = byKind right right (λ d f m. but (right d f m) d)
+keeping = byKind right right (λ d f m. let o = right d f m in but o (withSerial (d .manifest .serial) (o .device)))
 
 keeping-caught : FirstHalf toy any keeping fresh flash (loaded ▷ updateFor toy newer 2 []) → ⊥
-unfolding computing keeping
+unfolding computing keeping withSerial
 keeping-caught = other-serial keeping (loaded ▷ updateFor toy newer 2 []) (updateFor toy newer 2 []) refl (λ (e : _≡_ {A = ℕ} 1 2). omega arith)
 
 -- It forgets the serial while it loads, so that older programs are taken again.
-without-serial : Manifest → Manifest
-without-serial s = record { version = s .version; «block_len» = s .«block_len»; model = s .model; serial = 0; «image_len» = s .«image_len»; root = s .root }
-
 forgetting : Step
-forgetting = byKind (λ d f m. but (right d f m) (record { model = d .model; key = d .key; stage = Loading 1; manifest = without-serial (manifestIn m); hashes = begun (manifestIn m .root) })) right right
+forgetting = byKind (λ d f m. let o = right d f m in but o (withSerial 0 (o .device))) right right
 
 forgetting-caught : FirstHalf toy any forgetting fresh flash (empty ▷ program) → ⊥
-unfolding computing forgetting without-serial
+unfolding computing forgetting withSerial
 forgetting-caught = other-serial forgetting (empty ▷ program) program refl (λ (e : _≡_ {A = ℕ} 0 1). omega arith)
 
--- It stays idle after a manifest, so that older serials are taken next.
-idling : Step
-idling = byKind (λ d f m. but (right d f m) (record { model = d .model; key = d .key; stage = Idle; manifest = manifestIn m; hashes = begun (manifestIn m .root) })) right right
+-- the same device at another stage
+at : Stage → Device → Device
+at t d = record { model = d .model; key = d .key; stage = t; manifest = d .manifest; hashes = d .hashes }
 
-idling-caught : FirstHalf toy any idling fresh flash (empty ▷ program) → ⊥
-unfolding computing idling
+-- It stays idle after a manifest whose root no image has, so that older serials are taken next: alone, since no run with it is honest.
+idling : Step
+idling = byKind (λ d f m. let o = right d f m in cond (noImage (manifestIn m)) (but o (at Idle (o .device))) o) right right
+
+idling-caught : FirstHalf toy any idling fresh flash (empty ▷ nobodys) → ⊥
+unfolding computing idling at
 idling-caught h =
-    let e : Idle ≡ Loading 1 = h .loading (manifestFor toy job) refl (lit< tt) in
+    let e : Idle ≡ Loading 1 = h .loading (manifestIn nobodys) refl (lit< tt) in
     let z : _≡_ {A = ℕ} 0 1 = cc in
     omega arith
 
 -- It is complete after the first block.
 early : Step
-early = byKind right (λ d f m. but (right d f m) (record { model = d .model; key = d .key; stage = Complete; manifest = d .manifest; hashes = d .hashes })) right
+early = byKind right (λ d f m. let o = right d f m in but o (at Complete (o .device))) right
 
 early-list : Messages
 early-list = empty ▷ program ▷ blockFor toy (job .image) 1
 
 early-runs : (after early fresh flash early-list .device .stage ≡ Complete) × (blocksSince (accepted early fresh flash early-list) ≡ 1)
     × (lastProgram (accepted early fresh flash early-list) ≡ some (manifestFor toy job)) × (countOf (manifestFor toy job) ≡ 2)
-unfolding computing early early-list
+unfolding computing early at early-list
 early-runs = (refl, refl, refl, refl)
 
 early-caught : FirstHalf toy any early fresh flash early-list → ⊥
@@ -206,18 +236,27 @@ early-caught h =
     let z : _≡_ {A = ℕ} 1 2 = sym (r .1) ∙ c .all ∙ ap countOf q ∙ r .3 in
     omega arith
 
--- It is never complete.
+-- It is not complete where the last block's filling ends with 0, which the toy hash does not see: alone, since the sender fills with 0xFF.
 endless : Step
-endless d f m =
-    let o = right d f m in
-    elim (o .device .stage) [ Idle ↦ o | Loading i ↦ o | Complete ↦ but o d ]
+endless = byKind right (λ d f m. let o = right d f m in cond (eqb (d .manifest .«image_len») 127 && eqb (getD m (length m - 1) 0) 0) (but o (at (d .stage) (o .device))) o) right
 
-endless-caught : FirstHalf toy any endless fresh flash loaded → ⊥
-unfolding computing endless
+endless-list : Messages
+endless-list = empty ▷ programFor toy unfilled [] ▷ blockFor toy (unfilled .image) 1 ▷ blockMessage 2 (replicate 63 3 ++ (0 ∷ [])) []
+
+endless-caught : FirstHalf toy any endless fresh flash endless-list → ⊥
+unfolding computing endless at endless-list
 endless-caught h =
-    let e : Loading 2 ≡ Complete = h .exactly .1 (record { manifest = manifestFor toy job; last = refl; all = refl }) in
+    let e : Loading 2 ≡ Complete = h .exactly .1 (record { manifest = manifestFor toy unfilled; last = refl; all = refl }) in
     let z : _≡_ {A = ℕ} 0 1 = cc in
     omega arith
+
+-- It takes an update's manifest and leaves the block as it was: alone, but for the image, which follows from the root.
+unwritten : Step
+unwritten = byKind right right (λ d f m. butFlash (right d f m) f)
+
+unwritten-caught : FirstHalf toy any unwritten fresh flash (loaded ▷ updateFor toy newer 2 []) → ⊥
+unfolding computing unwritten
+unwritten-caught = unrooted unwritten (loaded ▷ updateFor toy newer 2 []) (record { manifest = manifestFor toy job; last = refl; all = refl }) refl
 
 -- It accepts everything.
 trusting-caught : FirstHalf toy nobody taking fresh flash loaded → ⊥
@@ -253,10 +292,10 @@ still-caught h =
 
 -- It does not put the message's hashes in the place of the held one.
 hoarding : Step
-hoarding = byKind right (λ d f m. but (right d f m) (record { model = d .model; key = d .key; stage = stageAfter 2 (nextOf (d .stage)); manifest = d .manifest; hashes = d .hashes })) right
+hoarding = byKind right (λ d f m. let o = right d f m in but o (at (o .device .stage) d)) right
 
 hoarding-caught : SecondHalf toy any hoarding fresh flash (empty ▷ program ▷ blockFor toy (job .image) 1) → ⊥
-unfolding computing hoarding
+unfolding computing hoarding at
 hoarding-caught h =
     let r = h .loads job empty program 1 (begun-by hoarding refl) (next (lit< tt) begin) .held in
     let z : _≡_ {A = ℕ} 1 3 = ap (λ (l : List (List ℕ)). number (take 1 (drop 1 (joined l)))) r in
@@ -264,16 +303,16 @@ hoarding-caught h =
 
 -- It holds a number of hashes that is not the tree's: its next number runs ahead.
 skipping : Step
-skipping = byKind right (λ d f m. but (right d f m) (record { model = d .model; key = d .key; stage = Loading 3; manifest = d .manifest; hashes = right d f m .device .hashes })) right
+skipping = byKind right (λ d f m. let o = right d f m in but o (at (Loading 3) (o .device))) right
 
 skipping-caught : SecondHalf toy any skipping fresh flash (empty ▷ program ▷ blockFor toy (job .image) 1) → ⊥
-unfolding computing skipping
+unfolding computing skipping at
 skipping-caught h =
     let r = h .loads job empty program 1 (begun-by skipping refl) (next (lit< tt) begin) .held in
     let z : _≡_ {A = ℕ} 0 1 = ap (λ (l : List (List ℕ)). length l) r in
     omega arith
 
--- It refuses every manifest.
+-- It refuses every manifest: alone.
 closed : Step
 closed = byKind refusing right right
 
@@ -295,9 +334,25 @@ hasty-caught h =
     let z : _≡_ {A = ℕ} 9 3 = ap (λ (s : Situation). number (take 1 (s .flash))) r in
     omega arith
 
--- It overwrites a byte behind the program when it takes an update.
+-- While it loads nothing, it writes to its array at a refused message: alone, since nothing looks there before the next manifest.
+scribbling : Step
+scribbling d f m =
+    let o = right d f m in
+    elim (o .answer) [
+      | Accepted ↦ o
+      | Refused r ↦ cond (notLoading (d .stage)) (record { answer = Refused r; device = record { model = d .model; key = d .key; stage = d .stage; manifest = d .manifest; hashes = set (d .hashes) 0 7 }; flash = f }) o
+    ]
+
+scribbling-caught : Calls toy any scribbling fresh flash empty → ⊥
+unfolding computing scribbling
+scribbling-caught h =
+    let r = h .refused [] refusal.Kind refl in
+    let z : _≡_ {A = ℕ} 7 0 = ap (λ (s : Situation). number (take 1 (s .device .hashes))) r in
+    omega arith
+
+-- It overwrites the byte behind the program when it takes an update: alone.
 smearing : Step
-smearing = byKind right right (λ d f m. let o = right d f m in record { answer = o .answer; device = o .device; flash = set (o .flash) 128 0 })
+smearing = byKind right right (λ d f m. let o = right d f m in butFlash o (set (o .flash) (programLength (o .device .manifest)) 0))
 
 smearing-caught : FirstHalf toy any smearing fresh flash loaded → ⊥
 unfolding computing smearing
@@ -305,41 +360,42 @@ smearing-caught h =
     let z : _≡_ {A = ℕ} 0 5 = ap (λ (l : List ℕ). number (take 1 l)) (h .beyond (updateFor toy newer 2 [])) in
     omega arith
 
--- It lengthens the flash by a byte.
-growing : Step
-growing = byKind (λ d f m. let o = right d f m in record { answer = o .answer; device = o .device; flash = f ++ (0 ∷ []) }) right right
+-- It shortens a flash that has just room for the program, when it takes a manifest whose root no image has: alone. (A flash with more room that got another length
+-- would break `beyond` too.)
+shrinking : Step
+shrinking = byKind (λ d f m. let o = right d f m in cond (noImage (manifestIn m) && eqb (length f) (programLength (manifestIn m))) (butFlash o (drop 1 f)) o) right right
 
-growing-caught : FirstHalf toy any growing fresh flash (empty ▷ program) → ⊥
-unfolding computing growing
-growing-caught h =
-    let z : _≡_ {A = ℕ} 131 130 = h .one in
+shrinking-caught : FirstHalf toy any shrinking fresh (replicate 128 5) (empty ▷ nobodys) → ⊥
+unfolding computing shrinking
+shrinking-caught h =
+    let z : _≡_ {A = ℕ} 127 128 = h .one in
     omega arith
 
--- It changes its model, or its key, when it takes a manifest.
-loadingWith : (model : ℕ) (key m : List ℕ) → Device
-loadingWith model key m = record { model = model; key = key; stage = Loading 1; manifest = manifestIn m; hashes = begun (manifestIn m .root) }
+-- It changes its model, or its key, when it takes a manifest: each alone.
+withIdentity : (model : ℕ) (key : List ℕ) → Device → Device
+withIdentity model key d = record { model = model; key = key; stage = d .stage; manifest = d .manifest; hashes = d .hashes }
 
 turning : Step
-turning = byKind (λ d f m. but (right d f m) (loadingWith 8 (d .key) m)) right right
+turning = byKind (λ d f m. let o = right d f m in but o (withIdentity 8 (d .key) (o .device))) right right
 
 turning-caught : Calls toy any turning fresh flash (empty ▷ program) → ⊥
-unfolding computing turning loadingWith
+unfolding computing turning withIdentity
 turning-caught h =
     let z : _≡_ {A = ℕ} 8 7 = h .model in
     omega arith
 
 rekeying : Step
-rekeying = byKind (λ d f m. but (right d f m) (loadingWith (d .model) (1 ∷ []) m)) right right
+rekeying = byKind (λ d f m. let o = right d f m in but o (withIdentity (d .model) (1 ∷ []) (o .device))) right right
 
 rekeying-caught : Calls toy any rekeying fresh flash (empty ▷ program) → ⊥
-unfolding computing rekeying loadingWith
+unfolding computing rekeying withIdentity
 rekeying-caught h =
     let z : _≡_ {A = ℕ} 1 0 = ap (λ (l : List ℕ). length l) (h .key) in
     omega arith
 
--- It stores a block with another first byte. The toy hash does not look at that byte, so the root is right.
+-- It stores a block with another first byte: alone, since the toy hash does not look at that byte, and the root is right.
 garbling : Step
-garbling = byKind right (λ d f m. let o = right d f m in record { answer = o .answer; device = o .device; flash = set (o .flash) 0 9 }) right
+garbling = byKind right (λ d f m. let o = right d f m in butFlash o (set (o .flash) 0 9)) right
 
 garbling-caught : SecondHalf toy any garbling fresh flash loaded → ⊥
 unfolding computing garbling
@@ -352,7 +408,11 @@ garbling-caught h =
 leaking : Step
 leaking = byKind right (λ d f m.
     let o = right d f m in
-    but o (record { model = d .model; key = d .key; stage = o .device .stage; manifest = d .manifest; hashes = acceptBlock d f m .device .hashes })) right
+    record {
+      answer = o .answer;
+      device = record { model = d .model; key = d .key; stage = o .device .stage; manifest = d .manifest; hashes = acceptBlock d f m .device .hashes };
+      flash = o .flash;
+    }) right
 
 leaking-caught : Calls toy any leaking fresh flash (empty ▷ program) → ⊥
 unfolding computing leaking
@@ -372,7 +432,7 @@ spilling-caught h =
     let z : _≡_ {A = ℕ} 4 5 = ap (λ (s : Situation). number (take 1 (drop 64 (s .flash)))) r in
     omega arith
 
--- It looks at the flash before it looks at the serial: 8 before 7.
+-- It looks at the flash before it looks at the serial, 8 before 7: alone.
 reordering : Step
 reordering = byKind (λ d f m. cond (tooSmall (manifestIn m) f) (outcome (some refusal.Area) d f (record { device = d; flash = f })) (right d f m)) right right
 
@@ -406,6 +466,7 @@ none-meets : (Demand3 toy any careless → ⊥)
     × (Demand3 toy any idling → ⊥)
     × (Demand3 toy any early → ⊥)
     × (Demand3 toy any endless → ⊥)
+    × (Demand3 toy any unwritten → ⊥)
     × (Demand3 toy nobody taking → ⊥)
     × (Demand3 toy any deaf → ⊥)
     × (Demand3 toy any still → ⊥)
@@ -413,8 +474,9 @@ none-meets : (Demand3 toy any careless → ⊥)
     × (Demand3 toy any skipping → ⊥)
     × (Demand3 toy any closed → ⊥)
     × (Demand3 toy any hasty → ⊥)
+    × (Demand3 toy any scribbling → ⊥)
     × (Demand3 toy any smearing → ⊥)
-    × (Demand3 toy any growing → ⊥)
+    × (Demand3 toy any shrinking → ⊥)
     × (Demand3 toy any turning → ⊥)
     × (Demand3 toy any rekeying → ⊥)
     × (Demand3 toy any garbling → ⊥)
@@ -429,6 +491,7 @@ none-meets = (
   λ c. idling-caught (c fresh is-fresh flash _ .first),
   λ c. early-caught (c fresh is-fresh flash _ .first),
   λ c. endless-caught (c fresh is-fresh flash _ .first),
+  λ c. unwritten-caught (c fresh is-fresh flash _ .first),
   λ c. trusting-caught (c fresh is-fresh flash _ .first),
   λ c. deaf-caught (c fresh is-fresh flash _ .second),
   λ c. still-caught (c fresh is-fresh flash _ .second),
@@ -436,8 +499,9 @@ none-meets = (
   λ c. skipping-caught (c fresh is-fresh flash _ .second),
   λ c. closed-caught (c fresh is-fresh flash _ .calls),
   λ c. hasty-caught (c fresh is-fresh flash _ .calls),
+  λ c. scribbling-caught (c fresh is-fresh flash _ .calls),
   λ c. smearing-caught (c fresh is-fresh flash _ .first),
-  λ c. growing-caught (c fresh is-fresh flash _ .first),
+  λ c. shrinking-caught (c fresh is-fresh (replicate 128 5) _ .first),
   λ c. turning-caught (c fresh is-fresh flash _ .calls),
   λ c. rekeying-caught (c fresh is-fresh flash _ .calls),
   λ c. garbling-caught (c fresh is-fresh flash _ .second),

@@ -2,9 +2,9 @@
 use mathlib.Core.Path.{_≡_}
 use mathlib.Core.Logic.{_⊎_, _↔_}
 use mathlib.Core.Bool.{Bool, true, false}
-use mathlib.Core.List.{List, [], _++_}
+use mathlib.Core.List.{List, []}
 use mathlib.Core.Option.{none, some}
-use Prim.Native.Nat.{ℕ, zero, suc, _*_, _^_, max, _≤_, _<_}
+use Prim.Native.Nat.{ℕ, zero, suc, _^_, max, _≤_, _<_}
 use lib.ListN.{length, take, drop}
 use Rattle.merkle.specs.Shape.{shape, depth}
 use Rattle.merkle.specs.Hash.{plain, hashes, Collision}
@@ -12,17 +12,19 @@ use Rattle.merkle.specs.Frontier.{frontier}
 use Rattle.wire.specs.declared.kind.Kind.the-variants.{Program}
 use Rattle.wire.specs.declared.manifest.Manifest.{Manifest}
 use Rattle.wire.specs.declared.refusal.Refusal.{Refusal}
+use Rattle.wire.specs.Refusal.{refusalNumber}
 use Rattle.wire.specs.Size.{wrongSize}
 use Rattle.wire.specs.Manifest.{written}
 use Rattle.wire.specs.Image.{filled, imageBlocks}
 use Rattle.wire.specs.Geometry.{countOf, programLength, blocksOf, treeOver}
-use Rattle.wire.specs.Message.{kind, manifestBytes, manifestIn}
+use Rattle.wire.specs.Message.{kind, manifestBytes, manifestIn, atStart}
 use Rattle.sender.specs.Job.{Image, Job, count, blocks, manifestFor, blockFor}
 use Rattle.machine.specs.declared.state.Stage.the-variants.{Idle, Loading, Complete}
 use Rattle.machine.specs.declared.state.Device.{Device}
 use Rattle.machine.specs.declared.state.Answer.{Answer}
 use Rattle.machine.specs.declared.state.Answer.the-variants.{Accepted, Refused}
 use Rattle.machine.specs.Device.{Fresh, heldBy, Outcome}
+use Rattle.machine.specs.Readers.{numberOf}
 use Rattle.machine.specs.Step.{answerOf, refusalOf}
 use Rattle.guarantee.specs.Run.{Messages, _▷_, after, answerTo, accepted, lastProgram, blocksSince, lastCarrier, signatureIn, Completed}
 
@@ -55,6 +57,8 @@ module _ (H : List ℕ → List ℕ) (valid : (key message signature : List ℕ)
   pub record Calls (ms : Messages) : Type 0 where
     -- "Accepted: .. exactly where none of the drive's refusals .. applies"; and otherwise it gets its refusal number
     pub answers : (m : List ℕ) → answer ms m ≡ answerOf (refusalOf H valid (deviceAfter ms) (flashAfter ms) m)
+    -- the same by number: 0, or 01's number of the first refusal that applies
+    pub numbers : (m : List ℕ) → numberOf (answer ms m) ≡ elim (refusalOf H valid (deviceAfter ms) (flashAfter ms) m) [ none ↦ 0 | some r ↦ refusalNumber r ]
     -- "a refused one leaves both as they were"
     pub refused : (m : List ℕ) (r : Refusal) → answer ms m ≡ Refused r → after step d flash (ms ▷ m) ≡ after step d flash ms
     -- "no call changes model or key"
@@ -109,7 +113,7 @@ module _ (H : List ℕ → List ℕ) (valid : (key message signature : List ℕ)
     pub stage : deviceAfter ms .stage ≡ Complete
     pub manifest : deviceAfter ms .manifest ≡ manifestFor H job
     pub none-held : heldBy (deviceAfter ms) ≡ []
-    pub image : flashAfter ms ≡ filled (job .image .«block_len») (job .image .bytes) ++ drop (count (job .image) * job .image .«block_len») (flashAfter before)
+    pub image : flashAfter ms ≡ atStart (filled (job .image .«block_len») (job .image .bytes)) (flashAfter before)
 
   pub record Loads (job : Job) (before : Messages) (m : List ℕ) (j : ℕ) (ms : Messages) : Type 0 where
     -- "Then all j were accepted": since the manifest these, and nothing else

@@ -1,6 +1,7 @@
 pub mod ChainLaws
 pub mod DigitLaws
 pub mod Examples
+pub mod LengthLaws
 pub mod TableLaws
 pub mod TreeLaws
 pub mod VerdictLaws

@@ -12,7 +12,7 @@ use Rattle.lms.specs.Types.{Sound}
 use Rattle.lms.specs.Claims.{Rows}
 
 -- what holds of the first row and of all later ones holds of every row
-every : {A : Type 0} (P : A → Type 0) (b : Bool) {x : A} {rest : Option A} → P x → ((y : A) → rest ≡ some y → P y) → (y : A) → cond b (some x) rest ≡ some y → P y
+pub every : {A : Type 0} (P : A → Type 0) (b : Bool) {x : A} {rest : Option A} → P x → ((y : A) → rest ≡ some y → P y) → (y : A) → cond b (some x) rest ≡ some y → P y
 every P true {x} h k y e = subst P (Option·some-injective x y e) h
 every P false h k y e = k y e
 

@@ -10,14 +10,14 @@ use Rattle.octets.specs.Octets.{part, equal}
 use Rattle.lms.specs.Notation.{strTou32}
 use Rattle.lms.specs.Ots.{Row, table1, Kc}
 use Rattle.lms.specs.Tree.{table2, Tc}
-use Rattle.lms.specs.Lms.{otsBytes, validAt, valid}
+use Rattle.lms.specs.Lms.{otsBytes, signatureLength, validAt, valid}
 
 module _ (t : Row) (h : ℕ) (key message signature : List ℕ) where
-  pub wrong-length : (length signature ≡ 4 + otsBytes t + 4 + 32 * h → ⊥) → false ≡ validAt t h key message signature
+  pub wrong-length : (length signature ≡ signatureLength t h → ⊥) → false ≡ validAt t h key message signature
   unfolding validAt
   wrong-length n = rw (ne-eqb _ _ n)
 
-  module _ (sized : length signature ≡ 4 + otsBytes t + 4 + 32 * h) where
+  module _ (sized : length signature ≡ signatureLength t h) where
     pub other-ots : (strTou32 (part 4 4 signature) ≡ strTou32 (part 4 4 key) → ⊥) → false ≡ validAt t h key message signature
     unfolding validAt
     other-ots n = rw (eq-eqb _ _ sized, ne-eqb _ _ n)

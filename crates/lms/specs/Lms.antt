@@ -18,13 +18,17 @@ keyLength = 56
 abbrev pub otsBytes : Row → ℕ
 otsBytes t = 4 + 32 * (t .p + 1)
 
--- Algorithms 6 and 6a, for types that the tables have. The signature: q (4), one-time signature, tree type (4), path[0] to path[h-1].
+-- the bytes of a signature: q (4), one-time signature, tree type (4), path[0] to path[h-1]
+abbrev pub signatureLength : (t : Row) (h : ℕ) → ℕ
+signatureLength t h = 4 + otsBytes t + 4 + 32 * h
+
+-- Algorithms 6 and 6a, for types that the tables have
 unfoldable pub validAt : (t : Row) (h : ℕ) (key message signature : List ℕ) → Bool
 validAt t h key message signature =
     let I = part 8 16 key in
     let q = strTou32 (part 0 4 signature) in
     let K = Kc t I q message (part 4 (otsBytes t) signature) in
-    eqb (length signature) (4 + otsBytes t + 4 + 32 * h)
+    eqb (length signature) (signatureLength t h)
     && eqb (strTou32 (part 4 4 signature)) (strTou32 (part 4 4 key))
     && eqb (strTou32 (part (4 + otsBytes t) 4 signature)) (strTou32 (part 0 4 key))
     && ltb q (2 ^ h)

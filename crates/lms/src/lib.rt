@@ -5,5 +5,6 @@ mod parameters;
 mod tree;
 mod verdict;
 
+pub use parameters::possible_len;
 pub use verdict::KEY_LEN;
 pub use verdict::verify;

@@ -26,6 +26,6 @@ fn main() {
     let mut out = [0u8; bundle::OUT_LEN];
     let key_len = read_file(b"key.bin", &mut key);
     let bundle_len = read_file(b"bundle.bin", &mut bundle);
-    let n = bundle::load(&key[..key_len], &bundle[..bundle_len], &mut flash, &mut out);
-    io::write_all(STDOUT_FILENO, &out[..n]);
+    let answer = bundle::load(&key[..key_len], &bundle[..bundle_len], &mut flash, &mut out);
+    io::write_all(STDOUT_FILENO, &out[..bundle::written(answer)]);
 }

@@ -11,7 +11,7 @@ fn low(x: u64) -> u8
     (x % 256) as u8
 }
 
-// x as 2 bytes; the next two do so with 4 and 8.
+// x as 2 bytes, the highest first.
 pub fn be16(x: u16) -> [u8; 2]
     ensures { λ r. ⌜ r ≡ bytes 2 x ⌝ }
 {
@@ -19,6 +19,7 @@ pub fn be16(x: u16) -> [u8; 2]
     [low(v / 0x100), low(v)]
 }
 
+// x as 4 bytes, the highest first.
 pub fn be32(x: u32) -> [u8; 4]
     ensures { λ r. ⌜ r ≡ bytes 4 x ⌝ }
 {
@@ -26,6 +27,7 @@ pub fn be32(x: u32) -> [u8; 4]
     [low(v / 0x1000000), low(v / 0x10000), low(v / 0x100), low(v)]
 }
 
+// x as 8 bytes, the highest first.
 pub fn be64(x: u64) -> [u8; 8]
     ensures { λ r. ⌜ r ≡ bytes 8 x ⌝ }
 {
@@ -48,7 +50,7 @@ fn wide(x: u8) -> u32
     x as u32
 }
 
-// The number in the 2 bytes of s from index at on; the next one reads 4.
+// The number in the 2 bytes of s from index `at` on.
 pub fn u16_at(s: &[u8], at: usize) -> u16
     requires { ⌜ at + 2 ≤ length (now s) ⌝ }
     ensures { λ r. ⌜ r ≡ number (part at 2 (now (s .entry))) ⌝ }
@@ -56,6 +58,7 @@ pub fn u16_at(s: &[u8], at: usize) -> u16
     (wide(s[at]) * 0x100 + wide(s[at + 1])) as u16
 }
 
+// The number in the 4 bytes of s from index `at` on.
 pub fn u32_at(s: &[u8], at: usize) -> u32
     requires { ⌜ at + 4 ≤ length (now s) ⌝ }
     ensures { λ r. ⌜ r ≡ number (part at 4 (now (s .entry))) ⌝ }

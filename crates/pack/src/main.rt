@@ -53,6 +53,15 @@ fn with_signature(
     signature: &[u8],
     manifest: &[u8],
 ) {
+    let length = signature.len();
+    if !lms::possible_len(length) {
+        make::tell(
+            b"signature.bin: no LMS type has signatures of ",
+            length,
+            b" bytes; an HSS one has four more in front\n",
+        );
+        return;
+    }
     let mut bundle = [0u8; bundle::BUNDLE_LEN];
     let made = make::bundle(image, len, model, serial, signature, &mut bundle);
     if !made.done {

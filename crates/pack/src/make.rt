@@ -15,10 +15,10 @@ pub struct Made {
     pub done: bool,
 }
 
-// Tells that something passes a limit.
-fn tell(before: &[u8], limit: usize, after: &[u8]) {
+// Tells a line with a number.
+pub fn tell(before: &[u8], number: usize, after: &[u8]) {
     io::write_all(STDERR_FILENO, before);
-    io::print_decimal(STDERR_FILENO, limit as u64);
+    io::print_decimal(STDERR_FILENO, number as u64);
     io::write_all(STDERR_FILENO, after);
 }
 

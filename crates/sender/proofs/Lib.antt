@@ -1,3 +1,4 @@
 pub mod BlockLaws
 pub mod JobLaws
 pub mod SendLaws
+pub mod Cases

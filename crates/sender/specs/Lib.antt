@@ -1,3 +1,4 @@
 pub mod Job
 pub mod Send
 pub mod Claims
+pub mod Cases

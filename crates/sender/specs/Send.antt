@@ -9,7 +9,7 @@ use lib.ListN.{length}
 use Rattle.sha256.specs.Sha256.{digest}
 use Rattle.wire.specs.declared.refusal.Refusal.{Refusal}
 use Rattle.wire.specs.declared.refusal.Refusal.the-variants.{Size, Turn, Area}
-use Rattle.wire.specs.Refusal.{firstThatApplies}
+use Rattle.wire.specs.Refusal.{refusalNumber, firstThatApplies}
 use Rattle.wire.specs.Size.{wrongSize, outside}
 use Rattle.wire.specs.Manifest.{written}
 use Rattle.wire.specs.Message.{atStart}
@@ -25,6 +25,11 @@ pub record Result : Type 0 where
 abbrev pub lengthOf : Sent → ℕ
 lengthOf (Written k) = k
 lengthOf (Refused r) = 0
+
+-- the number of an answer: 0, or 01's number of the refusal
+abbrev pub sentNumber : Sent → ℕ
+sentNumber (Written k) = 0
+sentNumber (Refused r) = refusalNumber r
 
 -- The answer and the buffer at exit are those of the result. `form` is the form in which the caller gets the answer.
 pub record Does {A : Type 0} (form : Sent → A) (s : Result) (answer : A) (buffer : List ℕ) : Type 0 where

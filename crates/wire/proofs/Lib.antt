@@ -4,4 +4,3 @@ pub mod ManifestLaws
 pub mod MessageLaws
 pub mod PutLaws
 pub mod SizeLaws
-pub mod Cases

@@ -91,6 +91,6 @@ dueLength L T i = leastLength Block + blockLength L T i + hashLength * carriedCo
 unfoldable pub leastUpdate : (L T i : ℕ) → ℕ
 leastUpdate L T i = leastLength Update + blockLength L T i
 
--- A buffer after bytes were written to its start: what stands behind them stays.
+-- A buffer, or the flash, after bytes were written to its start: what stands behind them stays.
 abbrev pub atStart : (bytes buffer : List ℕ) → List ℕ
 atStart bytes buffer = bytes ++ drop (length bytes) buffer

@@ -1,4 +1,4 @@
-// The kind of a message: its first byte.
+// The kinds of messages.
 ghost use mathlib.Core.Path.{_≡_};
 ghost use Rattle.wire.specs.Message as spec;
 
@@ -9,6 +9,7 @@ pub enum Kind {
     Unknown,
 }
 
+// The kind that the first byte says; an empty message has none that is known.
 pub fn kind_of(message: &[u8]) -> Kind
     ensures { λ r. ⌜ r ≡ spec.kind (now (message .entry)) ⌝ }
 {

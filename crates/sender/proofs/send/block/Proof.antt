@@ -13,7 +13,7 @@ use Rattle.merkle.specs.Frontier.{carriedCount}
 use Rattle.merkle.specs.Held.{sent}
 use Rattle.merkle.proofs.FitsLaws.{length-sent}
 use Rattle.wire.specs.declared.kind.Kind.the-variants.{Block}
-use Rattle.wire.specs.Message.{leastLength, blockMessage}
+use Rattle.wire.specs.Message.{leastLength, blockMessage, atStart}
 use Rattle.wire.proofs.SizeLaws.{sized}
 use Rattle.wire.proofs.MessageLaws.{block-size, block-whole}
 use Rattle.wire.proofs.PutLaws.{Put, put-start, length-put, put-part}
@@ -37,16 +37,16 @@ long c =
     let t = passed (c .before .before .before .before .before) in
     omega (arith, c .before .before .before .before .due-len .ensures, parts _ _ _ _ t, one _ _ _ _ t (c .block-of .result .now) (c .block-of .ensures))
 
--- what `put_block` leaves
-head : (c : tie.After-least-len) → (let a = c .before .before .before .before .before .before .before .before .before .before .before .before .before .before .before .before .before .args in let b = c .before .before .before .before .before .block-of .result .now in
-    Put (a .out .now) (c .before .before .before .put-block .last .1 .1 .0) (blockMessage (a .number) b []) (c .least-len .result + length b))
-head c = let b = c .before .before .before .before .before .block-of .result .now in put-start (c .least-len .result + length b) (block-size _ b [] ∙ omega (arith, c .least-len .ensures)) (c .before .before .before .put-block .ensures)
+-- what `put_block` leaves, if it put number i there
+head : (i : ℕ) (c : tie.After-least-len) → (let a = c .before .before .before .before .before .before .before .before .before .before .before .before .before .before .before .before .before .args in let b = c .before .before .before .before .before .block-of .result .now in
+    let r = c .before .before .before .put-block .last .1 .1 .0 in r ≡ atStart (blockMessage i b []) (a .out .now) → Put (a .out .now) r (blockMessage i b []) (c .least-len .result + length b))
+head i c e = let b = c .before .before .before .before .before .block-of .result .now in put-start (c .least-len .result + length b) (block-size _ b [] ∙ omega (arith, c .least-len .ensures)) e
 
 placed : (c : tie.After-least-len) → c .least-len .result + length (c .before .before .before .before .before .block-of .result .now) + hashLength * carriedCount (c .before .before .before .before .before .before .before .before .before .before .before .before .block-count .result) (c .before .before .before .before .before .before .before .before .before .before .before .before .before .before .before .before .before .args .number - 1 + 1) ≤ length (c .before .before .before .put-block .last .1 .1 .0)
 placed c =
     let e = long (c .before .before .before .before .before) in
     let l = c .before .before .before .before .before .before .before .before .if3 .left in
-    omega (arith, c .least-len .ensures, length-put (head c) (omega (arith, c .least-len .ensures)))
+    omega (arith, c .least-len .ensures, length-put (head _ c (c .before .before .before .put-block .ensures)) (omega (arith, c .least-len .ensures)))
 
 wrong-size-requires : tie.Need-wrong-size-requires
 wrong-size-requires c κs = search needs
@@ -165,7 +165,7 @@ returns-4 c =
     let size : from + length hs ≡ length (blockFor digest x (a .number)) = omega (arith, h, long (c .before .before .before .before .before .before .before .before .before .before), k .ensures, all, c .before .before .before .before .before .least-len .ensures) in
     let room = c .before .before .before .before .before .before .before .before .before .before .before .before .before .if3 .left in
     all-written-at x (blockFor digest x (a .number)) (a .out .now) (a .number) (t .size) (rw (t .count) at (t .inside)) (k .result) _ (all ∙ sym (k .ensures)) room
-    (put-part (head (c .before .before .before .before .before)) hs _ (omega (arith, size, all, k .ensures, room)) (rw h at (c .before .before .write-siblings .ensures))
+    (put-part (head _ (c .before .before .before .before .before) (c .before .before .before .before .before .before .before .before .put-block .ensures)) hs _ (omega (arith, size, all, k .ensures, room)) (rw h at (c .before .before .write-siblings .ensures))
     ∙ ap₂ (λ (p : List ℕ) (y : ℕ). p ++ drop y (a .out .now)) is size)
 
 pub block-spec : {M : Type 1} → statement M
