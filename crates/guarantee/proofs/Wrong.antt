@@ -4,7 +4,7 @@ use mathlib.Core.Path.{_≡_, refl, sym, ap, _∙_}
 use mathlib.Core.Bool.{Bool, true, false, not, cond, _&&_, true≢false, false≢true}
 use mathlib.Core.List.{List, [], _∷_, _++_}
 use mathlib.Core.Option.{none, some}
-use Prim.Native.Nat.{ℕ, suc, _-_}
+use Prim.Native.Nat.{ℕ, suc, pred, _-_, _%_}
 use native.Mathlib.Omega.{arith}
 use lib.Dec.{eqb, ltb, lit<}
 use lib.ListN.{length, getD, set, take, drop, replicate, length-append, length-replicate}
@@ -312,6 +312,32 @@ skipping-caught h =
     let z : _≡_ {A = ℕ} 0 1 = ap (λ (l : List (List ℕ)). length l) r in
     omega arith
 
+-- After the first of three blocks, it holds the hash of the third with another last byte, and puts that right when the second is accepted: alone.
+three : Job
+three = record { image = record { bytes = replicate 192 3; «block_len» = 64 }; model = 7; serial = 1 }
+
+flipped : List ℕ → List ℕ
+flipped array = let last = heldBytes - 1 in let b = getD array last 0 in set array last (cond (eqb (b % 2) 0) (suc b) (pred b))
+
+mislaid : Device → Device
+mislaid d =
+    cond (eqb (nextOf (d .stage)) 2 && eqb (d .manifest .«image_len») 192 && eqb (d .manifest .«block_len») 64)
+    (record { model = d .model; key = d .key; stage = d .stage; manifest = d .manifest; hashes = flipped (d .hashes) }) d
+
+mislaying : Step
+mislaying d f m = let o = right (mislaid d) f m in record { answer = o .answer; device = mislaid (o .device); flash = o .flash }
+
+mislaying-begun : Begun toy any mislaying fresh (replicate 192 5) three empty (programFor toy three [])
+unfolding computing three mislaying mislaid
+mislaying-begun = record { sendable = record { size = refl; model = lit< tt; serial = lit< tt }; program = refl; carries = refl; taken = refl }
+
+mislaying-caught : SecondHalf toy any mislaying fresh (replicate 192 5) (empty ▷ programFor toy three [] ▷ blockFor toy (three .image) 1) → ⊥
+unfolding computing three flipped mislaying mislaid
+mislaying-caught h =
+    let r = h .loads three empty (programFor toy three []) 1 mislaying-begun (next (lit< tt) begin) .held in
+    let z : _≡_ {A = ℕ} 2 3 = ap (λ (l : List (List ℕ)). number (drop 63 (joined l))) r in
+    omega arith
+
 -- It refuses every manifest: alone.
 closed : Step
 closed = byKind refusing right right
@@ -472,6 +498,7 @@ none-meets : (Demand3 toy any careless → ⊥)
     × (Demand3 toy any still → ⊥)
     × (Demand3 toy any hoarding → ⊥)
     × (Demand3 toy any skipping → ⊥)
+    × (Demand3 toy any mislaying → ⊥)
     × (Demand3 toy any closed → ⊥)
     × (Demand3 toy any hasty → ⊥)
     × (Demand3 toy any scribbling → ⊥)
@@ -497,6 +524,7 @@ none-meets = (
   λ c. still-caught (c fresh is-fresh flash _ .second),
   λ c. hoarding-caught (c fresh is-fresh flash _ .second),
   λ c. skipping-caught (c fresh is-fresh flash _ .second),
+  λ c. mislaying-caught (c fresh is-fresh (replicate 192 5) _ .second),
   λ c. closed-caught (c fresh is-fresh flash _ .calls),
   λ c. hasty-caught (c fresh is-fresh flash _ .calls),
   λ c. scribbling-caught (c fresh is-fresh flash _ .calls),
