@@ -236,9 +236,10 @@ early-caught h =
     let z : _≡_ {A = ℕ} 1 2 = sym (r .1) ∙ c .all ∙ ap countOf q ∙ r .3 in
     omega arith
 
--- It is not complete where the last block's filling ends with 0, which the toy hash does not see: alone, since the sender fills with 0xFF.
+-- It is not complete where the last of two blocks, which has one byte of filling, ends with 0. The toy hash does not see that byte: alone, since the sender fills
+-- with 0xFF.
 endless : Step
-endless = byKind right (λ d f m. let o = right d f m in cond (eqb (d .manifest .«image_len») 127 && eqb (getD m (length m - 1) 0) 0) (but o (at (d .stage) (o .device))) o) right
+endless = byKind right (λ d f m. let o = right d f m in cond (eqb (nextOf (d .stage)) 2 && eqb (d .manifest .«image_len») 127 && eqb (getD m (length m - 1) 0) 0) (but o (at (d .stage) (o .device))) o) right
 
 endless-list : Messages
 endless-list = empty ▷ programFor toy unfilled [] ▷ blockFor toy (unfilled .image) 1 ▷ blockMessage 2 (replicate 63 3 ++ (0 ∷ [])) []
