@@ -9,4 +9,8 @@ pub mod SecondHalf
 pub mod Demand3Holds
 pub mod RecoveryHolds
 pub mod PowerLossHolds
+pub mod Toy
+pub mod WrongCalls
+pub mod WrongFirst
+pub mod WrongSecond
 pub mod Wrong

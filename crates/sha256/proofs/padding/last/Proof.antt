@@ -1,6 +1,5 @@
 use mathlib.Core.Path.{refl, _∙_}
 use lib.ListN.{length, replicate, set}
-use Rattle.sha256.specs.Sha256.{compress}
 use Rattle.sha256.proofs.PaddingLaws.{marked, digest-one, digest-two}
 use borrow.Author.Needs.{needs}
 use Rattle.sha256.proofs.padding.last.Statement.{statement}

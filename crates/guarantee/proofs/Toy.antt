@@ -1,0 +1,158 @@
+-- A world small enough to compute in, for wrong devices: a toy hash function, toy verdicts, images of two blocks, a flash; and what their steps are made of.
+use mathlib.Core.Path.{_≡_, refl, ap}
+use mathlib.Core.Bool.{Bool, true, false, not}
+use mathlib.Core.List.{List, [], _∷_, _++_}
+use mathlib.Core.Option.{none, some}
+use Prim.Native.Nat.{ℕ, suc}
+use native.Mathlib.Omega.{arith}
+use lib.Dec.{eqb}
+use lib.ListN.{length, getD, take, drop, replicate, length-append, length-replicate}
+use lib.Seq.{length-take-le}
+use Rattle.octets.specs.Octets.{bytes, number, joined, equal}
+use Rattle.merkle.specs.Limits.{hashLength, heldBytes}
+use Rattle.merkle.specs.Blocks.{blockCount, cut}
+use Rattle.merkle.specs.Shape.{size, leastFrom, depth, split, build, shape}
+use Rattle.merkle.specs.Hash.{hash, hashes, climbFrom, climb}
+use Rattle.merkle.specs.Frontier.{largest, rightSiblings, siblings, carriedCount, frontier, heldCount}
+use Rattle.merkle.specs.Held.{hashesIn, heldStart, heldIn, nextHeld, begun, advanced, fits, sent}
+use Rattle.wire.specs.declared.kind.Kind.the-variants.{Program, Block, Update, Unknown}
+use Rattle.wire.specs.declared.manifest.Manifest.{Manifest}
+use Rattle.wire.specs.declared.refusal.Refusal.the-variants as refusal
+use Rattle.wire.specs.Refusal.{firstThatApplies}
+use Rattle.wire.specs.Size.{allowedLength, wrongSize, outside}
+use Rattle.wire.specs.Manifest.{written, read}
+use Rattle.wire.specs.Image.{filled, imageBlocks}
+use Rattle.wire.specs.Geometry.{countOf, blockLength, programLength, blocksOf, withBlock, treeOver}
+use Rattle.wire.specs.Message.{kind, carries, short, programMessage, blockMessage, updateMessage, manifestBytes, manifestIn, programSignature, numberIn, blockIn, hashesAfter, updateNumber, updateBlock, updateSignature, dueLength, leastUpdate}
+use Rattle.sender.specs.Job.{Job, count, blocks, rootOf, manifestFor, programFor, blockFor, updateFor}
+use Rattle.machine.specs.declared.state.Stage.{Stage}
+use Rattle.machine.specs.declared.state.Stage.the-variants.{Idle, Complete}
+use Rattle.machine.specs.declared.state.Device.{Device}
+use Rattle.machine.specs.declared.state.Answer.the-variants.{Accepted, Refused}
+use Rattle.machine.specs.Device.{Fresh, serialOf, nextOf, heldBy, Outcome}
+use Rattle.machine.specs.Flash.{stored, updated}
+use Rattle.machine.specs.Refusals.{wrongVersion, senseless, noKind, otherModel, notNewer, tooSmall, notLoading, notComplete, notNext, wrongLength, unlike, mismatch, lacksRoot, unsigned, ofManifest, always, ofProgram, ofBlock, ofUpdate, ofKind, refusals}
+use Rattle.machine.specs.Step.{acceptProgram, stageAfter, acceptBlock, acceptUpdate, accept, answerOf, outcome, refusalOf, step}
+use Rattle.guarantee.specs.Run.{Messages, empty, _▷_, after, answerTo, accepted, lastProgram, blocksSince, lastCarrier, signatureIn}
+use Rattle.guarantee.specs.Demand3.{thenBlocks, Demand3}
+use Rattle.guarantee.proofs.Demand3Holds.{demand3-for}
+
+abbrev pub Step : Type 0
+Step = Device → List ℕ → List ℕ → Outcome
+
+-- a toy hash of 32 bytes, in which of two hashes the right one counts; every signature valid, or none
+unfoldable pub toy : List ℕ → List ℕ
+toy x = 1 ∷ take 31 (drop 32 x ++ replicate 31 0)
+
+unfoldable pub any : (key message signature : List ℕ) → Bool
+any k m s = true
+
+unfoldable pub nobody : (key message signature : List ℕ) → Bool
+nobody k m s = false
+
+-- an image of two blocks of 64 bytes, its successor, with another second block, the image again with a serial that is not new, and one that needs a byte of filling
+unfoldable pub job : Job
+job = record { image = record { bytes = replicate 128 3; «block_len» = 64 }; model = 7; serial = 1 }
+
+unfoldable pub newer : Job
+newer = record { image = record { bytes = replicate 64 3 ++ replicate 64 4; «block_len» = 64 }; model = 7; serial = 2 }
+
+unfoldable pub old : Job
+old = record { image = job .image; model = 7; serial = 0 }
+
+unfoldable pub unfilled : Job
+unfilled = record { image = record { bytes = replicate 127 3; «block_len» = 64 }; model = 7; serial = 1 }
+
+unfoldable pub fresh : Device
+fresh = record { model = 7; key = []; stage = Idle; manifest = record { version = 0; «block_len» = 0; model = 0; serial = 0; «image_len» = 0; root = [] }; hashes = replicate heldBytes 0 }
+
+unfoldable pub flash : List ℕ
+flash = replicate 130 5
+
+unfoldable pub program : List ℕ
+program = programFor toy job []
+
+-- a manifest with a root that no image has, since each toy hash begins with 1: no run with it is honest
+unfoldable pub nobodys : List ℕ
+nobodys = programMessage (record { version = 1; «block_len» = 64; model = 7; serial = 1; «image_len» = 128; root = replicate 32 9 }) []
+
+unfoldable pub noImage : Manifest → Bool
+noImage s = not (eqb (getD (s .root) 0 0) 1)
+
+-- the device as it should be; one that accepts without a look; one that refuses
+unfoldable pub right : Step
+right = step toy any
+
+unfoldable pub taking : Step
+taking d f m = outcome none d f (accept (kind m) d f m)
+
+unfoldable pub refusing : Step
+refusing d f m = outcome (some refusal.State) d f (record { device = d; flash = f })
+
+-- An accepted message's outcome with another device, or another flash; a refused one's stays.
+unfoldable pub but : Outcome → Device → Outcome
+but o d = elim (o .answer) [ Accepted ↦ record { answer = Accepted; device = d; flash = o .flash } | Refused r ↦ o ]
+
+unfoldable pub butFlash : Outcome → List ℕ → Outcome
+butFlash o f = elim (o .answer) [ Accepted ↦ record { answer = Accepted; device = o .device; flash = f } | Refused r ↦ o ]
+
+-- a device with a step for each kind
+unfoldable pub byKind : Step → Step → Step → Step
+byKind p b u d f m = elim (kind m) [ Program ↦ p d f m | Block ↦ b d f m | Update ↦ u d f m | Unknown ↦ right d f m ]
+
+-- What the runs compute with, by layer: to unfold the last is to unfold all.
+unfoldable pub tree-computes : ℕ
+unfolding blockCount cut size leastFrom depth split build shape hash hashes climbFrom climb largest rightSiblings siblings carriedCount frontier heldCount joined hashesIn heldStart heldIn nextHeld begun advanced fits sent
+tree-computes = 0
+
+unfoldable pub wire-computes : ℕ
+unfolding bytes number equal firstThatApplies allowedLength wrongSize outside written read filled imageBlocks countOf blockLength programLength blocksOf withBlock treeOver kind carries short programMessage blockMessage updateMessage manifestBytes manifestIn programSignature numberIn blockIn hashesAfter updateNumber updateBlock updateSignature dueLength leastUpdate
+wire-computes = 0
+
+unfoldable pub sender-computes : ℕ
+unfolding count blocks rootOf manifestFor programFor blockFor updateFor
+sender-computes = 0
+
+unfoldable pub refusals-compute : ℕ
+unfolding serialOf nextOf heldBy wrongVersion senseless noKind otherModel notNewer tooSmall notLoading notComplete notNext wrongLength unlike mismatch lacksRoot unsigned always ofManifest ofProgram ofBlock ofUpdate ofKind refusals refusalOf
+refusals-compute = 0
+
+unfoldable pub run-computes : ℕ
+unfolding stored updated acceptProgram stageAfter acceptBlock acceptUpdate accept outcome step after answerTo accepted lastProgram blocksSince lastCarrier signatureIn answerOf thenBlocks
+run-computes = 0
+
+unfoldable pub computing : ℕ
+unfolding tree-computes wire-computes sender-computes refusals-compute run-computes toy any nobody job newer old unfilled fresh flash program nobodys noImage right taking refusing but butFlash byKind
+computing = 0
+
+abbrev pub loaded : Messages
+loaded = empty ▷ program ▷ blockFor toy (job .image) 1 ▷ blockFor toy (job .image) 2
+
+-- the right device in these runs: complete, and the update taken
+pub right-runs : (after right fresh flash loaded .device .stage ≡ Complete)
+    × (after right fresh flash loaded .flash ≡ replicate 128 3 ++ (5 ∷ 5 ∷ []))
+    × (answerTo right fresh flash loaded (updateFor toy newer 2 []) ≡ Accepted)
+    × (answerTo right fresh flash (empty ▷ program ▷ blockFor toy (job .image) 1) (blockFor toy (newer .image) 2) ≡ Refused refusal.Mismatch)
+unfolding computing
+right-runs = (refl, refl, refl, refl)
+
+-- the same device at another stage
+unfoldable pub at : Stage → Device → Device
+at t d = record { model = d .model; key = d .key; stage = t; manifest = d .manifest; hashes = d .hashes }
+
+-- None of them meets demand 3; the right device does, with the same hash function and verdict.
+pub is-fresh : Fresh fresh
+unfolding computing
+is-fresh = record { idle = refl; array = refl }
+
+pub toy-long : (x : List ℕ) → length (toy x) ≡ hashLength
+unfolding toy
+toy-long x = ap suc (length-take-le 31 (drop 32 x ++ replicate 31 0) (omega (arith, length-append (drop 32 x) (replicate 31 0), length-replicate {A = ℕ} 31 0)))
+
+pub meets : Demand3 toy any right
+unfolding right
+meets = demand3-for toy toy-long any
+
+-- and with the verdict at which the trusting device is refuted
+pub meets-nobody : Demand3 toy nobody (step toy nobody)
+meets-nobody = demand3-for toy toy-long nobody

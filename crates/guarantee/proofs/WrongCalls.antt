@@ -1,0 +1,121 @@
+-- Wrong devices that break what is said of each call. Where the comment says 'alone', all other clauses of demand 3 hold of the device, by reading.
+use mathlib.Core.Path.{_≡_, refl, ap}
+use mathlib.Core.Bool.{cond}
+use mathlib.Core.List.{List, [], _∷_}
+use mathlib.Core.Option.{some}
+use Prim.Native.Nat.{ℕ, _-_}
+use native.Mathlib.Omega.{arith}
+use lib.ListN.{length, set, take, drop, replicate}
+use Rattle.octets.specs.Octets.{number}
+use Rattle.merkle.specs.Limits.{heldBytes}
+use Rattle.wire.specs.declared.refusal.Refusal.the-variants as refusal
+use Rattle.wire.specs.Message.{updateMessage, manifestIn}
+use Rattle.sender.specs.Job.{manifestFor, programFor, blockFor}
+use Rattle.machine.specs.declared.state.Device.{Device}
+use Rattle.machine.specs.declared.state.Answer.the-variants.{Accepted, Refused}
+use Rattle.machine.specs.Device.{Situation}
+use Rattle.machine.specs.Flash.{updated}
+use Rattle.machine.specs.Refusals.{tooSmall, notLoading}
+use Rattle.machine.specs.Readers.{numberOf}
+use Rattle.machine.specs.Step.{acceptBlock, outcome}
+use Rattle.guarantee.specs.Run.{empty, _▷_}
+use Rattle.guarantee.specs.Demand3.{Calls}
+use Rattle.guarantee.proofs.Toy.{Step, toy, any, job, newer, old, fresh, flash, program, right, refusing, but, byKind, computing, loaded}
+
+-- It refuses every manifest: alone.
+pub closed : Step
+closed = byKind refusing right right
+
+pub closed-caught : Calls toy any closed fresh flash empty → ⊥
+unfolding computing closed
+closed-caught h =
+    let e : Refused refusal.State ≡ Accepted = h .answers program in
+    let z : _≡_ {A = ℕ} 0 1 = cc in
+    omega arith
+
+-- It writes an updated block before its root agrees.
+pub hasty : Step
+hasty = byKind right right (λ d f m. let o = right d f m in record { answer = o .answer; device = o .device; flash = updated (manifestIn m) f m })
+
+pub hasty-caught : Calls toy any hasty fresh flash loaded → ⊥
+unfolding computing hasty
+hasty-caught h =
+    let r = h .refused (updateMessage (manifestFor toy newer) 1 (replicate 64 9) []) refusal.Mismatch refl in
+    let z : _≡_ {A = ℕ} 9 3 = ap (λ (s : Situation). number (take 1 (s .flash))) r in
+    omega arith
+
+-- While it loads nothing, it writes to its array at a refused message: alone, since nothing looks there before the next manifest.
+pub scribbling : Step
+scribbling d f m =
+    let o = right d f m in
+    elim (o .answer) [
+      | Accepted ↦ o
+      | Refused r ↦ cond (notLoading (d .stage)) (record { answer = Refused r; device = record { model = d .model; key = d .key; stage = d .stage; manifest = d .manifest; hashes = set (d .hashes) 0 7 }; flash = f }) o
+    ]
+
+pub scribbling-caught : Calls toy any scribbling fresh flash empty → ⊥
+unfolding computing scribbling
+scribbling-caught h =
+    let r = h .refused [] refusal.Kind refl in
+    let z : _≡_ {A = ℕ} 7 0 = ap (λ (s : Situation). number (take 1 (s .device .hashes))) r in
+    omega arith
+
+-- It changes its model, or its key, when it takes a manifest: each alone.
+withIdentity : (model : ℕ) (key : List ℕ) → Device → Device
+withIdentity model key d = record { model = model; key = key; stage = d .stage; manifest = d .manifest; hashes = d .hashes }
+
+pub turning : Step
+turning = byKind (λ d f m. let o = right d f m in but o (withIdentity 8 (d .key) (o .device))) right right
+
+pub turning-caught : Calls toy any turning fresh flash (empty ▷ program) → ⊥
+unfolding computing turning withIdentity
+turning-caught h =
+    let z : _≡_ {A = ℕ} 8 7 = h .model in
+    omega arith
+
+pub rekeying : Step
+rekeying = byKind (λ d f m. let o = right d f m in but o (withIdentity (d .model) (1 ∷ []) (o .device))) right right
+
+pub rekeying-caught : Calls toy any rekeying fresh flash (empty ▷ program) → ⊥
+unfolding computing rekeying withIdentity
+rekeying-caught h =
+    let z : _≡_ {A = ℕ} 1 0 = ap (λ (l : List ℕ). length l) (h .key) in
+    omega arith
+
+-- It keeps the hashes of a refused block message, as the paper's algorithm 3.2 does.
+pub leaking : Step
+leaking = byKind right (λ d f m.
+    let o = right d f m in
+    record {
+      answer = o .answer;
+      device = record { model = d .model; key = d .key; stage = o .device .stage; manifest = d .manifest; hashes = acceptBlock d f m .device .hashes };
+      flash = o .flash;
+    }) right
+
+pub leaking-caught : Calls toy any leaking fresh flash (empty ▷ program) → ⊥
+unfolding computing leaking
+leaking-caught h =
+    let r = h .refused (blockFor toy (newer .image) 1) refusal.Mismatch refl in
+    let z : _≡_ {A = ℕ} 4 1 = ap (λ (s : Situation). number (take 1 (drop (heldBytes - 31) (s .device .hashes)))) r in
+    omega arith
+
+-- It writes a block before it compares.
+pub spilling : Step
+spilling = byKind right (λ d f m. let o = right d f m in record { answer = o .answer; device = o .device; flash = acceptBlock d f m .flash }) right
+
+pub spilling-caught : Calls toy any spilling fresh flash (empty ▷ program ▷ blockFor toy (job .image) 1) → ⊥
+unfolding computing spilling
+spilling-caught h =
+    let r = h .refused (blockFor toy (newer .image) 2) refusal.Mismatch refl in
+    let z : _≡_ {A = ℕ} 4 5 = ap (λ (s : Situation). number (take 1 (drop 64 (s .flash)))) r in
+    omega arith
+
+-- It looks at the flash before it looks at the serial, 8 before 7: alone.
+pub reordering : Step
+reordering = byKind (λ d f m. cond (tooSmall (manifestIn m) f) (outcome (some refusal.Area) d f (record { device = d; flash = f })) (right d f m)) right right
+
+pub reordering-caught : Calls toy any reordering fresh [] empty → ⊥
+unfolding computing reordering
+reordering-caught h =
+    let z : _≡_ {A = ℕ} 8 7 = ap numberOf (h .answers (programFor toy old [])) in
+    omega arith
