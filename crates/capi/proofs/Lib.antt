@@ -1,3 +1,4 @@
 pub mod StateLaws
 pub mod CallLaws
 pub mod RunLaws
+pub mod FromCLaws

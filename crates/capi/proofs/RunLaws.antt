@@ -24,7 +24,6 @@ use Rattle.machine.specs.declared.state.Stage.the-variants.{Loading, Complete}
 use Rattle.machine.specs.declared.state.Device.{Device}
 use Rattle.machine.specs.Device.{freshWith, nextOf, Situation}
 use Rattle.machine.specs.Step.{acceptProgram, stageAfter, acceptBlock, acceptUpdate, accept, outcome, refusalOf, step}
-use Rattle.machine.specs.Readers.{numberOf}
 use Rattle.guarantee.specs.Run.{Messages, empty, _▷_, after, answerTo}
 use Rattle.machine.proofs.RefusalLaws.{BlockPassed, program-passed, block-passed, update-passed}
 use Rattle.capi.specs.State.{encode}

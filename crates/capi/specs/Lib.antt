@@ -2,4 +2,5 @@ pub mod State
 pub mod Call
 pub mod Run
 pub mod Claims
+pub mod FromC
 pub mod Found
