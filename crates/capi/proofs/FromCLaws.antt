@@ -16,10 +16,12 @@ use Rattle.machine.specs.Step.{step}
 use Rattle.machine.proofs.FreshLaws.{fresh-is}
 use Rattle.guarantee.specs.Run.{after}
 use Rattle.guarantee.proofs.Demand3Holds.{demand3}
+use Rattle.guarantee.proofs.RecoveryHolds.{makes-sense}
 use Rattle.capi.specs.State.{decode}
 use Rattle.capi.specs.Run.{Memory}
 use Rattle.capi.specs.FromC.{FromC}
 use Rattle.capi.proofs.StateLaws.{decode-encode}
+use Rattle.capi.proofs.StatusLaws.{sensible-decoded, status-is, length-is}
 use Rattle.capi.proofs.RunLaws.{fresh-fits, runs}
 
 -- no refusal has the number of an accepted message
@@ -47,9 +49,13 @@ pub from-c : FromC
 from-c model key small long flash ms bytes =
     let d = freshWith model key in
     let r = runs d flash (fresh-fits model key small long) ms bytes in
+    let back = ap (λ (x : Memory). decode (x .state)) (r .memory) ∙ decode-encode (after (step digest valid) d flash ms .device) (r .fits) in
+    let read = sensible-decoded _ back (makes-sense digest valid (step digest valid) demand3 d (fresh-is model key) flash ms) in
     record {
       runs = r;
-      state = ap (λ (x : Memory). decode (x .state)) (r .memory) ∙ decode-encode (after (step digest valid) d flash ms .device) (r .fits);
+      state = back;
+      reads = λ out. status-is _ out read refl;
+      due = λ before. length-is _ before read;
       zero = λ m. zero-accepted _ (r .answers m);
       claim = demand3 d (fresh-is model key) flash ms;
     }

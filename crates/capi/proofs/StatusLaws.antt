@@ -18,7 +18,7 @@ use Rattle.machine.proofs.RefusalLaws.{Awaits, awaits}
 use Rattle.capi.specs.declared.state.Found.{Found}
 use Rattle.capi.specs.declared.state.Found.the-variants.{At, Nothing}
 use Rattle.capi.specs.Found.{found, foundIn}
-use Rattle.capi.specs.State.{stateLength, stageIn, deviceIn}
+use Rattle.capi.specs.State.{stateLength, stageIn, deviceIn, decode}
 use Rattle.capi.specs.Status.{sensible, statusOf, status, dueOf, blockMessageLength}
 use Rattle.capi.proofs.StateLaws.{decode-none, decode-some}
 use Rattle.capi.proofs.CallLaws.{found-some, found-length}
@@ -34,6 +34,10 @@ module _ (d : Device) (sense : senseless d ≡ false) where
   complete e = or-false (wrongVersion (d .manifest)) _ (rw e at sense) .1
 
 module _ (b : List ℕ) where
+  pub sensible-decoded : {d : Device} → decode b ≡ some d → senseless d ≡ false → sensible b ≡ some d
+  unfolding sensible
+  sensible-decoded e s = rw (e, sensible, s)
+
   pub sensible-none : stageIn b ≡ none → sensible b ≡ none
   unfolding sensible
   sensible-none e = rw (decode-none b e, sensible)
@@ -103,15 +107,19 @@ module _ (b : List ℕ) (before : ℕ) where
   length-refused e = rw (e, blockMessageLength)
 
   module _ {d : Device} (e : sensible b ≡ some d) where
+    pub length-is : blockMessageLength b before ≡ dueOf before d
+    unfolding blockMessageLength
+    length-is = rw (e, blockMessageLength)
+
     pub length-idle : d .stage ≡ Idle → blockMessageLength b before ≡ record { answer = 10; written = before }
-    unfolding blockMessageLength dueOf
-    length-idle t = rw (e, blockMessageLength, dueOf, t)
+    unfolding dueOf
+    length-idle t = length-is ∙ rw t
 
     pub length-complete : d .stage ≡ Complete → blockMessageLength b before ≡ record { answer = 10; written = before }
-    unfolding blockMessageLength dueOf
-    length-complete t = rw (e, blockMessageLength, dueOf, t)
+    unfolding dueOf
+    length-complete t = length-is ∙ rw t
 
     pub length-due : {i n : ℕ} → d .stage ≡ Loading i → n ≡ dueLength (d .manifest .«block_len») (d .manifest .«image_len») i
         → blockMessageLength b before ≡ record { answer = 0; written = n }
-    unfolding blockMessageLength dueOf
-    length-due t en = rw (e, blockMessageLength, dueOf, t, en)
+    unfolding dueOf
+    length-due t en = length-is ∙ rw (t, en)
