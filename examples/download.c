@@ -24,7 +24,7 @@ static uint8_t state[LERTXUNO_STATE_LENGTH];
 static uint8_t flash[LERTXUNO_FLASH_LENGTH(IMAGE_LENGTH, BLOCK_LENGTH)];
 
 static void expect(const char *what, uint32_t answer, uint32_t due) {
-    printf("%-24s %u\n", what, (unsigned)answer);
+    printf("%-24s %u %s\n", what, (unsigned)answer, lertxuno_refusal_word(answer));
     if (answer != due)
         exit(1);
 }
@@ -62,7 +62,22 @@ static uint32_t receive(uint32_t i) {
     return lertxuno_receive(state, sizeof state, flash, sizeof flash, bundle + starts[i], starts[i + 1] - starts[i]);
 }
 
+/* Where the device is: what it would tell the sender. */
+static void report(uint32_t stage, uint32_t next) {
+    uint32_t status[LERTXUNO_STATUS_NUMBERS];
+    expect("device, status", lertxuno_status(state, sizeof state, status), LERTXUNO_ACCEPTED);
+    printf("stage %u, block %u of %u\n", (unsigned)status[LERTXUNO_STATUS_STAGE], (unsigned)status[LERTXUNO_STATUS_NEXT],
+           (unsigned)status[LERTXUNO_STATUS_BLOCKS]);
+    if (status[LERTXUNO_STATUS_STAGE] != stage || status[LERTXUNO_STATUS_NEXT] != next)
+        exit(1);
+}
+
 static void take_block(uint32_t i) {
+    size_t due;
+    report(LERTXUNO_LOADING, i + 1);
+    expect("device, length due", lertxuno_block_message_length(state, sizeof state, &due), LERTXUNO_ACCEPTED);
+    if (due != starts[i + 1] - starts[i])
+        exit(1);
     uint8_t *first = bundle + starts[i] + LERTXUNO_BLOCK_HEAD;
     *first ^= 1;
     expect("device, damaged block", receive(i), LERTXUNO_MISMATCH);
@@ -86,9 +101,11 @@ int main(void) {
     sign();
     make_bundle();
     lertxuno_fresh(MODEL, sample_key, state);
+    report(LERTXUNO_IDLE, 0);
     expect("device, program", receive(BLOCKS), LERTXUNO_ACCEPTED);
     for (uint32_t i = 0; i < BLOCKS; i++)
         take_block(i);
+    report(LERTXUNO_COMPLETE, 0);
     update();
     if (memcmp(flash, image, sizeof image) != 0)
         return 1;

@@ -5,7 +5,7 @@
  * kept between calls, read or written but through the arguments, so calls on different memory may run at the same time.
  *
  * The caller's part: a pointer is not null, also where its length is 0; it has as many bytes as its length, or its array type, says; and memory that a
- * function writes (out, written, state, flash) overlaps no other argument. The library is for x86-64 Linux. Stack, code and time of each function are in
+ * function writes (out, written, length, state, flash) overlaps no other argument. The library is for x86-64 Linux. Stack, code and time of each function are in
  * the README ('Measured'), what firmware must do around the calls in docs/INTEGRATION.md.
  *
  * Words: a program is an image, cut into blocks, and its manifest, which is signed. Numbers are big-endian.
@@ -37,6 +37,28 @@ enum lertxuno_refusal {
     LERTXUNO_UNLIKE = 13,   /* the update's block length or image length differs from the complete one's */
     LERTXUNO_MISMATCH = 14  /* the hash worked out differs from the one held or signed */
 };
+
+/* An answer's word, for logs: "accepted" for 0, and "unknown" for a number that no function returns. */
+static inline const char *lertxuno_refusal_word(uint32_t answer) {
+    switch (answer) {
+    case LERTXUNO_ACCEPTED: return "accepted";
+    case LERTXUNO_STATE: return "state";
+    case LERTXUNO_KIND: return "kind";
+    case LERTXUNO_SHORT: return "short";
+    case LERTXUNO_VERSION: return "version";
+    case LERTXUNO_SIZE: return "size";
+    case LERTXUNO_MODEL: return "model";
+    case LERTXUNO_SERIAL: return "serial";
+    case LERTXUNO_AREA: return "area";
+    case LERTXUNO_UNSIGNED: return "unsigned";
+    case LERTXUNO_STAGE: return "stage";
+    case LERTXUNO_TURN: return "turn";
+    case LERTXUNO_LENGTH: return "length";
+    case LERTXUNO_UNLIKE: return "unlike";
+    case LERTXUNO_MISMATCH: return "mismatch";
+    default: return "unknown";
+    }
+}
 
 /* Order of the device's refusals, the first that applies: always 1, 2, 3; then new program 4, 5, 6, 7, 8, 9; block 10, 8, 11, 12, 14; update 10, 4, 5, 6, 7,
  * 13, 8, 11, 12, 9, 14. The sender's: 5, 11, 8. */
@@ -125,6 +147,25 @@ void lertxuno_fresh(uint32_t model, const uint8_t key[LERTXUNO_KEY_LENGTH], uint
  * length, another stage than 0, 1, 2) are refused with LERTXUNO_STATE. Of the flash only the first LERTXUNO_FLASH_LENGTH bytes are ever written, and by
  * plain stores: memory that needs programming commands needs a copy in RAM, programmed from that after the call. */
 uint32_t lertxuno_receive(uint8_t *state, size_t state_length, uint8_t *flash, size_t flash_length, const uint8_t *message, size_t message_length);
+
+/* What a state holds, as numbers, by their place in the array that lertxuno_status writes. */
+enum {
+    LERTXUNO_STATUS_STAGE = 0,        /* enum lertxuno_stage */
+    LERTXUNO_STATUS_NEXT = 1,         /* the next block while loading, from 1; else 0 */
+    LERTXUNO_STATUS_BLOCKS = 2,       /* the program's blocks; 0 while idle, as are the last three */
+    LERTXUNO_STATUS_MODEL = 3,
+    LERTXUNO_STATUS_SERIAL = 4,       /* a new manifest's must be above it */
+    LERTXUNO_STATUS_IMAGE_LENGTH = 5,
+    LERTXUNO_STATUS_BLOCK_LENGTH = 6,
+    LERTXUNO_STATUS_NUMBERS = 7       /* how many there are */
+};
+
+/* Reads a state, which stays as it is. LERTXUNO_STATE for one that makes no sense, as lertxuno_receive would refuse it; out is then as before. */
+uint32_t lertxuno_status(const uint8_t *state, size_t state_length, uint32_t out[LERTXUNO_STATUS_NUMBERS]);
+
+/* Writes to *length how many bytes the next block message has. LERTXUNO_STATE as above, LERTXUNO_STAGE where the device is not loading; *length is then as
+ * before. */
+uint32_t lertxuno_block_message_length(const uint8_t *state, size_t state_length, size_t *length);
 
 #ifdef __cplusplus
 }

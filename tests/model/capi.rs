@@ -65,6 +65,12 @@ unsafe extern "C" {
         message: *const u8,
         message_length: usize,
     ) -> u32;
+    fn lertxuno_status(state: *const u8, state_length: usize, out: *mut u32) -> u32;
+    fn lertxuno_block_message_length(
+        state: *const u8,
+        state_length: usize,
+        length: *mut usize,
+    ) -> u32;
 }
 
 const GUARD: [u8; 64] = [0xa5; 64];
@@ -170,4 +176,15 @@ pub fn receive(state: &mut Lent, flash: &mut Lent, message: &[u8]) -> u32 {
             message.len(),
         )
     }
+}
+
+/// The seven numbers, and a guard on each side of them.
+pub type Status = [u32; 9];
+
+pub fn status(state: &[u8], out: &mut Status) -> u32 {
+    unsafe { lertxuno_status(state.as_ptr(), state.len(), out[1..].as_mut_ptr()) }
+}
+
+pub fn block_message_length(state: &[u8], length: &mut usize) -> u32 {
+    unsafe { lertxuno_block_message_length(state.as_ptr(), state.len(), length) }
 }

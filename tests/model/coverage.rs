@@ -15,7 +15,7 @@ pub struct Coverage {
 }
 
 /// Rows 0 to 3 are indexed by the message's kind, 0 being any other and the empty message.
-const ROWS: [(&str, &[usize]); 9] = [
+const ROWS: [(&str, &[usize]); 11] = [
     ("device, other", &[1, 2]),
     ("device, kind 1", &[0, 1, 3, 4, 5, 6, 7, 8, 9]),
     ("device, kind 2", &[0, 1, 3, 8, 10, 11, 12, 14]),
@@ -28,10 +28,14 @@ const ROWS: [(&str, &[usize]); 9] = [
     ("sender, kind 2", &[0, 5, 8, 11]),
     ("sender, kind 3", &[0, 5, 8, 11]),
     ("verify", &[0, 9]),
+    ("status", &[0, 1]),
+    ("length due", &[0, 1, 10]),
 ];
 
 pub const SENDER: usize = 4;
 pub const VERIFY: usize = 8;
+pub const STATUS: usize = 9;
+pub const DUE: usize = 10;
 
 impl Coverage {
     pub fn new() -> Coverage {

@@ -60,6 +60,34 @@ impl Device {
         }
     }
 
+    /// Stage, next number, n, model, serial, T and L; those of the manifest are 0 when idle.
+    pub fn status(&self) -> Outcome<[u32; 7]> {
+        self.check_state()?;
+        let (stage, next) = match &self.stage {
+            Stage::Idle => (0, 0),
+            Stage::Loading { next, .. } => (1, *next as u32),
+            Stage::Complete { .. } => (2, 0),
+        };
+        let [n, length, block_length] = self.manifest().map_or([0; 3], |manifest| {
+            [
+                manifest.blocks() as u32,
+                manifest.image_length,
+                manifest.block_length as u32,
+            ]
+        });
+        let serial = self.serial();
+        Ok([stage, next, n, self.model, serial, length, block_length])
+    }
+
+    /// The length of the block message with the next number.
+    pub fn due_length(&self) -> Outcome<usize> {
+        self.check_state()?;
+        match &self.stage {
+            Stage::Loading { manifest, next, .. } => Ok(due_length(manifest, *next)),
+            _ => Err(STAGE),
+        }
+    }
+
     pub fn receive(&self, flash: &[u8], message: &[u8]) -> Outcome<Effect> {
         self.check_state()?;
         let least = match message.first() {
@@ -119,8 +147,7 @@ impl Device {
         );
         refuse_if(flash.len() < manifest.area_length(), AREA)?;
         refuse_if(i != *next, TURN)?;
-        let due = 3 + length + 32 * siblings(n, i).len();
-        refuse_if(message.len() != due, LENGTH)?;
+        refuse_if(message.len() != due_length(manifest, i), LENGTH)?;
         let (block, labels) = message[3..].split_at(length);
         let labels: Vec<Hash> = labels.chunks(32).map(|h| h.try_into().unwrap()).collect();
         let computed = labels
@@ -169,6 +196,11 @@ impl Device {
             write: Some((start, block.to_vec())),
         })
     }
+}
+
+/// "3 + L + 32 × c(i) bytes"
+fn due_length(manifest: &Manifest, i: usize) -> usize {
+    3 + manifest.block_length as usize + 32 * siblings(manifest.blocks(), i).len()
 }
 
 /// How many hashes are held: it follows from manifest and next number, which must be sound.

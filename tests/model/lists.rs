@@ -1,5 +1,5 @@
 //! Random lists of messages to the library's device and to the model's; after every call answer,
-//! state and flash are compared.
+//! state and flash are compared, and what both read off the state.
 
 use std::collections::HashMap;
 
@@ -12,6 +12,7 @@ use crate::device::{Device, Stage};
 use crate::layout::{self, MANIFEST_AT, STAGE_AT, STATE_LENGTH};
 use crate::manifest::Manifest;
 use crate::plan::Plan;
+use crate::readers;
 use crate::rng::Rng;
 use crate::signer::Signer;
 
@@ -41,12 +42,13 @@ impl Pair {
         })
     }
 
-    fn call(&mut self, message: &[u8]) -> Compared<u32> {
+    fn call(&mut self, message: &[u8], coverage: &mut Coverage) -> Compared<u32> {
         let answer = layout::receive(&mut self.state, &mut self.flash, message);
         let library = capi::receive(&mut self.library_state, &mut self.library_flash, message);
         same_answer(library, answer)?;
         same("state", &self.library_state, &self.state)?;
         same("flash", &self.library_flash, &self.flash)?;
+        readers::compare(&self.state, coverage)?;
         Ok(answer)
     }
 
@@ -117,7 +119,7 @@ impl<'a> List<'a> {
         let message = self.message(&self.pair.device());
         let kind = message.first().map_or(0, |kind| *kind as usize);
         let answer = self
-            .call(&message)
+            .call(&message, coverage)
             .map_err(|what| format!("kind {kind}, {} bytes: {what}", message.len()))?;
         coverage.count(if kind <= 3 { kind } else { 0 }, answer);
         if let Stage::Complete { manifest } = &self.pair.device().stage {
@@ -127,13 +129,13 @@ impl<'a> List<'a> {
         Ok(())
     }
 
-    fn call(&mut self, message: &[u8]) -> Compared<u32> {
+    fn call(&mut self, message: &[u8], coverage: &mut Coverage) -> Compared<u32> {
         let rng = &mut self.author.rng;
         if !rng.percent(self.author.plan.aside) {
-            return self.pair.call(message);
+            return self.pair.call(message, coverage);
         }
         let mut other = self.pair.changed(rng);
-        let answer = other.call(message)?;
+        let answer = other.call(message, coverage)?;
         // A device that went on from odd bytes is worth following, if it has its model, key and
         // whole flash.
         if answer == 0

@@ -1,5 +1,5 @@
 //! The C library and the loader against a model written from the papers alone: random lists of
-//! messages, sender calls, digests, verdicts and bundles.
+//! messages, what is read off each state, sender calls, digests, verdicts and bundles.
 //!
 //! `model [CALLS [SEED]]`: CALLS messages to devices (200,000 if not given), and of the other calls
 //! a share of it.
@@ -18,6 +18,7 @@ mod lms;
 mod loader;
 mod manifest;
 mod plan;
+mod readers;
 mod rfc8554;
 mod rng;
 mod selftest;

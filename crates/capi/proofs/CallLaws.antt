@@ -26,12 +26,12 @@ use Rattle.capi.proofs.StateLaws.{decode-none, decode-some, decode-enco
 use Rattle.capi.specs.Call.{stateAfter, called, receive}
 use Rattle.capi.specs.Claims.{IsStep}
 
-found-none : (o : Option Stage) → found o ≡ Nothing → o ≡ none
+pub found-none : (o : Option Stage) → found o ≡ Nothing → o ≡ none
 unfolding found
 found-none none e = refl
 found-none (some t) e = cc
 
-found-some : (o : Option Stage) {t : Stage} → found o ≡ At t → o ≡ some t
+pub found-some : (o : Option Stage) {t : Stage} → found o ≡ At t → o ≡ some t
 unfolding found
 found-some none e = cc
 found-some (some t) e = cc
@@ -40,11 +40,15 @@ chosen : (x : Bool) (o : Option Stage) {t : Stage} → cond x o none ≡ some t 
 chosen true o e = refl
 chosen false o e = cc
 
+-- bytes that encode a stage have a state's length
+pub found-length : (b : List ℕ) {t : Stage} → stageIn b ≡ some t → length b ≡ stateLength
+unfolding stageIn
+found-length b e = eqb-true _ _ (chosen (eqb (length b) stateLength) _ e)
+
 -- What the code found in the bytes b of a state.
 module _ (b : List ℕ) {f : Found} (e : f ≡ found (stageIn b)) where
   pub length-found : {t : Stage} → f ≡ At t → length b ≡ stateLength
-  unfolding stageIn
-  length-found g = eqb-true _ _ (chosen (eqb (length b) stateLength) _ (found-some (stageIn b) (sym e ∙ g)))
+  length-found g = found-length b (found-some (stageIn b) (sym e ∙ g))
 
   module _ (flash m : List ℕ) where
     pub unknown : f ≡ Nothing → receive b flash m ≡ record { answer = 1; state = b; flash = flash }

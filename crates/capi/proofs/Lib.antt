@@ -1,3 +1,5 @@
 pub mod StateLaws
 pub mod CallLaws
+pub mod StatusLaws
 pub mod RunLaws
+pub mod FromCLaws

@@ -24,12 +24,12 @@ use Rattle.machine.specs.declared.state.Stage.the-variants.{Loading, Complete}
 use Rattle.machine.specs.declared.state.Device.{Device}
 use Rattle.machine.specs.Device.{freshWith, nextOf, Situation}
 use Rattle.machine.specs.Step.{acceptProgram, stageAfter, acceptBlock, acceptUpdate, accept, outcome, refusalOf, step}
-use Rattle.guarantee.specs.Run.{empty, _▷_, after}
+use Rattle.guarantee.specs.Run.{Messages, empty, _▷_, after, answerTo}
 use Rattle.machine.proofs.RefusalLaws.{BlockPassed, program-passed, block-passed, update-passed}
 use Rattle.capi.specs.State.{encode}
-use Rattle.capi.specs.Call.{called, stateAfter, receive}
-use Rattle.capi.specs.Run.{Memory, left, callsAfter, AllBytes}
-use Rattle.capi.specs.Claims.{Fits, FreshFits, RunsDevice}
+use Rattle.capi.specs.Call.{Called, called, stateAfter, receive}
+use Rattle.capi.specs.Run.{Memory, left, callsAfter, returned, AllBytes}
+use Rattle.capi.specs.Claims.{Fits, FreshFits, Runs, RunsDevice}
 use Rattle.capi.proofs.CallLaws.{receive-encode}
 
 -- What an accepted message of bytes leaves still fits its bytes.
@@ -106,14 +106,24 @@ left-is d flash m = go (refusalOf digest valid d flash m)
     go none = refl
     go (some x) = refl
 
+-- Where the bytes kept are those of the device, a call more is its step.
+module _ (d : Device) (flash : List ℕ) (ms : Messages) (f : Fits (after (step digest valid) d flash ms .device))
+    (kept : callsAfter (encode d) flash ms ≡ (let s = after (step digest valid) d flash ms in holding (s .device) (s .flash))) where
+  call : (m : List ℕ) → (let b = callsAfter (encode d) flash ms in receive (b .state) (b .flash) m)
+      ≡ (let s = after (step digest valid) d flash ms in called (step digest valid (s .device) (s .flash) m) (encode (s .device)))
+  call m =
+      let s : Situation = after (step digest valid) d flash ms in
+      ap (λ (x : Memory). receive (x .state) (x .flash) m) kept ∙ receive-encode (s .device) (s .flash) m f
+
+  known : Runs d flash ms
+  unfolding returned answerTo called
+  known = record { fits = f; memory = kept; answers = λ m. ap (λ (x : Called). x .answer) (call m) }
+
 pub runs : RunsDevice
 unfolding callsAfter after AllBytes
-runs d flash f empty b = record { fits = f; memory = refl }
+runs d flash f empty b = known d flash empty f refl
 runs d flash f (ms ▷ m) b =
     let r = runs d flash f ms (b .0) in
     let s : Situation = after (step digest valid) d flash ms in
-    record {
-      fits = fits-step (s .device) (s .flash) m (b .1) (r .fits);
-      memory = ap (λ (x : Memory). left (receive (x .state) (x .flash) m)) (r .memory) ∙ ap left (receive-encode (s .device) (s .flash) m (r .fits))
-          ∙ left-is (s .device) (s .flash) m;
-    }
+    known d flash (ms ▷ m) (fits-step (s .device) (s .flash) m (b .1) (r .fits))
+    (ap left (call d flash ms (r .fits) (r .memory) m) ∙ left-is (s .device) (s .flash) m)

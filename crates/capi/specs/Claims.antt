@@ -10,11 +10,12 @@ use Rattle.lms.specs.Lms.{keyLength, valid}
 use Rattle.wire.specs.Manifest as manifest
 use Rattle.machine.specs.declared.state.Device.{Device}
 use Rattle.machine.specs.Device.{freshWith, nextOf}
+use Rattle.machine.specs.Readers.{numberOf}
 use Rattle.machine.specs.Step.{step}
-use Rattle.guarantee.specs.Run.{Messages, after}
+use Rattle.guarantee.specs.Run.{Messages, after, answerTo}
 use Rattle.capi.specs.State.{encode, decode}
 use Rattle.capi.specs.Call.{called, receive}
-use Rattle.capi.specs.Run.{callsAfter, AllBytes}
+use Rattle.capi.specs.Run.{callsAfter, returned, AllBytes}
 
 -- A state's fields fit their bytes: that of a fresh device, and every one that messages of bytes lead to from there.
 pub record Fits (d : Device) : Type 0 where
@@ -36,10 +37,11 @@ abbrev pub IsStep : Type 0
 IsStep = (d : Device) (flash m : List ℕ) → Fits d → receive (encode d) flash m ≡ called (step digest valid d flash m) (encode d)
 
 -- A caller that keeps state and flash from call to call runs the device that demand 3 speaks of: after a list of messages the bytes are those of that device and
--- its flash.
+-- its flash, and the number that one call more returns is that of its answer.
 pub record Runs (d : Device) (flash : List ℕ) (ms : Messages) : Type 0 where
   pub fits : Fits (after (step digest valid) d flash ms .device)
   pub memory : callsAfter (encode d) flash ms ≡ (let s = after (step digest valid) d flash ms in record { state = encode (s .device); flash = s .flash })
+  pub answers : (m : List ℕ) → returned (encode d) flash ms m ≡ numberOf (answerTo (step digest valid) d flash ms m)
 
 abbrev pub RunsDevice : Type 0
 RunsDevice = (d : Device) (flash : List ℕ) → Fits d → (ms : Messages) → AllBytes ms → Runs d flash ms

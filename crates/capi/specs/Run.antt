@@ -17,6 +17,10 @@ unfoldable pub callsAfter : (state flash : List ℕ) → Messages → Memory
 callsAfter state flash empty = record { state = state; flash = flash }
 callsAfter state flash (ms ▷ m) = let b = callsAfter state flash ms in left (receive (b .state) (b .flash) m)
 
+-- the number that one call more returns after a list of calls
+unfoldable pub returned : (state flash : List ℕ) → Messages → List ℕ → ℕ
+returned state flash ms m = let b = callsAfter state flash ms in receive (b .state) (b .flash) m .answer
+
 -- every message is a string of bytes
 unfoldable pub AllBytes : Messages → Type 0
 AllBytes empty = Unit {0}

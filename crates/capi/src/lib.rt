@@ -1,11 +1,14 @@
 // The interface for C (include/lertxuno.h). A slice crosses as a pointer and a length, a reference to an array or a number as a pointer. Every function
 // returns 0 or the number of a refusal; what it writes through a pointer is as before where it refuses.
 mod state;
+mod status;
 
 use machine::Answer;
+use machine::Stage;
 use sender::Sent;
 use state::Found;
 use state::STATE_LEN;
+use status::STATUS_LEN;
 ghost use mathlib.Core.Path.{_≡_};
 ghost use Rattle.sha256.specs.Sha256.{digest};
 ghost use Rattle.lms.specs.Lms.{valid};
@@ -14,6 +17,7 @@ ghost use Rattle.sender.specs.Send.{Does, sendManifest, sendProgram, sendBlock,
 ghost use Rattle.machine.specs.Device.{freshWith};
 ghost use Rattle.capi.specs.State.{encode};
 ghost use Rattle.capi.specs.Call.{verdict, told, receive};
+ghost use Rattle.capi.specs.Status.{status, blockMessageLength};
 
 // SHA-256 of the message.
 #[no_mangle]
@@ -146,4 +150,40 @@ pub extern "C" fn lertxuno_receive(state: &mut [u8], flash: &mut [u8], message: 
     let bytes = state::to_bytes(reply.device);
     octets::copy(state, 0, &bytes);
     0
+}
+
+// What the state holds, as numbers.
+#[no_mangle]
+pub extern "C" fn lertxuno_status(state: &[u8], out: &mut [u32; STATUS_LEN]) -> u32
+    ensures { λ r. ⌜ status (now (state .entry)) (now (out .entry)) ≡ record { answer = r; out = now (out .exit) } ⌝ }
+{
+    let Found::At(stage) = state::sensible_in(state) else {
+        return 1;
+    };
+    let numbers = status::status_of(state::device_in(state, stage));
+    *out = numbers;
+    0
+}
+
+// The length of the block message that is due next.
+#[no_mangle]
+pub extern "C" fn lertxuno_block_message_length(state: &[u8], length: &mut usize) -> u32
+    ensures { λ r. ⌜ blockMessageLength (now (state .entry)) (now (length .entry)) ≡ record { answer = r; written = now (length .exit) } ⌝ }
+{
+    let Found::At(stage) = state::sensible_in(state) else {
+        return 1;
+    };
+    match stage {
+        Stage::Idle => 10,
+        Stage::Loading(next) => {
+            let manifest = state::device_in(state, stage).manifest;
+            *length = wire::due_len(
+                manifest.block_len as usize,
+                manifest.image_len as usize,
+                next as usize,
+            );
+            0
+        }
+        Stage::Complete => 10,
+    }
 }

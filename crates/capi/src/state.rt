@@ -4,7 +4,8 @@ use machine::Stage;
 ghost use mathlib.Core.Path.{_≡_};
 ghost use lib.ListN.{length};
 ghost use Rattle.capi.specs.State.{encode, deviceIn, stageIn, stageNumber, stateLength};
-ghost use Rattle.capi.specs.Found.{found};
+ghost use Rattle.capi.specs.Status.{sensible};
+ghost use Rattle.capi.specs.Found.{found, foundIn};
 
 // Where the fields start: model (4 bytes), key, stage (2), next number (2), manifest, held hashes. specs/State.antt has the same for the contracts.
 const KEY_AT: usize = 4;
@@ -89,4 +90,17 @@ pub fn device_in(s: &[u8], stage: Stage) -> Device
         manifest: wire::read(&s[MANIFEST_AT..HASHES_AT]),
         hashes,
     }
+}
+
+// Found where the state makes sense: refusal 1 does not apply to it.
+pub fn sensible_in(s: &[u8]) -> Found
+    ensures { λ r. ⌜ r ≡ foundIn (sensible (now (s .entry))) ⌝ }
+{
+    let Found::At(stage) = stage_in(s) else {
+        return Found::Nothing;
+    };
+    if device::senseless(device_in(s, stage)) {
+        return Found::Nothing;
+    }
+    Found::At(stage)
 }

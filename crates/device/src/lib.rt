@@ -5,6 +5,7 @@ mod judge;
 mod readers;
 
 pub use conditions::next_of;
+pub use conditions::senseless;
 use machine::Answer;
 use machine::Device;
 use machine::Stage;

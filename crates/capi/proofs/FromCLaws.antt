@@ -1,0 +1,61 @@
+-- From a fresh state and a list of calls to the whole of demand 3.
+use mathlib.Core.Path.{_≡_, refl, ap, _∙_}
+use mathlib.Core.Logic.{_↔_}
+use Prim.Native.Nat.{ℕ, _<_}
+use native.Mathlib.Omega.{arith}
+use Rattle.wire.specs.declared.refusal.Refusal.{Refusal}
+use Rattle.wire.specs.declared.refusal.Refusal.the-variants.{State, Kind, Short, Version, Size, Model, Serial, Area, Unsigned, Stage, Turn, Length, Unlike, Mismatch}
+use Rattle.wire.specs.Refusal.{refusalNumber}
+use Rattle.sha256.specs.Sha256.{digest}
+use Rattle.lms.specs.Lms.{valid}
+use Rattle.machine.specs.declared.state.Answer.{Answer}
+use Rattle.machine.specs.declared.state.Answer.the-variants.{Accepted, Refused}
+use Rattle.machine.specs.Device.{freshWith}
+use Rattle.machine.specs.Readers.{numberOf}
+use Rattle.machine.specs.Step.{step}
+use Rattle.machine.proofs.FreshLaws.{fresh-is}
+use Rattle.guarantee.specs.Run.{after}
+use Rattle.guarantee.proofs.Demand3Holds.{demand3}
+use Rattle.guarantee.proofs.RecoveryHolds.{makes-sense}
+use Rattle.capi.specs.State.{decode}
+use Rattle.capi.specs.Run.{Memory}
+use Rattle.capi.specs.FromC.{FromC}
+use Rattle.capi.proofs.StateLaws.{decode-encode}
+use Rattle.capi.proofs.StatusLaws.{sensible-decoded, status-is, length-is}
+use Rattle.capi.proofs.RunLaws.{fresh-fits, runs}
+
+-- no refusal has the number of an accepted message
+above-zero : (r : Refusal) → 0 < refusalNumber r
+above-zero State = omega arith
+above-zero Kind = omega arith
+above-zero Short = omega arith
+above-zero Version = omega arith
+above-zero Size = omega arith
+above-zero Model = omega arith
+above-zero Serial = omega arith
+above-zero Area = omega arith
+above-zero Unsigned = omega arith
+above-zero Stage = omega arith
+above-zero Turn = omega arith
+above-zero Length = omega arith
+above-zero Unlike = omega arith
+above-zero Mismatch = omega arith
+
+zero-accepted : (a : Answer) {n : ℕ} → n ≡ numberOf a → (n ≡ 0) ↔ (a ≡ Accepted)
+zero-accepted Accepted e = (λ z. refl, λ z. e)
+zero-accepted (Refused r) e = (λ z. absurd (omega (arith, above-zero r)), λ z. cc)
+
+pub from-c : FromC
+from-c model key small long flash ms bytes =
+    let d = freshWith model key in
+    let r = runs d flash (fresh-fits model key small long) ms bytes in
+    let back = ap (λ (x : Memory). decode (x .state)) (r .memory) ∙ decode-encode (after (step digest valid) d flash ms .device) (r .fits) in
+    let read = sensible-decoded _ back (makes-sense digest valid (step digest valid) demand3 d (fresh-is model key) flash ms) in
+    record {
+      runs = r;
+      state = back;
+      reads = λ out. status-is _ out read refl;
+      due = λ before. length-is _ before read;
+      zero = λ m. zero-accepted _ (r .answers m);
+      claim = demand3 d (fresh-is model key) flash ms;
+    }

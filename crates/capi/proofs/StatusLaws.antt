@@ -1,0 +1,125 @@
+-- What is read off a state's bytes, from what the code finds in them.
+use mathlib.Core.Path.{_≡_, refl, sym, ap, _∙_}
+use mathlib.Core.Bool.{Bool, true, false, cond}
+use mathlib.Core.List.{List}
+use mathlib.Core.Option.{Option, none, some}
+use Prim.Native.Nat.{ℕ}
+use native.Mathlib.Omega.{arith}
+use lib.ListN.{length}
+use Rattle.wire.specs.Size.{wrongSize}
+use Rattle.wire.specs.Message.{dueLength}
+use Rattle.wire.proofs.SizeLaws.{or-false}
+use Rattle.machine.specs.declared.state.Stage.{Stage}
+use Rattle.machine.specs.declared.state.Stage.the-variants.{Idle, Loading, Complete}
+use Rattle.machine.specs.declared.state.Device.{Device}
+use Rattle.machine.specs.Device.{nextOf}
+use Rattle.machine.specs.Refusals.{wrongVersion, senseless, notLoading}
+use Rattle.machine.proofs.RefusalLaws.{Awaits, awaits}
+use Rattle.capi.specs.declared.state.Found.{Found}
+use Rattle.capi.specs.declared.state.Found.the-variants.{At, Nothing}
+use Rattle.capi.specs.Found.{found, foundIn}
+use Rattle.capi.specs.State.{stateLength, stageIn, deviceIn, decode}
+use Rattle.capi.specs.Status.{sensible, statusOf, status, dueOf, blockMessageLength}
+use Rattle.capi.proofs.StateLaws.{decode-none, decode-some}
+use Rattle.capi.proofs.CallLaws.{found-some, found-length}
+
+-- What refusal 1 leaves of a device that is not idle.
+module _ (d : Device) (sense : senseless d ≡ false) where
+  pub loading : {i : ℕ} → d .stage ≡ Loading i → Awaits d i
+  unfolding notLoading nextOf
+  loading e = awaits d sense (rw e) (rw e)
+
+  pub complete : d .stage ≡ Complete → wrongSize (d .manifest .«block_len») (d .manifest .«image_len») ≡ false
+  unfolding senseless
+  complete e = or-false (wrongVersion (d .manifest)) _ (rw e at sense) .1
+
+module _ (b : List ℕ) where
+  pub sensible-decoded : {d : Device} → decode b ≡ some d → senseless d ≡ false → sensible b ≡ some d
+  unfolding sensible
+  sensible-decoded e s = rw (e, sensible, s)
+
+  pub sensible-none : stageIn b ≡ none → sensible b ≡ none
+  unfolding sensible
+  sensible-none e = rw (decode-none b e, sensible)
+
+  pub sensible-some : {t : Stage} → stageIn b ≡ some t → sensible b ≡ cond (senseless (deviceIn b t)) none (some (deviceIn b t))
+  unfolding sensible
+  sensible-some e = rw (decode-some b e, sensible)
+
+  -- bytes that encode a device at stage t to which refusal 1 does not apply
+  pub record Sense (t : Stage) : Type 0 where
+    pub long : length b ≡ stateLength
+    pub device : sensible b ≡ some (deviceIn b t)
+    pub sense : senseless (deviceIn b t) ≡ false
+
+  -- what the code found in them
+  module _ {f : Found} (e : f ≡ foundIn (sensible b)) where
+    pub no-sense : f ≡ Nothing → sensible b ≡ none
+    unfolding foundIn
+    no-sense g = go (sensible b) (sym e ∙ g)
+      where
+        go : (o : Option Device) → foundIn o ≡ Nothing → o ≡ none
+        go none q = refl
+        go (some d) q = cc
+
+    pub makes-sense : {t : Stage} → f ≡ At t → Sense t
+    unfolding foundIn deviceIn
+    makes-sense {t} g = go (stageIn b) refl
+      where
+        nothing : sensible b ≡ none → Sense t
+        nothing q = absurd (let x : Nothing ≡ At t = ap foundIn (sym q) ∙ sym e ∙ g in let z : _≡_ {A = ℕ} 0 1 = cc in omega arith)
+
+        go : (o : Option Stage) → stageIn b ≡ o → Sense t
+        go none q = nothing (sensible-none q)
+        go (some u) q = test (senseless (deviceIn b u)) refl
+          where
+            test : (x : Bool) → senseless (deviceIn b u) ≡ x → Sense t
+            test true r = nothing (sensible-some q ∙ rw r)
+            test false r =
+                let s : sensible b ≡ some (deviceIn b u) = sensible-some q ∙ rw r in
+                let at : At u ≡ At t = ap foundIn (sym s) ∙ sym e ∙ g in
+                let same : u ≡ t = cc in
+                record { long = found-length b q; device = rw same at s; sense = rw same at r }
+
+  -- what it found where it has the stage and has tested the device
+  pub tested : {f : Found} {t : Stage} {d : Device} {x : Bool} → f ≡ found (stageIn b) → f ≡ At t → d ≡ deviceIn b t → x ≡ senseless d
+      → cond x Nothing (At t) ≡ foundIn (sensible b)
+  unfolding foundIn deviceIn
+  tested {t = t} e g de x = rw (sensible-some (found-some (stageIn b) (sym e ∙ g)), x, de) (go (senseless (deviceIn b t)))
+    where
+      go : (y : Bool) → cond y Nothing (At t) ≡ foundIn (cond y none (some (deviceIn b t)))
+      go true = refl
+      go false = refl
+
+-- What the functions for C leave.
+module _ (b out : List ℕ) where
+  pub status-refused : sensible b ≡ none → status b out ≡ record { answer = 1; out = out }
+  unfolding status
+  status-refused e = rw (e, status)
+
+  pub status-is : {d : Device} {numbers : List ℕ} → sensible b ≡ some d → numbers ≡ statusOf d → status b out ≡ record { answer = 0; out = numbers }
+  unfolding status
+  status-is e en = rw (e, status, en)
+
+module _ (b : List ℕ) (before : ℕ) where
+  pub length-refused : sensible b ≡ none → blockMessageLength b before ≡ record { answer = 1; written = before }
+  unfolding blockMessageLength
+  length-refused e = rw (e, blockMessageLength)
+
+  module _ {d : Device} (e : sensible b ≡ some d) where
+    pub length-is : blockMessageLength b before ≡ dueOf before d
+    unfolding blockMessageLength
+    length-is = rw (e, blockMessageLength)
+
+    pub length-idle : d .stage ≡ Idle → blockMessageLength b before ≡ record { answer = 10; written = before }
+    unfolding dueOf
+    length-idle t = length-is ∙ rw t
+
+    pub length-complete : d .stage ≡ Complete → blockMessageLength b before ≡ record { answer = 10; written = before }
+    unfolding dueOf
+    length-complete t = length-is ∙ rw t
+
+    pub length-due : {i n : ℕ} → d .stage ≡ Loading i → n ≡ dueLength (d .manifest .«block_len») (d .manifest .«image_len») i
+        → blockMessageLength b before ≡ record { answer = 0; written = n }
+    unfolding dueOf
+    length-due t en = length-is ∙ rw (t, en)

@@ -1,0 +1,48 @@
+-- Demand 3 as a caller from C sees it: the bytes that it keeps, the memory that it lends as flash and the numbers that it is given, in one statement.
+use mathlib.Core.Path.{_≡_}
+use mathlib.Core.Logic.{_↔_}
+use mathlib.Core.List.{List}
+use mathlib.Core.Option.{some}
+use Prim.Native.Nat.{ℕ, _^_, _<_}
+use lib.ListN.{length}
+use Rattle.sha256.specs.Sha256.{digest}
+use Rattle.lms.specs.Lms.{keyLength, valid}
+use Rattle.machine.specs.declared.state.Device.{Device}
+use Rattle.machine.specs.declared.state.Answer.the-variants.{Accepted}
+use Rattle.machine.specs.Device.{freshWith}
+use Rattle.machine.specs.Step.{step}
+use Rattle.guarantee.specs.Run.{Messages, after, answerTo}
+use Rattle.guarantee.specs.Demand3.{Claim}
+use Rattle.capi.specs.State.{encode, decode}
+use Rattle.capi.specs.Status.{statusOf, status, dueOf, blockMessageLength}
+use Rattle.capi.specs.Run.{callsAfter, returned, AllBytes}
+use Rattle.capi.specs.Claims.{Runs}
+
+-- A state as lertxuno_fresh writes it, some memory lent as flash, and then messages handed to lertxuno_receive, each call with what the one before left.
+module _ (model : ℕ) (key flash : List ℕ) (ms : Messages) where
+  -- the device that demand 3 starts from, and the one after the messages; the bytes that the caller keeps meanwhile
+  abbrev fresh : Device
+  fresh = freshWith model key
+
+  abbrev device : Device
+  device = after (step digest valid) fresh flash ms .device
+
+  abbrev kept : List ℕ
+  kept = callsAfter (encode fresh) flash ms .state
+
+  pub record AfterCalls : Type 0 where
+    -- the bytes kept are the device's, the memory lent is its flash, and each number returned is that of its answer
+    pub runs : Runs fresh flash ms
+    -- read back, the bytes kept are the device
+    pub state : decode kept ≡ some device
+    -- neither reader refuses them 1: lertxuno_status gives the device's numbers, lertxuno_block_message_length what is due, if a block is
+    pub reads : (out : List ℕ) → status kept out ≡ record { answer = 0; out = statusOf device }
+    pub due : (before : ℕ) → blockMessageLength kept before ≡ dueOf before device
+    -- 0 is returned exactly where the device accepts
+    pub zero : (m : List ℕ) → (returned (encode fresh) flash ms m ≡ 0) ↔ (answerTo (step digest valid) fresh flash ms m ≡ Accepted)
+    -- of this device and flash demand 3 holds, whole
+    pub claim : Claim digest valid (step digest valid) fresh flash ms
+
+-- For every model and key that C can hand over, every flash, and every list of messages.
+abbrev pub FromC : Type 0
+FromC = (model : ℕ) (key : List ℕ) → model < 256 ^ 4 → length key ≡ keyLength → (flash : List ℕ) (ms : Messages) → AllBytes ms → AfterCalls model key flash ms
