@@ -5,9 +5,9 @@ use mathlib.Core.List.{List, [], _∷_, _++_, List·Memᴰ, List·Memᴰ·head, 
 use Prim.Native.Nat.{ℕ, _+_, _-_, _≤_, _<_}
 use native.Mathlib.Nat.{add-zero}
 use native.Mathlib.Omega.{arith}
-use Rattle.merkle.specs.Shape.{Shape, leaf, node, size, Place, places}
+use Rattle.merkle.specs.Shape.{Shape, leaf, node, size, leastFrom, depth, split, build, shape, Place, places}
 use Rattle.merkle.specs.Frontier.{largest, frontier}
-use Rattle.merkle.specs.Claims.{Largest, LargestSubtree, Covers}
+use Rattle.merkle.specs.Claims.{Largest, LargestSubtree, Table3, Covers}
 use Rattle.merkle.proofs.ShapeLaws.{lt-or-le, size-pos, size-leaf, size-node}
 use Rattle.merkle.proofs.FrontierLaws.{on-halves, largest-zero, largest-left, largest-right, frontier-zero, frontier-left, frontier-right, frontier-all}
 
@@ -80,6 +80,10 @@ largest-is =
       starts = k .starts ∙ omega arith;
       most = λ v m e. k .most v (in-right o l r v m (omega (arith, size-pos l)) (omega arith)) (omega arith);
     }))
+
+pub table3 : Table3
+unfolding size leastFrom depth split build shape largest
+table3 = refl
 
 -- Covers, from nothing and one place behind the other.
 module _ {w : List Place} where

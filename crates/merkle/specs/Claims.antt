@@ -100,3 +100,7 @@ abbrev pub ArrayAdvance : Type 0
 ArrayAdvance =
     (n i : ℕ) (array message : List ℕ) → i < n → n ≤ maxBlocks → length array ≡ heldBytes → length message ≡ hashLength * carriedCount n (suc i)
     → Advance n i array message
+
+-- "Table 3, in the row of message 7, lists H6 as computed; the node is H4": of 8 blocks, the largest subtree that starts with block 7 has blocks 7 and 8.
+abbrev pub Table3 : Type 0
+Table3 = largest 0 (shape 8) 6 ≡ (6, node leaf leaf)
