@@ -3,7 +3,7 @@ use mathlib.Core.Path.{_≡_, refl, sym, ap, ap₂, _∙_}
 use mathlib.Core.Logic.{_⊎_, inl, inr, _≢_}
 use mathlib.Core.List.{List, _++_, append-assoc, append-nil}
 use Prim.Native.Nat.{ℕ, zero, suc, _+_, _-_, _*_, _/_, _%_, min, _≤_, _<_}
-use native.Mathlib.Nat.{mul-le-mul-right, add-mul, div-add-mod', mod-lt}
+use native.Mathlib.Nat.{mul-le-mul-right, div-add-mod', mod-lt}
 use native.Mathlib.Omega.{arith}
 use lib.ListN.{length, take, drop, length-take, length-drop, take-append-drop, drop-of-length-le}
 use lib.Seq.{paste, take-add, take-all, take-at, drop-drop, take-append-le, drop-append-le, drop-append-add, length-take-le, length-paste, length-paste-head}
@@ -31,11 +31,6 @@ module _ (f : ℕ → List ℕ) (at : ℕ) (b : List ℕ) where
   pub overlay-other : (j : ℕ) → j ≢ at → overlay f at b j ≡ f j
   unfolding overlay
   overlay-other j n = rw (ne-eqb j at n, overlay)
-
--- The blocks of a part that begins with a block.
-pub cut-drop : (L : ℕ) (a : List ℕ) (k j : ℕ) → cut L (drop (k * L) a) j ≡ cut L a (k + j)
-unfolding cut
-cut-drop L a k j = ap (take L) (drop-drop (j * L) (k * L) a ∙ ap (λ x. drop x a) (sym (add-mul k j L)))
 
 -- The first n + 1 blocks are the first n and one more.
 pub take-blocks : (L : ℕ) (a : List ℕ) (n : ℕ) → take (suc n * L) a ≡ take (n * L) a ++ cut L a n

@@ -1,16 +1,15 @@
--- The frontier covers exactly the blocks that are left, no fewer subtrees do, and its first subtree is the largest that starts there.
+-- The places of a tree: the largest that starts at a block, and the frontier, which covers exactly the blocks that are left.
 use mathlib.Core.Path.{_≡_, refl, sym, ap, _∙_}
 use mathlib.Core.Logic.{_⊎_, inl, inr, ⊎-elim}
 use mathlib.Core.List.{List, [], _∷_, _++_, List·Memᴰ, List·Memᴰ·head, List·Memᴰ·tail, Memᴰ·cast, Memᴰ·append-left, Memᴰ·append-right, List·Memᴰ·cases-cons, List·Memᴰ·append-cases, List·Memᴰ·eq-of-singleton, List·Memᴰ·not-nil}
-use Prim.Native.Nat.{ℕ, suc, _+_, _-_, _≤_, _<_}
+use Prim.Native.Nat.{ℕ, _+_, _-_, _≤_, _<_}
 use native.Mathlib.Nat.{add-zero}
 use native.Mathlib.Omega.{arith}
-use lib.ListN.{length, length-append}
-use Rattle.merkle.specs.Shape.{Shape, leaf, node, size, Place, places}
+use Rattle.merkle.specs.Shape.{Shape, leaf, node, size, leastFrom, depth, split, build, shape, Place, places}
 use Rattle.merkle.specs.Frontier.{largest, frontier}
-use Rattle.merkle.specs.Claims.{Largest, LargestSubtree, Covers, FrontierFewest}
+use Rattle.merkle.specs.Claims.{Largest, LargestSubtree, Table3, Covers}
 use Rattle.merkle.proofs.ShapeLaws.{lt-or-le, size-pos, size-leaf, size-node}
-use Rattle.merkle.proofs.FrontierLaws.{on-halves, largest-zero, largest-left, largest-right, frontier-zero, frontier-leaf, frontier-left, frontier-right, frontier-all}
+use Rattle.merkle.proofs.FrontierLaws.{on-halves, largest-zero, largest-left, largest-right, frontier-zero, frontier-left, frontier-right, frontier-all}
 
 -- The places of a node: itself, and those of the two halves.
 pub itself : (o : ℕ) (s : Shape) → List·Memᴰ (o, s) (places o s)
@@ -27,7 +26,7 @@ module _ (o : ℕ) (l r : Shape) (p : Place) where
   unfolding places
   place-right m = List·Memᴰ·tail (Memᴰ·append-right (places o l) m)
 
-  place-cases : List·Memᴰ p (places o (node l r)) → (p ≡ (o, node l r)) ⊎ (List·Memᴰ p (places o l) ⊎ List·Memᴰ p (places (o + size l) r))
+  pub place-cases : List·Memᴰ p (places o (node l r)) → (p ≡ (o, node l r)) ⊎ (List·Memᴰ p (places o l) ⊎ List·Memᴰ p (places (o + size l) r))
   unfolding places
   place-cases m = ⊎-elim (λ e. inl e) (λ w. inr (List·Memᴰ·append-cases (places o l) w)) (List·Memᴰ·cases-cons m)
 
@@ -46,13 +45,13 @@ inside o (node l r) p m = go (place-cases o l r p m) (inside o l p) (inside (o +
 
 -- A place of a node that does not start with it is in the half where it starts.
 module _ (o : ℕ) (l r : Shape) (p : Place) (m : List·Memᴰ p (places o (node l r))) (later : o < p .0) where
-  in-left : p .0 < o + size l → List·Memᴰ p (places o l)
+  pub in-left : p .0 < o + size l → List·Memᴰ p (places o l)
   in-left h =
       ⊎-elim (λ (e : p ≡ (o, node l r)). absurd (let f = ap (λ (q : Place). q .0) e in omega arith))
       (λ w. ⊎-elim (λ v. v) (λ v. absurd (let i = inside (o + size l) r p v in omega arith)) w)
       (place-cases o l r p m)
 
-  in-right : o + size l ≤ p .0 → List·Memᴰ p (places (o + size l) r)
+  pub in-right : o + size l ≤ p .0 → List·Memᴰ p (places (o + size l) r)
   in-right h =
       ⊎-elim (λ (e : p ≡ (o, node l r)). absurd (let f = ap (λ (q : Place). q .0) e in omega arith))
       (λ w. ⊎-elim (λ v. absurd (let i = inside o l p v in omega (arith, size-pos (p .1)))) (λ v. v) w)
@@ -82,6 +81,10 @@ largest-is =
       most = λ v m e. k .most v (in-right o l r v m (omega (arith, size-pos l)) (omega arith)) (omega arith);
     }))
 
+pub table3 : Table3
+unfolding size leastFrom depth split build shape largest
+table3 = refl
+
 -- Covers, from nothing and one place behind the other.
 module _ {w : List Place} where
   covers-none : (a : ℕ) → Covers w a a []
@@ -105,7 +108,7 @@ module _ {w : List Place} where
 covers-zero : (o : ℕ) (s : Shape) → Covers (places o s) (o + 0) (o + size s) (frontier o s 0)
 covers-zero o s = rw (frontier-zero o s, add-zero o) (covers-behind {ps = []} (o, s) (itself o s) refl (omega arith) (covers-none o))
 
-exactly : (o : ℕ) (s : Shape) (i : ℕ) → i ≤ size s → Covers (places o s) (o + i) (o + size s) (frontier o s i)
+pub exactly : (o : ℕ) (s : Shape) (i : ℕ) → i ≤ size s → Covers (places o s) (o + i) (o + size s) (frontier o s i)
 exactly =
     on-halves (λ o s i. i ≤ size s → Covers (places o s) (o + i) (o + size s) (frontier o s i)) (λ o s h. covers-zero o s)
     (λ o i p h. let e : i ≡ size leaf = omega (arith, size-leaf) in rw (e, frontier-all o leaf) (covers-none (o + size leaf)))
@@ -118,81 +121,3 @@ exactly =
     let whole : o + size (node l r) ≡ o + size l + size r = omega (arith, size-node l r) in
     let e : o + i ≡ o + size l + (i - size l) = omega arith in
     rw (whole, e, frontier-right o l r i q) (covers-in (λ p m. place-right o l r p m) (ih (omega (arith, size-node l r)))))
-
--- One of a list taken out: the others are still there.
-record Without (q : Place) (ps : List Place) : Type 0 where
-  rest : List Place
-  count : length ps ≡ suc (length rest)
-  kept : (p : Place) → List·Memᴰ p ps → (p ≡ q) ⊎ List·Memᴰ p rest
-
-without : (q : Place) (ps : List Place) → List·Memᴰ q ps → Without q ps
-without q [] m = absurd (List·Memᴰ·not-nil m)
-without q (x ∷ ps) m = go (List·Memᴰ·cases-cons m) (without q ps)
-  where
-    go : (q ≡ x) ⊎ List·Memᴰ q ps → (List·Memᴰ q ps → Without q ps) → Without q (x ∷ ps)
-    go (inl e) ih = record { rest = ps; count = refl; kept = λ p v. ⊎-elim (λ f. inl (f ∙ sym e)) (λ n. inr n) (List·Memᴰ·cases-cons v) }
-    go (inr n) ih =
-        let w = ih n in
-        record {
-          rest = x ∷ w .rest;
-          count = ap suc (w .count);
-          kept = λ p v. ⊎-elim (λ f. inr (List·Memᴰ·head f)) (λ y. ⊎-elim (λ f. inl f) (λ z. inr (List·Memᴰ·tail z)) (w .kept p y)) (List·Memᴰ·cases-cons v);
-        }
-
-other : (p q : Place) (rest : List Place) → p .0 < q .0 → (p ≡ q) ⊎ List·Memᴰ p rest → List·Memᴰ p rest
-other p q rest h (inl e) = absurd (let f = ap (λ (v : Place). v .0) e in omega arith)
-other p q rest h (inr m) = m
-
--- Each block from the i-th on is in a place of the tree that starts no earlier; the list may have others besides.
-abbrev Reaches : ℕ → Shape → ℕ → List Place → Type 0
-Reaches o s i ps =
-    (j : ℕ) → o + i ≤ j → j < o + size s → (p : Place) × List·Memᴰ p ps × List·Memᴰ p (places o s) × (o + i ≤ p .0) × (p .0 ≤ j) × (j < p .0 + size (p .1))
-
-at-least-one : (ps : List Place) (p : Place) → List·Memᴰ p ps → 1 ≤ length ps
-at-least-one [] p m = absurd (List·Memᴰ·not-nil m)
-at-least-one (x ∷ ps) p m = omega arith
-
--- One of the list has the right half's first block; the others reach the blocks of the left half.
-module _ (o : ℕ) (l r : Shape) (i : ℕ) (ps : List Place) (pos : 0 < i) (low : i < size l) (c : Reaches o (node l r) i ps) where
-  one : (p : Place) × List·Memᴰ p ps × (o + size l ≤ p .0)
-  one =
-      let k = c (o + size l) (omega arith) (omega (arith, size-node l r, size-pos r)) in
-      let from = k .3 in
-      let past = k .5 in (
-        k .0,
-        k .1,
-        ⊎-elim (λ (v : k .0 .0 < o + size l). absurd (omega (arith, inside o l (k .0) (in-left o l r (k .0) (k .2) (omega arith) v)))) (λ (v : o + size l ≤ k .0 .0). v)
-            (lt-or-le (k .0 .0) (o + size l)),
-      )
-
-  rest : Without (one .0) ps
-  rest = without (one .0) ps (one .1)
-
-  rest-reaches : Reaches o l i (rest .rest)
-  rest-reaches j g u =
-      let k = c j g (omega (arith, size-node l r)) in
-      let from = k .3 in
-      let upto = k .4 in
-      (k .0, other (k .0) (one .0) (rest .rest) (omega (arith, one .2)) (rest .kept (k .0) (k .1)), in-left o l r (k .0) (k .2) (omega arith) (omega arith), k .3, k .4, k .5)
-
-reached : (o : ℕ) (s : Shape) (i : ℕ) → i ≤ size s → (ps : List Place) → Reaches o s i ps → length (frontier o s i) ≤ length ps
-reached =
-    on-halves (λ o s i. i ≤ size s → (ps : List Place) → Reaches o s i ps → length (frontier o s i) ≤ length ps)
-    (λ o s h ps c. let k = c (o + 0) (omega arith) (omega (arith, size-pos s)) in rw (frontier-zero o s) (at-least-one ps (k .0) (k .1)))
-    (λ o i p h ps c. rw (frontier-leaf o i p) (omega arith))
-    (λ o l r i p q ih h ps c.
-    rw (frontier-left o l r i p (omega arith), length-append (frontier o l i) ((o + size l, r) ∷ []))
-    (omega (arith, rest o l r i ps p q c .count, ih (omega arith) (rest o l r i ps p q c .rest) (rest-reaches o l r i ps p q c))))
-    (λ o l r i q ih h ps c.
-    rw (frontier-right o l r i q)
-    (ih (omega (arith, size-node l r)) ps (λ j g u.
-    let k = c j (omega arith) (omega (arith, size-node l r)) in
-    let from = k .3 in
-    (k .0, k .1, in-right o l r (k .0) (k .2) (omega (arith, size-pos l)) (omega arith), omega arith, k .4, k .5))))
-
-pub frontier-fewest : FrontierFewest
-frontier-fewest o s i h =
-    record {
-      exactly = exactly o s i h;
-      fewest = λ ps c. reached o s i h ps (λ j g u. let k = c .all j g u in (k .0, k .1, c .within (k .0) (k .1), c .only (k .0) (k .1) .0, k .2, k .3));
-    }

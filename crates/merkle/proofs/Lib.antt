@@ -1,6 +1,8 @@
 pub mod ShapeLaws
 pub mod FrontierLaws
 pub mod CoverLaws
+pub mod OrderLaws
+pub mod FewestLaws
 pub mod HashLaws
 pub mod BindingLaws
 pub mod LoadingLaws

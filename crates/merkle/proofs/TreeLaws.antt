@@ -1,63 +1,40 @@
--- The tree over the flash by halves: what the proofs of `leaf` and `root_with` cite.
+-- The tree over blocks by halves: what the proofs of `subtree_hash` and its callers cite.
 use mathlib.Core.Path.{_≡_, sym, ap, ap₂, _∙_}
 use mathlib.Core.List.{List}
 use Prim.Native.Nat.{ℕ, _+_, _-_, _*_, _≤_, _<_}
-use native.Mathlib.Nat.{mul-le-mul-right, add-mul, zero-mul, zero-add}
+use native.Mathlib.Nat.{mul-le-mul-right, add-mul}
 use native.Mathlib.Omega.{arith}
-use native.Mathlib.Decide.{ℕ-discrete}
 use lib.ListN.{length, take, drop, length-drop}
+use lib.Seq.{drop-drop}
 use Rattle.merkle.specs.Blocks.{cut, overlay}
-use Rattle.merkle.specs.Shape.{size, split, shape}
+use Rattle.merkle.specs.Shape.{split, shape}
 use Rattle.merkle.specs.Hash.{Hashing, leafHash, nodeHash, hash}
-use Rattle.merkle.proofs.ShapeLaws.{shape-leaf, size-shape, split-between, halves, size-left}
-use Rattle.merkle.proofs.HashLaws.{hash-node, hash-same}
-use Rattle.merkle.proofs.BlockLaws.{overlay-same, overlay-other, cut-drop}
+use Rattle.merkle.proofs.ShapeLaws.{shape-leaf, halves, size-left}
+use Rattle.merkle.proofs.HashLaws.{hash-node}
+use Rattle.merkle.proofs.BlockLaws.{overlay-same, overlay-other}
 
--- The first block, replaced or not.
-pub first-replaced : (f : ℕ → List ℕ) (at : ℕ) (b : List ℕ) → at ≡ 0 → overlay f at b 0 ≡ b
-first-replaced f at b e = rw e (overlay-same f 0 b)
+-- The part from block `first` on: its first block, replaced or not, and the part from k blocks later on.
+module _ (L : ℕ) (a part : List ℕ) (first : ℕ) (is : drop (first * L) a ≡ part) where
+  pub first-kept : (at : ℕ) (b : List ℕ) → (first ≡ at → ⊥) → overlay (cut L a) at b first ≡ take L part
+  first-kept at b n = overlay-other (cut L a) at b first n ∙ unfold cut in ap (take L) is
 
-pub first-kept : (L : ℕ) (a : List ℕ) (at : ℕ) (b : List ℕ) → (at ≡ 0 → ⊥) → overlay (cut L a) at b 0 ≡ take L a
-first-kept L a at b n = overlay-other (cut L a) at b 0 (λ e. n (sym e)) ∙ unfold cut in (ap (λ k. take L (drop k a)) (zero-mul L))
+  pub part-later : (k : ℕ) → drop ((first + k) * L) a ≡ drop (k * L) part
+  part-later k = ap (λ x. drop x a) (add-mul first k L) ∙ sym (drop-drop (k * L) (first * L) a) ∙ ap (drop (k * L)) is
 
--- Block at of n, counted from block k on, is block r.
-abbrev pub Behind : ℕ → ℕ → ℕ → ℕ → Type 0
-Behind at k n r = (j : ℕ) → k + j < n → (j ≡ r → k + j ≡ at) × (k + j ≡ at → j ≡ r)
+pub first-replaced : (f : ℕ → List ℕ) (at : ℕ) (b : List ℕ) (first : ℕ) → first ≡ at → overlay f at b first ≡ b
+first-replaced f at b first e = rw e (overlay-same f at b)
 
--- The blocks of the flash from block k on.
-overlay-behind : (L : ℕ) (a : List ℕ) (at : ℕ) (b : List ℕ) (k n r : ℕ) → Behind at k n r → (j : ℕ) → k + j < n
-    → overlay (cut L (drop (k * L) a)) r b j ≡ overlay (cut L a) at b (k + j)
-overlay-behind L a at b k n r is j h = go (ℕ-discrete j r)
-  where
-    go : Dec (j ≡ r) → overlay (cut L (drop (k * L) a)) r b j ≡ overlay (cut L a) at b (k + j)
-    go (yes e) =
-        ap (overlay (cut L (drop (k * L) a)) r b) e ∙ overlay-same (cut L (drop (k * L) a)) r b
-        ∙ sym (ap (overlay (cut L a) at b) (is j h .0 e) ∙ overlay-same (cut L a) at b)
-    go (no d) =
-        overlay-other (cut L (drop (k * L) a)) r b j d ∙ cut-drop L a k j ∙ sym (overlay-other (cut L a) at b (k + j) (λ e. d (is j h .1 e)))
-
--- A subtree of m blocks from block k on has the hash of the tree over the flash from there on.
-pub hash-behind : (H : Hashing) (L : ℕ) (a : List ℕ) (at : ℕ) (b : List ℕ) (k n r m : ℕ) (d : List ℕ) → Behind at k n r → 0 < m → k + m ≤ n
-    → d ≡ hash H (overlay (cut L (drop (k * L) a)) r b) 0 (shape m) → d ≡ hash H (overlay (cut L a) at b) k (shape m)
-hash-behind H L a at b k n r m d is pos le e =
-    e ∙ hash-same H (shape m)
-    (record { block = λ j h. let z = size-shape m pos in rw (zero-add j) (overlay-behind L a at b k n r is j (omega arith)) })
-
--- The tree over the flash, one block replaced: of one block, and from the two halves.
-module _ (H : Hashing) (L : ℕ) (a : List ℕ) (at : ℕ) (b : List ℕ) (n : ℕ) (d : List ℕ) where
-  pub root-one : n ≡ 1 → d ≡ leafHash H (overlay (cut L a) at b 0) → d ≡ hash H (overlay (cut L a) at b) 0 (shape n)
+-- The hash of the tree over n blocks, o before it: of one block, and from the two halves.
+module _ (H : Hashing) (f : ℕ → List ℕ) (o n : ℕ) (d : List ℕ) where
+  pub hash-one : n ≡ 1 → d ≡ leafHash H (f o) → d ≡ hash H f o (shape n)
   unfolding hash
-  root-one e is = is ∙ rw (shape-leaf n (omega arith))
+  hash-one e is = is ∙ rw (shape-leaf n (omega arith))
 
-  pub root-two : (k r : ℕ) (x y : List ℕ) → 1 < n → k ≡ split n → Behind at k n r → x ≡ hash H (overlay (cut L a) at b) 0 (shape k)
-      → y ≡ hash H (overlay (cut L (drop (k * L) a)) r b) 0 (shape (n - k)) → d ≡ nodeHash H x y → d ≡ hash H (overlay (cut L a) at b) 0 (shape n)
-  root-two k r x y big is behind ex ey ed =
-      let f = overlay (cut L a) at b in
-      let m = split-between n k big is in
-      let start : 0 + size (shape k) ≡ k = zero-add (size (shape k)) ∙ size-left n k big is in
-      ed ∙ ap₂ (λ u v. nodeHash H u v) ex (hash-behind H L a at b k n r (n - k) y behind (omega arith) (omega arith) ey)
-      ∙ ap (λ o. nodeHash H (hash H f 0 (shape k)) (hash H f o (shape (n - k)))) (sym start)
-      ∙ sym (ap (hash H f 0) (halves n k big is) ∙ hash-node H f 0 (shape k) (shape (n - k)))
+  pub hash-two : (k : ℕ) (x y : List ℕ) → 1 < n → k ≡ split n → x ≡ hash H f o (shape k) → y ≡ hash H f (o + k) (shape (n - k)) → d ≡ nodeHash H x y
+      → d ≡ hash H f o (shape n)
+  hash-two k x y big is ex ey ed =
+      ed ∙ ap₂ (λ u v. nodeHash H u v) ex (ey ∙ ap (λ z. hash H f (o + z) (shape (n - k))) (sym (size-left n k big is)))
+      ∙ sym (ap (hash H f o) (halves n k big is) ∙ hash-node H f o (shape k) (shape (n - k)))
 
 -- The flash is long enough for both halves.
 pub left-fits : (L A n k : ℕ) → k < n → (n - 1) * L ≤ A → k * L ≤ A

@@ -1,6 +1,7 @@
 -- What is shown of the definitions (in proofs/), in 01's order.
 use mathlib.Core.Path.{_≡_}
-use mathlib.Core.List.{List, _∷_, _++_, List·Memᴰ}
+use mathlib.Core.Logic.{_↔_}
+use mathlib.Core.List.{List, [], _∷_, _++_, List·Memᴰ}
 use Prim.Native.Nat.{ℕ, suc, _+_, _-_, _*_, _^_, _≤_, _<_}
 use lib.ListN.{length}
 use Rattle.merkle.specs.Limits.{maxBlocks, hashLength, heldBytes}
@@ -60,10 +61,19 @@ pub record Covers (tree : List Place) (a b : ℕ) (ps : List Place) : Type 0 whe
   pub only : (p : Place) → List·Memᴰ p ps → (a ≤ p .0) × (p .0 + size (p .1) ≤ b)
   pub all : (j : ℕ) → a ≤ j → j < b → (p : Place) × List·Memᴰ p ps × (p .0 ≤ j) × (j < p .0 + size (p .1))
 
--- "the fewest subtrees that cover exactly blocks i + 1 to n": no shorter list covers them, in any order, overlapping or not.
+-- In block order: each place starts before all that follow it.
+unfoldable pub InOrder : List Place → Type 0
+InOrder [] = Unit {0}
+InOrder (p ∷ ps) = ((q : Place) → List·Memᴰ q ps → p .0 < q .0) × InOrder ps
+
+-- "the fewest subtrees that cover exactly blocks i + 1 to n": no shorter list covers them, in any order, overlapping or not, and none that is as short has other
+-- places. In block order it is this one.
 pub record Fewest (tree : List Place) (a b : ℕ) (ps : List Place) : Type 0 where
   pub exactly : Covers tree a b ps
   pub fewest : (qs : List Place) → Covers tree a b qs → length ps ≤ length qs
+  pub same : (qs : List Place) → Covers tree a b qs → length qs ≤ length ps → (p : Place) → List·Memᴰ p qs ↔ List·Memᴰ p ps
+  pub ordered : InOrder ps
+  pub alone : (qs : List Place) → Covers tree a b qs → length qs ≤ length ps → InOrder qs → qs ≡ ps
 
 abbrev pub FrontierFewest : Type 0
 FrontierFewest = (o : ℕ) (s : Shape) (i : ℕ) → i ≤ size s → Fewest (places o s) (o + i) (o + size s) (frontier o s i)
@@ -90,3 +100,7 @@ abbrev pub ArrayAdvance : Type 0
 ArrayAdvance =
     (n i : ℕ) (array message : List ℕ) → i < n → n ≤ maxBlocks → length array ≡ heldBytes → length message ≡ hashLength * carriedCount n (suc i)
     → Advance n i array message
+
+-- "Table 3, in the row of message 7, lists H6 as computed; the node is H4": of 8 blocks, the largest subtree that starts with block 7 has blocks 7 and 8.
+abbrev pub Table3 : Type 0
+Table3 = largest 0 (shape 8) 6 ≡ (6, node leaf leaf)

@@ -3,8 +3,7 @@ use crate::counting::count;
 use crate::limits::HASH_LEN;
 use crate::node::node;
 use crate::node::split;
-use crate::tree::behind;
-use crate::tree::root_with;
+use crate::tree::subtree_hash;
 use octets::copy;
 use sha256::digest;
 ghost use mathlib.Core.Path.{_≡_};
@@ -74,7 +73,7 @@ pub fn write_siblings(
         let k = split(m);
         let first = before + k;
         let from = first * len;
-        let right = root_with(&flash[from..], len, m - k, behind(at, first, n), block);
+        let right = subtree_hash(&flash[from..], len, first, m - k, at, block);
         c -= 1;
         let to = HASH_LEN * c;
         copy(out, to, &right);

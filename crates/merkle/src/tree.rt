@@ -3,30 +3,48 @@ use crate::node::node;
 use crate::node::split;
 use sha256::digest;
 ghost use mathlib.Core.Path.{_≡_};
-ghost use Prim.Native.Nat.{ℕ, _+_, _-_, _*_, _≤_, _<_};
-ghost use lib.ListN.{length};
+ghost use mathlib.Core.List.{List};
+ghost use Prim.Native.Nat.{ℕ, _+_, _-_, _*_, _^_, _≤_, _<_};
+ghost use lib.ListN.{length, take, drop};
 ghost use Rattle.sha256.specs.Sha256 as sha;
 ghost use Rattle.merkle.specs.Blocks.{cut, overlay};
-ghost use Rattle.merkle.specs.Hash.{plain, leafHash, rootOver};
+ghost use Rattle.merkle.specs.Shape.{shape};
+ghost use Rattle.merkle.specs.Hash.{plain, leafHash, hash, rootOver};
 
-// The hash of the first block. It is shorter than len where the flash ends within it.
-fn leaf(flash: &[u8], len: usize, at: usize, block: &[u8]) -> [u8; 32]
-    ensures { λ r. ⌜ r ≡ leafHash (plain sha.digest) (overlay (cut len (now (flash .entry))) at (now (block .entry)) 0) ⌝ }
+// The hash of a part's first block, which is shorter than len where the flash ends within it.
+fn leaf(part: &[u8], len: usize) -> [u8; 32]
+    ensures { λ r. ⌜ r ≡ leafHash (plain sha.digest) (take len (now (part .entry))) ⌝ }
 {
-    if at == 0 {
-        return digest(block);
+    if len < part.len() {
+        return digest(&part[..len]);
     }
-    if len < flash.len() {
-        return digest(&flash[..len]);
-    }
-    digest(flash)
+    digest(part)
 }
 
-// The index of block `at` among those of n blocks that begin with block k. A block before these has no index there: then the answer is n, which is past the last.
-pub fn behind(at: usize, k: usize, n: usize) -> usize
-    ensures { λ r. ⌜ ((j : ℕ) → k + j < n → (j ≡ r → k + j ≡ at) × (k + j ≡ at → j ≡ r)) ⌝ }
+// The hash of the subtree over n blocks of len bytes that starts with block `first` (blocks before it), with block `at` replaced if it is one of these. The part
+// is what the flash has from block `first` on, and the answer is the same for every flash that goes on so. Block numbers fit a usize.
+pub fn subtree_hash(
+    part: &[u8],
+    len: usize,
+    first: usize,
+    n: usize,
+    at: usize,
+    block: &[u8],
+) -> [u8; 32]
+    requires { ⌜ (0 < n) × (first + n < 2 ^ 64) × ((n - 1) * len ≤ length (now part)) ⌝ }
+    ensures { λ r. ⌜ ((flash : List ℕ) → drop (first * len) flash ≡ now (part .entry) → r ≡ hash (plain sha.digest) (overlay (cut len flash) at (now (block .entry))) first (shape n)) ⌝ }
 {
-    if at < k { n } else { at - k }
+    if n == 1 {
+        if first == at {
+            return digest(block);
+        }
+        return leaf(part, len);
+    }
+    let k = split(n);
+    let left = subtree_hash(part, len, first, k, at, block);
+    let from = k * len;
+    let right = subtree_hash(&part[from..], len, first + k, n - k, at, block);
+    node(&left, &right)
 }
 
 // The hash of the tree over n blocks of len bytes of the flash, with block `at` (blocks before it) replaced. Where `at` is not below n, none is replaced.
@@ -34,12 +52,5 @@ pub fn root_with(flash: &[u8], len: usize, n: usize, at: usize, block: &[u8]) ->
     requires { ⌜ (0 < n) × ((n - 1) * len ≤ length (now flash)) ⌝ }
     ensures { λ r. ⌜ r ≡ rootOver (plain sha.digest) (overlay (cut len (now (flash .entry))) at (now (block .entry))) n ⌝ }
 {
-    if n == 1 {
-        return leaf(flash, len, at, block);
-    }
-    let k = split(n);
-    let left = root_with(flash, len, k, at, block);
-    let from = k * len;
-    let right = root_with(&flash[from..], len, n - k, behind(at, k, n), block);
-    node(&left, &right)
+    subtree_hash(flash, len, 0, n, at, block)
 }

@@ -10,7 +10,7 @@ use Rattle.merkle.specs.Limits.{hashLength}
 use Rattle.merkle.specs.Blocks.{cut, overlay}
 use Rattle.merkle.proofs.ShapeLaws.{split-between}
 use Rattle.octets.proofs.CopyLaws.{part-from}
-use Rattle.merkle.proofs.TreeLaws.{hash-behind, left-fits, right-fits}
+use Rattle.merkle.proofs.TreeLaws.{left-fits, right-fits}
 use Rattle.merkle.proofs.SiblingLaws.{Writing, writing-none, writing-room, writing-one, writing-all, sent-is, carried-is}
 use Rattle.merkle.proofs.path.write_siblings.Statement.{statement}
 use Rattle.merkle.proofs.path.write_siblings.Tie as tie
@@ -19,8 +19,7 @@ use Rattle.merkle.proofs.path.write_siblings.Lts as lts
 use Rattle.merkle.proofs.counting.count.Reads as count-reads
 use Rattle.merkle.proofs.node.split.Reads as split-reads
 use Rattle.merkle.proofs.path.subtree.Reads as subtree-reads
-use Rattle.merkle.proofs.tree.behind.Reads as behind-reads
-use Rattle.merkle.proofs.tree.root_with.Reads as root-with-reads
+use Rattle.merkle.proofs.tree.subtree_hash.Reads as subtree-hash-reads
 use Rattle.octets.proofs.copy.Reads as copy-reads
 use Rattle.merkle.specs.Hash.{plain}
 
@@ -39,10 +38,8 @@ claims = (
   count-reads.Learnt,
   split-reads.Asked,
   split-reads.Learnt,
-  behind-reads.Asked,
-  behind-reads.Learnt,
-  root-with-reads.Asked,
-  root-with-reads.Learnt,
+  subtree-hash-reads.Asked,
+  subtree-hash-reads.Learnt,
   copy-reads.Asked,
   copy-reads.Learnt,
 )
@@ -92,66 +89,61 @@ add-first c = omega (arith, known c)
 mul-from : tie.Need-mul-from Inv-loop μ-loop
 mul-from c = omega (arith, known c .3)
 
-sub-root-with : tie.Need-sub-root-with Inv-loop μ-loop
-sub-root-with c = known c .3
+sub-subtree-hash : tie.Need-sub-subtree-hash Inv-loop μ-loop
+sub-subtree-hash c = known c .3
 
-part-root-with-start : tie.Need-part-root-with-start Inv-loop μ-loop
-part-root-with-start c = search (needs, known c .3)
+part-subtree-hash-start : tie.Need-part-subtree-hash-start Inv-loop μ-loop
+part-subtree-hash-start c = search (needs, known c .3)
 
-part-root-with-end : tie.Need-part-root-with-end Inv-loop μ-loop
-part-root-with-end c = search needs
+part-subtree-hash-end : tie.Need-part-subtree-hash-end Inv-loop μ-loop
+part-subtree-hash-end c = search needs
 
-sub-root-with-2 : tie.Need-sub-root-with-2 Inv-loop μ-loop
-sub-root-with-2 c = omega (arith, known (c .before) .1)
+sub-subtree-hash-2 : tie.Need-sub-subtree-hash-2 Inv-loop μ-loop
+sub-subtree-hash-2 c = omega (arith, known (c .before) .1)
 
-behind-requires : tie.Need-behind-requires Inv-loop μ-loop
-behind-requires c κs = tt
-
-root-with-requires : tie.Need-root-with-requires Inv-loop μ-loop
-root-with-requires c κs =
-    let x = c .before .before in
+subtree-hash-requires : tie.Need-subtree-hash-requires Inv-loop μ-loop
+subtree-hash-requires c κs =
+    let x = c .before in
     let k = known x in
     let s = x .before .before .before .before .before .before .before .before in
     let m = x .before .before .loop .m in
     let i = x .split .result in (
+      omega arith,
       omega arith,
       rw (part-from (s .args .flash .now) ((s .args .before + i) * s .args .len))
           (right-fits (s .args .len) (s .args .n) (s .args .before + i) (m - i) (s .args .flash .now) (omega arith) (omega arith) (s .pre .2)),
     )
 
 sub-c : tie.Need-sub-c Inv-loop μ-loop
-sub-c c = room (c .before .before .before) .0
+sub-c c = room (c .before .before) .0
 
 mul-to : tie.Need-mul-to Inv-loop μ-loop
-mul-to c = omega (arith, room (c .before .before .before))
+mul-to c = omega (arith, room (c .before .before))
 
 slice-aggregate-copy : tie.Need-slice-aggregate-copy Inv-loop μ-loop
 slice-aggregate-copy c = search needs
 
 copy-requires : tie.Need-copy-requires Inv-loop μ-loop
 copy-requires c κs =
-    let x = c .before .before .before .before .before in
-    let r : length (c .before .before .root-with .result) ≡ hashLength = search needs in
+    let x = c .before .before .before .before in
+    let r : length (c .before .before .subtree-hash .result) ≡ hashLength = search needs in
     omega (arith, room x)
 
 loop-less : tie.Need-loop-less Inv-loop μ-loop
-loop-less c = known (c .before .before .before .before .before .before .before .before) .1
+loop-less c = known (c .before .before .before .before .before .before .before) .1
 
 loop-again : tie.Need-loop-again Inv-loop μ-loop
 loop-again c =
     let right = c .before .before .before .before .before in
-    let behind = right .before in
-    let x = behind .before .before in
-    let k = known x in
+    let x = right .before .before in
     let s = x .before .before .before .before .before .before .before .before in
     let l = x .before .before .loop in
     let i = x .split .result in
     let a = s .args in
-    let r : length (right .root-with .result) ≡ hashLength = search needs in
+    let r : length (right .subtree-hash .result) ≡ hashLength = search needs in
     rw (c .before .before .copy .ensures)
-    (writing-one (plain digest) _ _ _ _ _ (l .out) (l .m) (l .c) i (l .inv) (omega arith) (x .split .ensures) (right .root-with .result) r
-    (hash-behind (plain digest) (a .len) (a .flash .now) (a .at) (a .block .now) (a .before + i) (a .n) (behind .behind .result) (l .m - i) (right .root-with .result)
-    (behind .behind .ensures) (omega arith) (omega arith) (rw (part-from (a .flash .now) ((a .before + i) * a .len)) at (right .root-with .ensures))))
+    (writing-one (plain digest) _ _ _ _ _ (l .out) (l .m) (l .c) i (l .inv) (omega arith) (x .split .ensures) (right .subtree-hash .result) r
+    (right .subtree-hash .ensures (a .flash .now) (sym (part-from (a .flash .now) ((a .before + i) * a .len)))))
 
 same-length : tie.Need-same-length Inv-loop μ-loop
 same-length c = c .before .loop .inv .same
@@ -177,12 +169,11 @@ write-siblings-spec =
     split-requires
     add-first
     mul-from
-    sub-root-with
-    part-root-with-start
-    part-root-with-end
-    sub-root-with-2
-    behind-requires
-    root-with-requires
+    sub-subtree-hash
+    part-subtree-hash-start
+    part-subtree-hash-end
+    sub-subtree-hash-2
+    subtree-hash-requires
     sub-c
     mul-to
     slice-aggregate-copy

@@ -1,0 +1,16 @@
+-- `merkle::tree::root_with` meets its contract.
+use mathlib.Core.Path.{ap}
+use native.Mathlib.Nat.{zero-mul}
+use lib.ListN.{drop}
+use borrow.Author.Needs.{needs}
+use Rattle.merkle.proofs.tree.root_with.Statement.{statement}
+use Rattle.merkle.proofs.tree.root_with.Tie as tie
+
+subtree-hash-requires : tie.Need-subtree-hash-requires
+subtree-hash-requires c κs = search needs
+
+returns : tie.Need-returns
+returns c = let a = c .before .before .before .args in c .subtree-hash .ensures (a .flash .now) (ap (λ x. drop x (a .flash .now)) (zero-mul (a .len)))
+
+pub root-with-spec : {M : Type 1} → statement M
+root-with-spec = tie.close (tie.spec subtree-hash-requires returns)
