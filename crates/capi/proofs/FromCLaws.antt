@@ -1,11 +1,9 @@
 -- From a fresh state and a list of calls to the whole of demand 3.
 use mathlib.Core.Path.{_≡_, refl, ap, _∙_}
 use mathlib.Core.Logic.{_↔_}
-use Prim.Native.Nat.{ℕ, _<_}
+use Prim.Native.Nat.{ℕ}
 use native.Mathlib.Omega.{arith}
-use Rattle.wire.specs.declared.refusal.Refusal.{Refusal}
-use Rattle.wire.specs.declared.refusal.Refusal.the-variants.{State, Kind, Short, Version, Size, Model, Serial, Area, Unsigned, Stage, Turn, Length, Unlike, Mismatch}
-use Rattle.wire.specs.Refusal.{refusalNumber}
+use Rattle.wire.proofs.RefusalLaws.{above-zero}
 use Rattle.sha256.specs.Sha256.{digest}
 use Rattle.lms.specs.Lms.{valid}
 use Rattle.machine.specs.declared.state.Answer.{Answer}
@@ -23,23 +21,6 @@ use Rattle.capi.specs.FromC.{FromC}
 use Rattle.capi.proofs.StateLaws.{decode-encode}
 use Rattle.capi.proofs.StatusLaws.{sensible-decoded, status-is, length-is}
 use Rattle.capi.proofs.RunLaws.{fresh-fits, runs}
-
--- no refusal has the number of an accepted message
-above-zero : (r : Refusal) → 0 < refusalNumber r
-above-zero State = omega arith
-above-zero Kind = omega arith
-above-zero Short = omega arith
-above-zero Version = omega arith
-above-zero Size = omega arith
-above-zero Model = omega arith
-above-zero Serial = omega arith
-above-zero Area = omega arith
-above-zero Unsigned = omega arith
-above-zero Stage = omega arith
-above-zero Turn = omega arith
-above-zero Length = omega arith
-above-zero Unlike = omega arith
-above-zero Mismatch = omega arith
 
 zero-accepted : (a : Answer) {n : ℕ} → n ≡ numberOf a → (n ≡ 0) ↔ (a ≡ Accepted)
 zero-accepted Accepted e = (λ z. refl, λ z. e)

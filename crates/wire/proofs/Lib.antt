@@ -4,3 +4,4 @@ pub mod ManifestLaws
 pub mod MessageLaws
 pub mod PutLaws
 pub mod SizeLaws
+pub mod RefusalLaws
