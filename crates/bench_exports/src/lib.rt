@@ -4,6 +4,7 @@ ghost use Prim.Native.Nat.{_≤_, _<_};
 ghost use lib.ListN.{length};
 ghost use Rattle.sha256.specs.Sha256.{digest};
 
+// The digest in one call.
 #[no_mangle]
 pub extern "C" fn bench_digest(message: &[u8], out: &mut [u8; 32])
     ensures { λ _. ⌜ now (out .exit) ≡ digest (now (message .entry)) ⌝ }
