@@ -1,5 +1,5 @@
 -- The sender's new program is accepted by every device that makes sense and has its model, an older serial, room and the key.
-use mathlib.Core.Path.{_≡_, refl, ap, sym, subst}
+use mathlib.Core.Path.{_≡_, refl, ap}
 use mathlib.Core.Bool.{Bool, true, false, not}
 use mathlib.Core.List.{List}
 use mathlib.Core.Option.{none}
@@ -9,7 +9,6 @@ use lib.ListN.{length}
 use borrow.Author.Tests.{lt-ltb, le-ltb, eq-eqb}
 use Rattle.merkle.specs.Limits.{hashLength}
 use Rattle.wire.specs.declared.kind.Kind.the-variants.{Program}
-use Rattle.wire.specs.Refusal.{firstThatApplies}
 use Rattle.wire.specs.Manifest.{written}
 use Rattle.wire.specs.Geometry.{programLength}
 use Rattle.wire.specs.Message.{leastLength, short, manifestIn}
@@ -17,9 +16,9 @@ use Rattle.wire.proofs.MessageLaws.{OfProgram, of-program}
 use Rattle.sender.specs.Job.{Job, manifestFor, programFor}
 use Rattle.machine.specs.declared.state.Device.{Device}
 use Rattle.machine.specs.Device.{serialOf}
-use Rattle.machine.specs.Refusals.{wrongVersion, senseless, noKind, otherModel, notNewer, tooSmall, unsigned, ofManifest, always, ofProgram, ofKind, refusals}
+use Rattle.machine.specs.Refusals.{wrongVersion, senseless, otherModel, notNewer, tooSmall, unsigned}
 use Rattle.machine.specs.Step.{refusalOf}
-use Rattle.machine.proofs.RefusalLaws.{start, _past_}
+use Rattle.machine.proofs.RefusalLaws.{program-unrefused}
 use Rattle.guarantee.specs.Demand3.{Sendable}
 use Rattle.guarantee.proofs.SentLaws.{root-long, manifest-is}
 
@@ -35,18 +34,19 @@ module _ (H : List ℕ → List ℕ) (hash-long : (x : List ℕ) → length (H x
   module _ (d : Device) (flash : List ℕ) (sense : senseless d ≡ false) (model : job .model ≡ d .model) (newer : serialOf d < job .serial)
       (room : programLength (manifestFor H job) ≤ length flash) (signed : valid (d .key) (written (manifestFor H job)) signature ≡ true) where
     pub program-accepted : refusalOf H valid d flash m ≡ none
-    unfolding refusalOf refusals always ofKind ofManifest ofProgram noKind short wrongVersion otherModel notNewer tooSmall unsigned manifestFor firstThatApplies
+    unfolding short wrongVersion otherModel notNewer tooSmall unsigned manifestFor
     program-accepted =
         let p = is-program in
         let e : manifestIn m ≡ manifestFor H job = manifest-is H hash-long job ok m (p .manifest) in
-        subst (λ k. firstThatApplies (refusals H valid k d flash m) ≡ none) (sym (p .is))
-        ((start (refusals H valid Program d flash m)
-        past sense
-        past refl
-        past le-ltb (length m) (leastLength Program) (omega (arith, p .size))
-        past rw e refl
-        past rw e (ok .size)
-        past rw e (ap not (eq-eqb (job .model) (d .model) model))
-        past rw e (ap not (lt-ltb (serialOf d) (job .serial) newer))
-        past rw e (le-ltb (length flash) _ room)
-        past rw (p .manifest, p .signed, signed) refl) .same)
+        program-unrefused H valid d flash m
+        (record {
+          is = p .is;
+          sense = sense;
+          head = le-ltb (length m) (leastLength Program) (omega (arith, p .size));
+          version = rw e refl;
+          size = rw e (ok .size);
+          model = rw e (ap not (eq-eqb (job .model) (d .model) model));
+          serial = rw e (ap not (lt-ltb (serialOf d) (job .serial) newer));
+          area = rw e (le-ltb (length flash) _ room);
+          signed = rw (p .manifest, p .signed, signed) refl;
+        })

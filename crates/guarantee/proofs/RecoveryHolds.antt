@@ -7,8 +7,11 @@ use mathlib.Core.Option.{none, some}
 use Prim.Native.Nat.{ℕ, zero, suc, _≤_, _<_}
 use native.Mathlib.Omega.{arith}
 use lib.ListN.{length}
+use Rattle.sha256.specs.Sha256.{digest}
+use Rattle.sha256.proofs.DigestLaws.{length-digest}
 use Rattle.merkle.specs.Limits.{hashLength}
 use Rattle.merkle.proofs.ShapeLaws.{lt-or-le}
+use Rattle.lms.specs.Lms as lms
 use Rattle.wire.specs.declared.manifest.Manifest.{Manifest}
 use Rattle.wire.specs.Geometry.{countOf}
 use Rattle.wire.specs.Message.{manifestIn}
@@ -31,6 +34,7 @@ use Rattle.guarantee.specs.Recovery.{Offered, Recovers, Recovery, Recove
 use Rattle.guarantee.proofs.InvariantLaws.{with-program, with-block, with-update}
 use Rattle.guarantee.proofs.RunLaws.{calls}
 use Rattle.guarantee.proofs.SecondHalf.{second-half}
+use Rattle.guarantee.proofs.Demand3Holds.{demand3}
 use Rattle.guarantee.proofs.ProgramLaws.{is-program, program-accepted}
 
 -- What the accepted messages say of a device's manifest and next number.
@@ -146,11 +150,16 @@ module _ (H : List ℕ → List ℕ) (hash-long : (x : List ℕ) → length (H x
       loads : (list : Messages) → Honest H valid any d flash job ms (programFor H job signature) (count (job .image)) list → Loaded H valid any d flash job ms list
       loads list h = second list .loads job ms (programFor H job signature) (count (job .image)) begun h .done refl
 
-pub recovery : (H : List ℕ → List ℕ) → ((x : List ℕ) → length (H x) ≡ hashLength) → (valid : (key message signature : List ℕ) → Bool)
+-- for any step that meets demand 3, with any hash function of 32 bytes and any verdict
+pub recovery-for : (H : List ℕ → List ℕ) → ((x : List ℕ) → length (H x) ≡ hashLength) → (valid : (key message signature : List ℕ) → Bool)
     (any : Device → List ℕ → List ℕ → Outcome) → Demand3 H valid any → Recovery H valid any
-recovery H hash-long valid any meets d fresh flash ms job signature =
+recovery-for H hash-long valid any meets d fresh flash ms job signature =
     let claim : (ms : Messages) → Claim H valid any d flash ms = meets d fresh flash in
     recovers H hash-long valid any d flash ms job signature (claim ms .calls) (claim ms .first .one) (λ list. claim list .second) (makes-sense H valid any meets d fresh flash ms)
+
+-- for the device, with SHA-256 and the verdict of RFC 8554
+pub recovery : Recovery digest lms.valid (step digest lms.valid)
+recovery = recovery-for digest length-digest lms.valid (step digest lms.valid) demand3
 
 pub recovery-from : (H : List ℕ → List ℕ) → ((x : List ℕ) → length (H x) ≡ hashLength) → (valid : (key message signature : List ℕ) → Bool) → RecoveryFrom H valid
 unfolding after

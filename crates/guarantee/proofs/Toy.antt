@@ -140,7 +140,7 @@ right-runs = (refl, refl, refl, refl)
 unfoldable pub at : Stage → Device → Device
 at t d = record { model = d .model; key = d .key; stage = t; manifest = d .manifest; hashes = d .hashes }
 
--- None of them meets demand 3; the right device does, with the same hash function and verdict.
+-- The right device meets demand 3 with this hash function and these verdicts.
 pub is-fresh : Fresh fresh
 unfolding computing
 is-fresh = record { idle = refl; array = refl }
@@ -153,6 +153,5 @@ pub meets : Demand3 toy any right
 unfolding right
 meets = demand3-for toy toy-long any
 
--- and with the verdict at which the trusting device is refuted
 pub meets-nobody : Demand3 toy nobody (step toy nobody)
 meets-nobody = demand3-for toy toy-long nobody

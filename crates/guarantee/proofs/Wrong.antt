@@ -4,7 +4,7 @@ use lib.ListN.{replicate}
 use Rattle.guarantee.specs.Demand3.{Demand3}
 use Rattle.guarantee.proofs.Toy.{toy, any, nobody, fresh, flash, taking, is-fresh}
 use Rattle.guarantee.proofs.WrongCalls.{closed, closed-caught, hasty, hasty-caught, scribbling, scribbling-caught, turning, turning-caught, rekeying, rekeying-caught, leaking, leaking-caught, spilling, spilling-caught, reordering, reordering-caught}
-use Rattle.guarantee.proofs.WrongFirst.{careless, careless-caught, blind, blind-caught, keeping, keeping-caught, forgetting, forgetting-caught, idling, idling-caught, early, early-caught, endless, endless-caught, unwritten, unwritten-caught, trusting-caught, smearing, smearing-caught, shrinking, shrinking-caught}
+use Rattle.guarantee.proofs.WrongFirst.{careless, careless-caught, blind, blind-caught, keeping, keeping-caught, forgetting, forgetting-caught, idling, idling-caught, early, early-caught, endless, endless-caught, unwritten, unwritten-caught, taking-caught, smearing, smearing-caught, shrinking, shrinking-caught}
 use Rattle.guarantee.proofs.WrongSecond.{deaf, deaf-caught, still, still-caught, hoarding, hoarding-caught, skipping, skipping-caught, mislaying, mislaying-caught, garbling, garbling-caught}
 
 pub none-meets : (Demand3 toy any careless → ⊥)
@@ -41,7 +41,7 @@ none-meets = (
   λ c. early-caught (c fresh is-fresh flash _ .first),
   λ c. endless-caught (c fresh is-fresh flash _ .first),
   λ c. unwritten-caught (c fresh is-fresh flash _ .first),
-  λ c. trusting-caught (c fresh is-fresh flash _ .first),
+  λ c. taking-caught (c fresh is-fresh flash _ .first),
   λ c. deaf-caught (c fresh is-fresh flash _ .second),
   λ c. still-caught (c fresh is-fresh flash _ .second),
   λ c. hoarding-caught (c fresh is-fresh flash _ .second),

@@ -136,9 +136,9 @@ unfolding computing unwritten
 unwritten-caught = unrooted unwritten (loaded ▷ updateFor toy newer 2 []) (record { manifest = manifestFor toy job; last = refl; all = refl }) refl
 
 -- It accepts everything.
-pub trusting-caught : FirstHalf toy nobody taking fresh flash loaded → ⊥
+pub taking-caught : FirstHalf toy nobody taking fresh flash loaded → ⊥
 unfolding computing
-trusting-caught h = false≢true (h .bound (record { manifest = manifestFor toy job; last = refl; all = refl }) .signed)
+taking-caught h = false≢true (h .bound (record { manifest = manifestFor toy job; last = refl; all = refl }) .signed)
 
 -- It overwrites the byte behind the program when it takes an update: alone.
 pub smearing : Step

@@ -24,7 +24,7 @@ use Rattle.machine.specs.declared.state.Device.{Device}
 use Rattle.machine.specs.declared.state.Answer.the-variants.{Accepted, Refused}
 use Rattle.machine.specs.Device.{nextOf}
 use Rattle.machine.specs.Flash.{updated}
-use Rattle.machine.specs.Refusals.{wrongVersion, senseless, notNewer, noKind, tooSmall, notLoading, notComplete, notNext, wrongLength, mismatch, lacksRoot, unsigned, ofManifest, always, ofProgram, ofBlock, ofUpdate, ofKind, refusals}
+use Rattle.machine.specs.Refusals.{wrongVersion, senseless, otherModel, notNewer, noKind, tooSmall, notLoading, notComplete, notNext, wrongLength, mismatch, lacksRoot, unsigned, ofManifest, always, ofProgram, ofBlock, ofUpdate, ofKind, refusals}
 use Rattle.machine.specs.Step.{answerOf, refusalOf}
 
 -- The test of a refusal; one that the list lacks never applies.
@@ -140,6 +140,18 @@ module _ (H : List ℕ → List ℕ) (valid : (key message signature : List ℕ)
     took-block : kind m ≡ Block → BlockPassed → Passed
     took-update : kind m ≡ Update → UpdatePassed → Passed
 
+  -- a new program that the device takes: no test applies
+  pub record ProgramDue : Type 0 where
+    pub is : kind m ≡ Program
+    pub sense : senseless d ≡ false
+    pub head : short Program m ≡ false
+    pub version : wrongVersion (manifestIn m) ≡ false
+    pub size : wrongSize (manifestIn m .«block_len») (manifestIn m .«image_len») ≡ false
+    pub model : otherModel d (manifestIn m) ≡ false
+    pub serial : notNewer d (manifestIn m) ≡ false
+    pub area : tooSmall (manifestIn m) flash ≡ false
+    pub signed : unsigned valid d (manifestBytes m) (programSignature m) ≡ false
+
   -- the block message that the device waits for: no test applies
   pub record NextDue : Type 0 where
     pub is : kind m ≡ Block
@@ -206,6 +218,21 @@ module _ (H : List ℕ → List ℕ) (valid : (key message signature : List ℕ)
       go Block e = took-block e (block-passed e a)
       go Update e = took-update e (update-passed e a)
       go Unknown e = absurd (unknown-refused e a)
+
+  pub program-unrefused : ProgramDue → refusalOf H valid d flash m ≡ none
+  unfolding refusalOf refusals always ofKind ofManifest ofProgram noKind firstThatApplies
+  program-unrefused w =
+      subst (λ k. firstThatApplies (refusals H valid k d flash m) ≡ none) (sym (w .is))
+      ((start (refusals H valid Program d flash m)
+      past w .sense
+      past refl
+      past w .head
+      past w .version
+      past w .size
+      past w .model
+      past w .serial
+      past w .area
+      past w .signed) .same)
 
   pub due-unrefused : NextDue → refusalOf H valid d flash m ≡ none
   unfolding refusalOf refusals always ofKind ofBlock noKind firstThatApplies
