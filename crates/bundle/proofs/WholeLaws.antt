@@ -20,7 +20,7 @@ use Rattle.wire.specs.declared.manifest.Manifest.{Manifest}
 use Rattle.wire.specs.declared.kind.Kind.the-variants.{Program, Block}
 use Rattle.wire.specs.Geometry.{countOf}
 use Rattle.wire.specs.Message.{dueLength}
-use Rattle.wire.proofs.MessageLaws.{OfProgram}
+use Rattle.wire.specs.Claims.{OfProgram}
 use Rattle.sender.specs.Job.{Job, count, manifestFor, programFor, blockFor}
 use Rattle.machine.specs.declared.state.Device.{Device}
 use Rattle.machine.specs.declared.state.Answer.the-variants.{Accepted}
@@ -151,7 +151,7 @@ module _ (key flash : List ℕ) (job : Job) (filler signature : List ℕ) (h : L
   none-applies : refusalOf digest valid d flash program ≡ none
   none-applies = program-accepted digest length-digest valid job ok signature d flash (sense-idle d (fresh .idle)) (h .model) newer (h .room) (h .signed)
 
-  is-sent : OfProgram (manifestFor digest job) (root-long digest length-digest job ok) signature program
+  is-sent : OfProgram (manifestFor digest job) signature program
   is-sent = is-program digest length-digest valid job ok signature
 
   here : Here digest length-digest valid job ok flash 0 begun

@@ -15,7 +15,8 @@ abbrev pub ascii : String → List ℕ
 ascii String.[] = []
 ascii (String._∷_ c s) = code c ∷ ascii s
 
--- n in base ten, without leading zeros; k, above n, only bounds the recursion
+-- n in base ten, without leading zeros; k, above n, only bounds the recursion. (The choice is an `elim`, which works out the taken branch alone; a `cond` would go
+-- on to the bound.)
 unfoldable pub decimalWithin : ℕ → ℕ → List ℕ
 decimalWithin zero n = []
 decimalWithin (suc k) n = elim (ltb n 10) [ true ↦ (48 + n) ∷ [] | false ↦ decimalWithin k (n / 10) ++ ((48 + n % 10) ∷ []) ]

@@ -1,5 +1,5 @@
-// The interface for C (include/lertxuno.h). A slice crosses as a pointer and a length, a reference to an array or a number as a pointer. Every function
-// returns 0 or the number of a refusal; what it writes through a pointer is as before where it refuses.
+// The interface for C (include/lertxuno.h). A slice crosses as a pointer and a length, a reference to an array or a number as a pointer. Those that
+// return a number give 0 or that of a refusal; what they write through a pointer is as before where they refuse.
 mod state;
 mod status;
 

@@ -12,7 +12,8 @@ use Rattle.wire.specs.declared.kind.Kind.the-variants.{Program}
 use Rattle.wire.specs.Manifest.{written}
 use Rattle.wire.specs.Geometry.{programLength}
 use Rattle.wire.specs.Message.{leastLength, short, manifestIn}
-use Rattle.wire.proofs.MessageLaws.{OfProgram, of-program}
+use Rattle.wire.specs.Claims.{OfProgram}
+use Rattle.wire.proofs.MessageLaws.{of-program}
 use Rattle.sender.specs.Job.{Job, manifestFor, programFor}
 use Rattle.machine.specs.declared.state.Device.{Device}
 use Rattle.machine.specs.Device.{serialOf}
@@ -27,7 +28,7 @@ module _ (H : List ℕ → List ℕ) (hash-long : (x : List ℕ) → length (H x
   abbrev m : List ℕ
   m = programFor H job signature
 
-  pub is-program : OfProgram (manifestFor H job) (root-long H hash-long job ok) signature m
+  pub is-program : OfProgram (manifestFor H job) signature m
   unfolding programFor
   is-program = of-program (manifestFor H job) (root-long H hash-long job ok) signature
 

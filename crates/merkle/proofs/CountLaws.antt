@@ -10,7 +10,7 @@ use Rattle.merkle.specs.Limits.{maxBlocks, maxHeld}
 use Rattle.merkle.specs.Shape.{Shape, leaf, node, size, height, depth, split, shape}
 use Rattle.merkle.specs.Frontier.{rightSiblings, siblings, frontier, carriedCount, heldCount}
 use Rattle.merkle.specs.Hash.{plain}
-use Rattle.merkle.specs.Claims.{Next}
+use Rattle.merkle.specs.Claims.{Next, HeldAtMost}
 use Rattle.merkle.proofs.ShapeLaws.{lt-or-le, shape-leaf, size-shape, depth-least, height-node, depth-known, halves, size-left, size-right}
 use Rattle.merkle.proofs.FrontierLaws.{on-halves, largest-zero, largest-left, largest-right, frontier-zero, frontier-leaf, frontier-left, frontier-right, frontier-all, next}
 use Rattle.merkle.proofs.HashLaws.{Same, length-hashes, siblings-same, frontier-same}
@@ -119,6 +119,9 @@ held-most n i pos h = omega (arith, held-depth n i pos, depth-least n maxHeld (o
   where
     limit : maxBlocks ≤ 2 ^ maxHeld
     limit = lit≤ tt
+
+pub held-at-most : HeldAtMost
+held-at-most n i pos = (held-depth n i pos, held-most n i pos)
 
 -- Counts in use: one is held, and those that come have room in the array.
 pub record Room (n i : ℕ) : Type 0 where

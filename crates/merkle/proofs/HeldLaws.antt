@@ -11,7 +11,8 @@ use Rattle.merkle.specs.Limits.{hashLength, maxBlocks, heldBytes}
 use Rattle.merkle.specs.Hash.{Hashing, climb}
 use Rattle.merkle.specs.Frontier.{carriedCount, heldCount}
 use Rattle.merkle.specs.Held.{hashesIn, heldStart, heldIn, nextHeld, begun, advanced, fits}
-use Rattle.merkle.specs.Claims.{Advance, ArrayAdvance}
+use Rattle.merkle.specs.Claims.{Advance, ArrayAdvance, RootAlone}
+use Rattle.merkle.proofs.FrontierLaws.{frontier-zero}
 use Rattle.merkle.proofs.CountLaws.{held-zero, held-all, held-next, room, Counted, counted-most}
 
 pub length-hashesIn : (c : ℕ) (bytes : List ℕ) → length (hashesIn c bytes) ≡ c
@@ -55,6 +56,9 @@ unfolding heldIn heldStart hashesIn begun
 begun-held n root e =
     rw (held-zero n, drop-at (replicate (heldBytes - hashLength) 0) root (heldBytes - hashLength) (length-replicate {A = ℕ} (heldBytes - hashLength) 0))
     (ap {B = List (List ℕ)} (λ x. x ∷ []) (take-all hashLength root (omega arith)))
+
+pub root-alone : RootAlone
+root-alone = (frontier-zero, begun-held)
 
 pub length-begun : (root : List ℕ) → length root ≡ hashLength → length (begun root) ≡ heldBytes
 unfolding begun

@@ -2,14 +2,14 @@
 use mathlib.Core.Path.{_≡_}
 use mathlib.Core.Logic.{_↔_}
 use mathlib.Core.List.{List, [], _∷_, _++_, List·Memᴰ}
-use Prim.Native.Nat.{ℕ, suc, _+_, _-_, _*_, _^_, _≤_, _<_}
+use Prim.Native.Nat.{ℕ, suc, _+_, _-_, _*_, _^_, max, _≤_, _<_}
 use lib.ListN.{length}
-use Rattle.merkle.specs.Limits.{maxBlocks, hashLength, heldBytes}
+use Rattle.merkle.specs.Limits.{maxBlocks, hashLength, maxHeld, heldBytes}
 use Rattle.merkle.specs.Blocks.{blockCount}
 use Rattle.merkle.specs.Shape.{Shape, leaf, node, size, height, depth, split, shape, Place, places}
 use Rattle.merkle.specs.Hash.{Hashing, hash, hashes, climb}
-use Rattle.merkle.specs.Frontier.{largest, rightSiblings, siblings, carriedCount, frontier}
-use Rattle.merkle.specs.Held.{hashesIn, heldIn, nextHeld, advanced}
+use Rattle.merkle.specs.Frontier.{largest, rightSiblings, siblings, carriedCount, frontier, heldCount}
+use Rattle.merkle.specs.Held.{hashesIn, heldIn, nextHeld, begun, advanced}
 
 -- "Its count n is T/L rounded up": n blocks hold the T bytes, and n - 1 do not.
 pub record Rounded (L T n : ℕ) : Type 0 where
@@ -104,3 +104,11 @@ ArrayAdvance =
 -- "Table 3, in the row of message 7, lists H6 as computed; the node is H4": of 8 blocks, the largest subtree that starts with block 7 has blocks 7 and 8.
 abbrev pub Table3 : Type 0
 Table3 = largest 0 (shape 8) 6 ≡ (6, node leaf leaf)
+
+-- "before the first block that is the root alone": the frontier is the whole tree, and the array holds the root
+abbrev pub RootAlone : Type 0
+RootAlone = ((o : ℕ) (s : Shape) → frontier o s 0 ≡ (o, s) ∷ []) × ((n : ℕ) (root : List ℕ) → length root ≡ hashLength → heldIn n 0 (begun root) ≡ root ∷ [])
+
+-- "Up to 12 labels are held": never more than the tree's depth, or one at depth 0
+abbrev pub HeldAtMost : Type 0
+HeldAtMost = (n i : ℕ) → 0 < n → (heldCount n i ≤ max 1 (depth n)) × (n ≤ maxBlocks → heldCount n i ≤ maxHeld)

@@ -120,7 +120,7 @@ pub fn save_manifest(manifest: &[u8]) -> bool {
     commit(&name, b"slip.bin")
 }
 
-// Both or neither: all that may fail is done before either gets its name.
+// Both or neither: all that may fail but the renaming is done before either gets its name.
 pub fn save_both(manifest: &[u8], bundle: &[u8]) -> bool {
     let mut manifest_name = *b"slip.bin.XXXXXX";
     let mut bundle_name = *b"bundle.bin.XXXXXX";

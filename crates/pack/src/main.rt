@@ -1,5 +1,5 @@
 // The showroom's tool. In a folder with image.bin, `pack BLOCK MODEL SERIAL` writes slip.bin, the manifest for signing, and, where signature.bin is there
-// too, bundle.bin: both or neither. What was written is told on standard output, what went wrong on standard error.
+// too, bundle.bin: both or neither, unless the last renaming alone fails. What was written is told on standard output, what went wrong on standard error.
 mod decimal;
 mod files;
 mod make;

@@ -11,7 +11,7 @@ use Rattle.octets.proofs.NumberLaws.{length-bytes, number-back, bytes-part, par
 use Rattle.merkle.specs.Limits.{hashLength}
 use Rattle.wire.specs.declared.manifest.Manifest.{Manifest}
 use Rattle.wire.specs.Manifest.{manifestLength, written, read, Fits}
-use Rattle.wire.specs.Claims.{ManifestBack, BytesBack}
+use Rattle.wire.specs.Claims.{ManifestLong, ManifestBack, BytesBack}
 
 -- the lengths of the fields
 abbrev lengths : List ℕ
@@ -79,3 +79,6 @@ read-fits b l h =
       «image_len» = part-below b h 12 4 (omega arith);
       root = length-part b 16 hashLength (omega arith);
     }
+
+pub manifest-long : ManifestLong
+manifest-long = length-written

@@ -19,6 +19,7 @@ use Rattle.wire.specs.declared.manifest.Manifest.{Manifest}
 use Rattle.wire.specs.Manifest.{manifestLength, written, read, Fits}
 use Rattle.wire.specs.Geometry.{blockLength}
 use Rattle.wire.specs.Message.{kind, kindLength, numberLength, leastLength, programMessage, blockMessage, updateMessage, manifestBytes, manifestIn, programSignature, numberIn, blockIn, hashesAfter, updateNumber, updateBlock, updateSignature, dueLength}
+use Rattle.wire.specs.Claims.{OfProgram, ProgramBack, OfBlock, BlockBack, OfUpdate, UpdateBack}
 use Rattle.wire.proofs.ManifestLaws.{length-written, read-fits}
 
 pub kind-none : (m : List ℕ) → length m ≡ 0 → Unknown ≡ kind m
@@ -77,13 +78,7 @@ module _ (s : Manifest) (root : length (s .root) ≡ hashLength) (signature : Li
   unfolding programMessage
   program-size = joined-length programLengths programParts program-long ∙ omega arith
 
-  pub record OfProgram (m : List ℕ) : Type 0 where
-    pub is : kind m ≡ Program
-    pub manifest : manifestBytes m ≡ written s
-    pub signed : programSignature m ≡ signature
-    pub size : length m ≡ leastLength Program + length signature
-
-  pub of-program : OfProgram (programMessage s signature)
+  pub of-program : OfProgram s signature (programMessage s signature)
   unfolding kind joined programMessage manifestBytes programSignature
   of-program =
       let at = stands programLengths programParts program-long in
@@ -108,15 +103,7 @@ module _ (s : Manifest) (root : length (s .root) ≡ hashLength) (signature : Li
     unfolding updateMessage
     update-size = joined-length updateLengths updateParts update-long ∙ omega arith
 
-    pub record OfUpdate (m : List ℕ) : Type 0 where
-      pub is : kind m ≡ Update
-      pub manifest : manifestBytes m ≡ written s
-      pub number : updateNumber m ≡ i
-      pub blocks : updateBlock (length block) m ≡ block
-      pub signed : updateSignature (length block) m ≡ signature
-      pub size : length m ≡ leastLength Update + length block + length signature
-
-    pub of-update : i < 256 ^ numberLength → OfUpdate (updateMessage s i block signature)
+    pub of-update : i < 256 ^ numberLength → OfUpdate s i block signature (updateMessage s i block signature)
     unfolding kind joined updateMessage manifestBytes updateNumber updateBlock updateSignature
     of-update few =
         let at = stands updateLengths updateParts update-long in
@@ -144,14 +131,7 @@ module _ (i : ℕ) (block hashes : List ℕ) where
   unfolding blockMessage
   block-size = joined-length blockLengths blockParts block-long ∙ omega arith
 
-  pub record OfBlock (m : List ℕ) : Type 0 where
-    pub is : kind m ≡ Block
-    pub number : numberIn m ≡ i
-    pub blocks : blockIn (length block) m ≡ block
-    pub after : hashesAfter (length block) m ≡ hashes
-    pub size : length m ≡ leastLength Block + length block + length hashes
-
-  pub of-block : i < 256 ^ numberLength → OfBlock (blockMessage i block hashes)
+  pub of-block : i < 256 ^ numberLength → OfBlock i block hashes (blockMessage i block hashes)
   unfolding kind joined blockMessage numberIn blockIn hashesAfter
   of-block few =
       let at = stands blockLengths blockParts block-long in
@@ -197,3 +177,13 @@ update-parts s i block signature = simp (append-assoc, append-nil)
 pub block-whole : (i : ℕ) (block hashes : List ℕ) → blockMessage i block [] ++ hashes ≡ blockMessage i block hashes
 unfolding joined blockMessage
 block-whole i block hashes = simp (append-assoc, append-nil)
+
+-- what a reader is told of the three
+pub program-back : ProgramBack
+program-back = of-program
+
+pub block-back : BlockBack
+block-back = of-block
+
+pub update-back : UpdateBack
+update-back s root signature i block = of-update s root signature i block

@@ -1,11 +1,14 @@
 -- What is shown of the definitions (in proofs/).
 use mathlib.Core.Path.{_≡_}
 use mathlib.Core.List.{List}
-use Prim.Native.Nat.{ℕ}
+use Prim.Native.Nat.{ℕ, _+_, _^_, _<_}
 use lib.ListN.{length}
 use Rattle.octets.specs.Octets.{Bytes}
+use Rattle.merkle.specs.Limits.{hashLength}
+use Rattle.wire.specs.declared.kind.Kind.the-variants.{Program, Block, Update}
 use Rattle.wire.specs.declared.manifest.Manifest.{Manifest}
 use Rattle.wire.specs.Manifest.{manifestLength, written, read, Fits}
+use Rattle.wire.specs.Message.{kind, numberLength, programMessage, blockMessage, updateMessage, leastLength, manifestBytes, programSignature, numberIn, blockIn, hashesAfter, updateNumber, updateBlock, updateSignature}
 
 -- A manifest's bytes give back the manifest, and the manifest read from bytes gives back the bytes.
 abbrev pub ManifestBack : Type 0
@@ -13,3 +16,42 @@ ManifestBack = (s : Manifest) → Fits s → read (written s) ≡ s
 
 abbrev pub BytesBack : Type 0
 BytesBack = (b : List ℕ) → length b ≡ manifestLength → Bytes b → written (read b) ≡ b
+
+-- "Slip, 48 bytes"
+abbrev pub ManifestLong : Type 0
+ManifestLong = (s : Manifest) → length (s .root) ≡ hashLength → length (written s) ≡ manifestLength
+
+-- "Kind 1, new program: kind, slip, signature": the parts of a written message, read back
+pub record OfProgram (s : Manifest) (signature m : List ℕ) : Type 0 where
+  pub is : kind m ≡ Program
+  pub manifest : manifestBytes m ≡ written s
+  pub signed : programSignature m ≡ signature
+  pub size : length m ≡ leastLength Program + length signature
+
+abbrev pub ProgramBack : Type 0
+ProgramBack = (s : Manifest) → length (s .root) ≡ hashLength → (signature : List ℕ) → OfProgram s signature (programMessage s signature)
+
+-- "Kind 2, block: kind, number i .., block, c(i) labels"
+pub record OfBlock (i : ℕ) (block hashes m : List ℕ) : Type 0 where
+  pub is : kind m ≡ Block
+  pub number : numberIn m ≡ i
+  pub blocks : blockIn (length block) m ≡ block
+  pub after : hashesAfter (length block) m ≡ hashes
+  pub size : length m ≡ leastLength Block + length block + length hashes
+
+abbrev pub BlockBack : Type 0
+BlockBack = (i : ℕ) (block hashes : List ℕ) → i < 256 ^ numberLength → OfBlock i block hashes (blockMessage i block hashes)
+
+-- "Kind 3, update: kind, new slip, number .., new block, signature"
+pub record OfUpdate (s : Manifest) (i : ℕ) (block signature m : List ℕ) : Type 0 where
+  pub is : kind m ≡ Update
+  pub manifest : manifestBytes m ≡ written s
+  pub number : updateNumber m ≡ i
+  pub blocks : updateBlock (length block) m ≡ block
+  pub signed : updateSignature (length block) m ≡ signature
+  pub size : length m ≡ leastLength Update + length block + length signature
+
+abbrev pub UpdateBack : Type 0
+UpdateBack =
+    (s : Manifest) → length (s .root) ≡ hashLength → (signature : List ℕ) (i : ℕ) (block : List ℕ) → i < 256 ^ numberLength
+    → OfUpdate s i block signature (updateMessage s i block signature)
