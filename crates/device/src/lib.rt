@@ -19,7 +19,7 @@ ghost use Rattle.machine.specs.Device.{freshWith};
 ghost use Rattle.machine.specs.Step.{step};
 
 // A fresh device: idle, with this model and key.
-pub fn fresh(model: u32, key: [u8; 56]) -> Device
+pub fn fresh(model: u32, key: [u8; lms::KEY_LEN]) -> Device
     ensures { λ r. ⌜ r ≡ freshWith model key ⌝ }
 {
     let manifest = Manifest {

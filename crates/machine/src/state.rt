@@ -13,7 +13,7 @@ pub enum Stage {
 // 01: the drive's state.
 pub struct Device {
     pub model: u32,
-    pub key: [u8; 56],
+    pub key: [u8; lms::KEY_LEN],
     pub stage: Stage,
     // What stage is about; means nothing while that is idle.
     pub manifest: Manifest,
