@@ -11,10 +11,17 @@ static messages made;
 static device_memory device;
 static uint8_t out[4096];
 static size_t written;
+static uint32_t status[LERTXUNO_STATUS_NUMBERS];
 
 static void nothing(void) {}
 
+static void make_fresh(void) { lertxuno_fresh(MODEL, made.key.key, device.state); }
+
 static void take_program(void) { take(&device, &made.program); }
+
+static void read_status(void) { accepted(lertxuno_status(device.state, sizeof device.state, status)); }
+
+static void read_length(void) { accepted(lertxuno_block_message_length(device.state, sizeof device.state, &written)); }
 
 static void take_all_blocks(void) { take_blocks(&device, &made); }
 
@@ -39,6 +46,13 @@ static void send_update(void) {
                              sizeof out, &written));
 }
 
+static void verify(void) {
+    accepted(lertxuno_verify(made.key.key, sizeof made.key.key, made.program.bytes + 1, LERTXUNO_MANIFEST_LENGTH, made.key.signatures[0],
+                             KEY_SIGNATURE_LENGTH));
+}
+
+static void digest(void) { lertxuno_digest(made.image, made.length, out); }
+
 static size_t used_by(void (*call)(void)) {
     static ucontext_t here, there;
     memset(stack, PAINT, sizeof stack);
@@ -58,14 +72,18 @@ static void measure(const char *name, void (*call)(void)) { printf("%-34s %8zu\n
 
 int main(void) {
     make_messages((size_t)MOST_BLOCKS * BLOCK_LENGTH, BLOCK_LENGTH, &made);
-    lertxuno_fresh(MODEL, made.key.key, device.state);
     printf("%-34s %8s\n", "stack", "bytes");
+    measure("device, fresh", make_fresh);
     measure("device, program", take_program);
+    measure("device, status", read_status);
+    measure("device, block_message_length", read_length);
     measure("device, all blocks", take_all_blocks);
     measure("device, update", take_update);
     measure("sender, manifest", send_manifest);
     measure("sender, program", send_program);
     measure("sender, all blocks", send_all_blocks);
     measure("sender, update", send_update);
+    measure("verify", verify);
+    measure("digest", digest);
     return 0;
 }

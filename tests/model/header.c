@@ -1,0 +1,142 @@
+/* What the header types by hand, against what the library does: words, limits, lengths, and the places of a state's fields. */
+#include "../../examples/sample.h"
+#include "lertxuno.h"
+#include <stdio.h>
+#include <string.h>
+
+/* Of the program that the sample's signature is over, and of the sample's key. */
+enum { IMAGE_LENGTH = 300, BLOCK_LENGTH = 64, BLOCKS = 5, MODEL = 7, SERIAL = 1, CHAINS = 34, HEIGHT = 5 };
+
+/* The longest, and a byte more. */
+static uint8_t image[LERTXUNO_MAX_BLOCKS * LERTXUNO_MAX_BLOCK_LENGTH + 1];
+static const size_t longest = sizeof image - 1;
+static uint8_t flash[LERTXUNO_FLASH_LENGTH(IMAGE_LENGTH, BLOCK_LENGTH)];
+static uint8_t signature[LERTXUNO_MAX_SIGNATURE_LENGTH];
+/* Ample, so that a length that the header has too short is told and not overrun. */
+static uint8_t state[4096], out[8192];
+static uint32_t status[16];
+static size_t written;
+static int wrong;
+
+static void expect_true(const char *what, int holds) {
+    if (!holds) {
+        printf("wrong: %s\n", what);
+        wrong = 1;
+    }
+}
+
+static void expect(const char *what, size_t got, size_t due) {
+    if (got != due) {
+        printf("wrong: %s: %lu, not %lu\n", what, (unsigned long)got, (unsigned long)due);
+        wrong = 1;
+    }
+}
+
+/* Document 01's table, and what stands for a number behind it. */
+static void words(void) {
+    static const char *const due[] = {"accepted", "state", "kind", "short", "version", "size", "model", "serial",
+                                      "area", "unsigned", "stage", "turn", "length", "unlike", "mismatch", "unknown"};
+    for (uint32_t answer = 0; answer < sizeof due / sizeof *due; answer++) {
+        if (strcmp(lertxuno_refusal_word(answer), due[answer]) != 0) {
+            printf("wrong: word of answer %u: %s\n", (unsigned)answer, lertxuno_refusal_word(answer));
+            wrong = 1;
+        }
+    }
+}
+
+static uint32_t manifest(size_t image_length, uint32_t block_length) {
+    return lertxuno_manifest(image, image_length, block_length, MODEL, SERIAL, out, sizeof out, &written);
+}
+
+static void limits(void) {
+    size_t most = (size_t)LERTXUNO_MAX_BLOCKS * BLOCK_LENGTH;
+    expect("most blocks", manifest(most, BLOCK_LENGTH), LERTXUNO_ACCEPTED);
+    expect("manifest's length", written, LERTXUNO_MANIFEST_LENGTH);
+    expect("most blocks and a byte", manifest(most + 1, BLOCK_LENGTH), LERTXUNO_SIZE);
+    expect("longest image", manifest(longest, LERTXUNO_MAX_BLOCK_LENGTH), LERTXUNO_ACCEPTED);
+    expect("longest image and a byte", manifest(longest + 1, LERTXUNO_MAX_BLOCK_LENGTH), LERTXUNO_SIZE);
+    expect("twice the longest block", manifest(IMAGE_LENGTH, 2 * LERTXUNO_MAX_BLOCK_LENGTH), LERTXUNO_SIZE);
+}
+
+/* The message that the sender has just written. */
+static void expect_message(const char *what, uint32_t answer, size_t kind, size_t length) {
+    expect(what, answer, LERTXUNO_ACCEPTED);
+    expect(what, out[0], kind);
+    expect(what, written, length);
+}
+
+static void longest_messages(void) {
+    const uint32_t most = LERTXUNO_MAX_BLOCK_LENGTH;
+    uint32_t answer = lertxuno_program(image, longest, most, MODEL, SERIAL, signature, sizeof signature, out, sizeof out, &written);
+    expect_message("longest new program", answer, LERTXUNO_PROGRAM, LERTXUNO_MAX_PROGRAM_LENGTH);
+    answer = lertxuno_block(image, longest, most, 1, out, sizeof out, &written);
+    expect_message("longest block message", answer, LERTXUNO_BLOCK, LERTXUNO_MAX_BLOCK_MESSAGE_LENGTH);
+    answer = lertxuno_update(image, longest, most, MODEL, SERIAL, 1, signature, sizeof signature, out, sizeof out, &written);
+    expect_message("longest update", answer, LERTXUNO_UPDATE, LERTXUNO_MAX_UPDATE_LENGTH);
+}
+
+static void state_length(void) {
+    memset(status, 0xFF, sizeof status);
+    lertxuno_fresh(MODEL, sample_key, state);
+    expect("status of a fresh state", lertxuno_status(state, LERTXUNO_STATE_LENGTH, status), LERTXUNO_ACCEPTED);
+    expect("stage of a fresh state", status[LERTXUNO_STATUS_STAGE], LERTXUNO_IDLE);
+    expect("last number of its status", status[LERTXUNO_STATUS_NUMBERS - 1], 0);
+    expect("what stands behind it", status[LERTXUNO_STATUS_NUMBERS], UINT32_MAX);
+    expect("status of a byte less", lertxuno_status(state, LERTXUNO_STATE_LENGTH - 1, status), LERTXUNO_STATE);
+    expect("status of a byte more", lertxuno_status(state, LERTXUNO_STATE_LENGTH + 1, status), LERTXUNO_STATE);
+}
+
+/* A field of the state, at its offset and in the status. */
+static void expect_field(const char *what, size_t offset, size_t length, uint32_t in_status, size_t due) {
+    size_t in_state = 0;
+    for (size_t i = 0; i < length; i++)
+        in_state = in_state << 8 | state[offset + i];
+    expect(what, in_state, due);
+    expect(what, in_status, due);
+}
+
+static void fields(size_t stage, size_t next) {
+    expect("status", lertxuno_status(state, LERTXUNO_STATE_LENGTH, status), LERTXUNO_ACCEPTED);
+    expect_field("model", LERTXUNO_STATE_MODEL, 4, status[LERTXUNO_STATUS_MODEL], MODEL);
+    expect_true("key", memcmp(state + LERTXUNO_STATE_KEY, sample_key, sizeof sample_key) == 0);
+    expect_field("stage", LERTXUNO_STATE_STAGE, 2, status[LERTXUNO_STATUS_STAGE], stage);
+    expect_field("next number", LERTXUNO_STATE_NEXT, 2, status[LERTXUNO_STATUS_NEXT], next);
+    expect("block count", status[LERTXUNO_STATUS_BLOCKS], BLOCKS);
+    expect_field("block length", LERTXUNO_STATE_MANIFEST + 2, 2, status[LERTXUNO_STATUS_BLOCK_LENGTH], BLOCK_LENGTH);
+    expect_field("serial", LERTXUNO_STATE_MANIFEST + 8, 4, status[LERTXUNO_STATUS_SERIAL], SERIAL);
+    expect_field("image length", LERTXUNO_STATE_MANIFEST + 12, 4, status[LERTXUNO_STATUS_IMAGE_LENGTH], IMAGE_LENGTH);
+}
+
+static uint32_t receive(size_t flash_length) { return lertxuno_receive(state, LERTXUNO_STATE_LENGTH, flash, flash_length, out, written); }
+
+/* The sample's program, from a fresh device to a complete one. */
+static void download(void) {
+    for (size_t i = 0; i < IMAGE_LENGTH; i++)
+        image[i] = (uint8_t)(7 * i + 3);
+    expect("key's length", LERTXUNO_KEY_LENGTH, sizeof sample_key);
+    expect("signature's length", LERTXUNO_SIGNATURE_LENGTH(CHAINS, HEIGHT), sizeof sample_signature);
+    expect("image's blocks", LERTXUNO_BLOCKS(IMAGE_LENGTH, BLOCK_LENGTH), BLOCKS);
+    lertxuno_fresh(MODEL, sample_key, state);
+    lertxuno_program(image, IMAGE_LENGTH, BLOCK_LENGTH, MODEL, SERIAL, sample_signature, sizeof sample_signature, out, sizeof out, &written);
+    expect("flash of a byte less", receive(sizeof flash - 1), LERTXUNO_AREA);
+    expect("new program", receive(sizeof flash), LERTXUNO_ACCEPTED);
+    fields(LERTXUNO_LOADING, 1);
+    /* The only hash held is the root, the manifest's last field. */
+    expect_true("held root", memcmp(state + LERTXUNO_STATE_LENGTH - LERTXUNO_HASH_LENGTH, state + LERTXUNO_STATE_HASHES - LERTXUNO_HASH_LENGTH,
+                                    LERTXUNO_HASH_LENGTH) == 0);
+    for (uint32_t number = 1; number <= BLOCKS; number++) {
+        lertxuno_block(image, IMAGE_LENGTH, BLOCK_LENGTH, number, out, sizeof out, &written);
+        expect_true("block's place in its message", out[LERTXUNO_BLOCK_HEAD] == image[(number - 1) * BLOCK_LENGTH]);
+        expect("block", receive(sizeof flash), LERTXUNO_ACCEPTED);
+    }
+    fields(LERTXUNO_COMPLETE, 0);
+}
+
+int main(void) {
+    words();
+    limits();
+    longest_messages();
+    state_length();
+    download();
+    return wrong;
+}
