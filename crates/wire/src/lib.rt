@@ -28,6 +28,7 @@ pub use message::update_number;
 pub use message::update_signature;
 pub use refusal::Refusal;
 pub use refusal::refusal_number;
+pub use sizes::area_len;
 pub use sizes::block_count;
 pub use sizes::block_length;
 pub use sizes::outside;
