@@ -20,6 +20,7 @@ pub use message::least_len;
 pub use message::least_update;
 pub use message::manifest_bytes;
 pub use message::manifest_in;
+pub use message::messages_len;
 pub use message::number_in;
 pub use message::program_signature;
 pub use message::short;
