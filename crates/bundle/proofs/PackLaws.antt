@@ -4,7 +4,6 @@ use mathlib.Core.Logic.{_⊎_, inl, inr}
 use mathlib.Core.Bool.{false}
 use mathlib.Core.List.{List, [], _++_, append-nil}
 use Prim.Native.Nat.{ℕ, zero, suc, _+_, _-_, _*_, _%_, _≤_, _<_}
-use native.Mathlib.Nat.{le-trans, mul-le-mul-left, mul-le-mul-right}
 use native.Mathlib.Omega.{arith}
 use native.Mathlib.Numerals.{add-one}
 use lib.ListN.{length, take, drop, length-append, length-drop}
@@ -24,8 +23,8 @@ use Rattle.merkle.proofs.CountLaws.{held-zero, held-all, held-next}
 use Rattle.wire.specs.declared.kind.Kind.the-variants.{Program, Block}
 use Rattle.wire.specs.Refusal.{firstThatApplies}
 use Rattle.wire.specs.Size.{wrongSize}
-use Rattle.wire.specs.Message.{leastLength, dueLength, atStart}
-use Rattle.wire.specs.Geometry.{blockLength}
+use Rattle.wire.specs.Message.{leastLength, dueLength, messagesLength, atStart}
+use Rattle.wire.specs.Geometry.{blockLength, areaLength}
 use Rattle.wire.proofs.SizeLaws.{Sized, sized, outside-not}
 use Rattle.sender.specs.declared.send.Sent.{Sent}
 use Rattle.sender.specs.declared.send.Sent.the-variants.{Written}
@@ -69,20 +68,15 @@ module _ (x : Image) where
         omega (arith, more-messages i, length-some i (omega arith), length-block x z (suc i) (omega arith) h, held-next (count x) i h)
 
     -- so all n together carry n - 1
-    length-all : length (blockMessages digest x (count x)) ≡ count x * (leastLength Block + x .«block_len») + hashLength * (count x - 1)
+    length-all : length (blockMessages digest x (count x)) ≡ messagesLength (x .«block_len») (length (x .bytes))
+    unfolding messagesLength count
     length-all =
-        let some : 0 < count x = unfold count in z .first in
-        let e : count x * (leastLength Block + hashLength + x .«block_len») ≡ count x * (leastLength Block + x .«block_len») + hashLength * count x = omega arith in
+        let some : 0 < count x = z .first in
+        let e : count x * (leastLength Block + hashLength + x .«block_len») ≡ leastLength Block * count x + areaLength (x .«block_len») (length (x .bytes)) + hashLength * count x = omega arith in
         omega (arith, length-some (count x) (omega arith), held-all (count x) some)
 
 pub length-messages : MessagesLength
 length-messages x e = length-all x (sized (x .«block_len») (length (x .bytes)) e)
-
--- the block messages without their hashes have so many bytes at most; k are those of a message without block and hashes
-pub product-small : (L n : ℕ) {k : ℕ} → k ≡ leastLength Block → L ≤ 1024 → n ≤ maxBlocks → n * (k + L) ≤ maxBlocks * (leastLength Block + 1024)
-product-small L n e h few =
-    let short : leastLength Block + L ≤ leastLength Block + 1024 = omega arith in
-    rw e (le-trans (mul-le-mul-right (leastLength Block + L) few) (mul-le-mul-left maxBlocks short))
 
 -- A call of the sender that has nothing to refuse writes the bytes to the start of the buffer, and answers their length.
 abbrev Wrote : (bytes buffer : List ℕ) → Sent → List ℕ → Type 0
@@ -145,10 +139,8 @@ module _ (x : Image) (z : wrongSize (x .«block_len») (length (x .bytes)) ≡ f
 pub record Ready (image : List ℕ) (L n : ℕ) : Type 0 where
   pub sized : wrongSize L (length image) ≡ false
   pub counted : n ≡ blockCount L (length image)
-  pub some : 0 < n
   pub few : n ≤ maxBlocks
-  pub short : L ≤ 1024
-  pub blocks : length (blockMessages digest (inBlocks image L) n) ≡ n * (leastLength Block + L) + hashLength * (n - 1)
+  pub blocks : length (blockMessages digest (inBlocks image L) n) ≡ messagesLength L (length image)
 
 pub ready : (image : List ℕ) (L : ℕ) {n : ℕ} → wrongSize L (length image) ≡ false → n ≡ blockCount L (length image) → Ready image L n
 unfolding count
@@ -157,9 +149,7 @@ ready image L {n} z e =
     record {
       sized = z;
       counted = e;
-      some = omega (arith, s .first);
       few = omega (arith, s .count);
-      short = omega (arith, s .most);
       blocks = rw e (length-all (inBlocks image L) s);
     }
 
@@ -183,7 +173,7 @@ module _ {image : List ℕ} {L n : ℕ} (y : Ready image L n) (model serial : �
   length-trailer : length trailer ≡ trailerLength
   length-trailer = length-bytes trailerLength (length (programFor digest this signature))
 
-  pub length-bundle : length (bundleFor digest this [] signature) ≡ unsignedLength L n + length signature
+  pub length-bundle : length (bundleFor digest this [] signature) ≡ unsignedLength L (length image) + length signature
   length-bundle =
       ap length (sym bundle-is) ∙ length-append front trailer
       ∙ omega (arith, length-append (blockMessages digest (inBlocks image L) n) (programFor digest this signature), y .blocks, length-program this signature, length-trailer)

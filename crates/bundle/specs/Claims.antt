@@ -2,17 +2,15 @@
 use mathlib.Core.Path.{_≡_}
 use mathlib.Core.Bool.{true, false}
 use mathlib.Core.List.{List, [], _∷_, _++_}
-use Prim.Native.Nat.{ℕ, zero, suc, _+_, _-_, _*_, _≤_, _<_}
+use Prim.Native.Nat.{ℕ, zero, suc, _≤_, _<_}
 use lib.ListN.{length}
 use Rattle.sha256.specs.Sha256.{digest}
-use Rattle.merkle.specs.Limits.{hashLength}
 use Rattle.lms.specs.Lms.{valid}
-use Rattle.wire.specs.declared.kind.Kind.the-variants.{Block}
 use Rattle.wire.specs.Size.{wrongSize}
 use Rattle.wire.specs.Geometry.{programLength}
 use Rattle.wire.specs.Image.{filled}
 use Rattle.wire.specs.Manifest.{written}
-use Rattle.wire.specs.Message.{leastLength, atStart}
+use Rattle.wire.specs.Message.{messagesLength, atStart}
 use Rattle.sender.specs.Job.{Image, Job, count, manifestFor}
 use Rattle.machine.specs.declared.state.Stage.the-variants.{Complete}
 use Rattle.guarantee.specs.Demand3.{Sendable}
@@ -24,10 +22,10 @@ use Rattle.bundle.specs.Bundle.{blockMessages, bundleFor}
 abbrev pub Sample : Type 0
 Sample = (key flash : List ℕ) → length key ≡ keyFileLength → loaded key (0 ∷ 0 ∷ 0 ∷ 0 ∷ []) flash .text ≡ ascii "bundle 4\nslip 0 2\nstate idle 0\n"
 
--- All n block messages together carry n - 1 hashes.
+-- All n block messages together, which carry n - 1 hashes, are as long as `wire` says.
 abbrev pub MessagesLength : Type 0
 MessagesLength = (x : Image) → wrongSize (x .«block_len») (length (x .bytes)) ≡ false
-    → length (blockMessages digest x (count x)) ≡ count x * (leastLength Block + x .«block_len») + hashLength * (count x - 1)
+    → length (blockMessages digest x (count x)) ≡ messagesLength (x .«block_len») (length (x .bytes))
 
 -- The sender's job suits the device of key.bin, the signature is valid under its key, and program and bundle have room.
 pub record Loadable (key flash : List ℕ) (job : Job) (filler signature : List ℕ) : Type 0 where

@@ -2,12 +2,11 @@
 use mathlib.Core.Path.{_≡_}
 use mathlib.Core.Bool.{cond}
 use mathlib.Core.List.{List}
-use Prim.Native.Nat.{ℕ, _+_, _-_, _*_, _≤_}
+use Prim.Native.Nat.{ℕ, _+_, _-_, _≤_}
 use lib.ListN.{length, take, drop}
 use lib.Seq.{paste}
-use Rattle.merkle.specs.Limits.{hashLength}
-use Rattle.wire.specs.declared.kind.Kind.the-variants.{Program, Block}
-use Rattle.wire.specs.Message.{leastLength}
+use Rattle.wire.specs.declared.kind.Kind.the-variants.{Program}
+use Rattle.wire.specs.Message.{leastLength, messagesLength}
 use Rattle.machine.specs.declared.state.Device.{Device}
 use Rattle.bundle.specs.declared.parts.Start.{Start}
 use Rattle.bundle.specs.declared.parts.Start.the-variants.{At, Nowhere}
@@ -17,9 +16,9 @@ use Rattle.bundle.specs.Load.{Printed}
 unfoldable pub startOf : List ℕ → Start
 startOf b = cond (nowhere b) Nowhere (At (programAt b))
 
--- The bytes of a bundle of n blocks of L bytes, but for filler and signature. All its block messages together carry n - 1 hashes.
-abbrev pub unsignedLength : (L n : ℕ) → ℕ
-unsignedLength L n = n * (leastLength Block + L) + hashLength * (n - 1) + leastLength Program + trailerLength
+-- The bytes of a bundle for an image of T bytes in blocks of L, but for filler and signature.
+abbrev pub unsignedLength : (L T : ℕ) → ℕ
+unsignedLength L T = messagesLength L T + leastLength Program + trailerLength
 
 -- A message of len bytes that starts at index from, or what is left of it, ends at index to.
 pub record Cut (bytes : List ℕ) (from len to : ℕ) : Type 0 where

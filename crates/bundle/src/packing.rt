@@ -9,10 +9,9 @@ use wire::too_short;
 use wire::wrong_size;
 ghost use mathlib.Core.Path.{_≡_};
 ghost use mathlib.Core.Bool.{false};
-ghost use Prim.Native.Nat.{_≤_, _<_};
+ghost use Prim.Native.Nat.{_≤_};
 ghost use lib.ListN.{length};
 ghost use Rattle.sha256.specs.Sha256.{digest};
-ghost use Rattle.merkle.specs.Limits.{maxBlocks};
 ghost use Rattle.wire.specs.Size.{wrongSize};
 ghost use Rattle.wire.specs.Message.{atStart};
 ghost use Rattle.sender.specs.Job.{inBlocks, job, count};
@@ -30,13 +29,12 @@ pub fn written(sent: Sent) -> usize
     }
 }
 
-// The bytes of a bundle but for its signature: the n block messages, which together carry n - 1 hashes, the kind 1 message and the trailer.
-fn unsigned_len(block: usize, n: usize) -> usize
-    requires { ⌜ (block ≤ 1024) × (0 < n) × (n ≤ maxBlocks) ⌝ }
-    ensures { λ r. ⌜ r ≡ unsignedLength block n ⌝ }
+// The bytes of a bundle but for its signature: the block messages, the kind 1 message and the trailer.
+fn unsigned_len(block: usize, image: usize) -> usize
+    requires { ⌜ wrongSize block image ≡ false ⌝ }
+    ensures { λ r. ⌜ r ≡ unsignedLength block image ⌝ }
 {
-    let messages = n * (wire::least_len(Kind::Block) + block) + merkle::HASH_LEN * (n - 1);
-    messages + wire::least_len(Kind::Program) + TRAILER_LEN
+    wire::messages_len(block, image) + wire::least_len(Kind::Program) + TRAILER_LEN
 }
 
 // The n block messages, from the start of `out`, and the index behind them. Only `pack` calls this, and nothing is left to refuse.
@@ -71,7 +69,7 @@ pub fn pack(
         return Sent::Refused(Refusal::Size);
     }
     let n = block_count(block, image.len());
-    let least = unsigned_len(block, n);
+    let least = unsigned_len(block, image.len());
     if too_short(out.len(), least, signature.len()) {
         return Sent::Refused(Refusal::Area);
     }

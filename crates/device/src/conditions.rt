@@ -99,7 +99,7 @@ fn program_len(manifest: Manifest) -> usize
     requires { ⌜ wrongSize (manifest .«block_len») (manifest .«image_len») ≡ false ⌝ }
     ensures { λ r. ⌜ r ≡ programLength manifest ⌝ }
 {
-    count(manifest) * (manifest.block_len as usize)
+    wire::area_len(manifest.block_len as usize, manifest.image_len as usize)
 }
 
 // 8.

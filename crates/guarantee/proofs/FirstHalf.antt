@@ -10,7 +10,7 @@ use native.Mathlib.Omega.{arith}
 use lib.ListN.{length, take}
 use lib.Seq.{take-all}
 use Rattle.merkle.specs.Limits.{hashLength}
-use Rattle.merkle.specs.Blocks.{blockCount, cut}
+use Rattle.merkle.specs.Blocks.{cut}
 use Rattle.merkle.specs.Shape.{shape}
 use Rattle.merkle.specs.Hash.{plain, Collision}
 use Rattle.merkle.proofs.ShapeLaws.{size-shape}
@@ -18,7 +18,7 @@ use Rattle.merkle.proofs.HashLaws.{Same}
 use Rattle.merkle.proofs.BindingLaws.{binding}
 use Rattle.merkle.proofs.BlockLaws.{blocks-equal}
 use Rattle.wire.specs.declared.manifest.Manifest.{Manifest}
-use Rattle.wire.specs.Geometry.{countOf, blocksOf, treeOver}
+use Rattle.wire.specs.Geometry.{countOf, areaLength, blocksOf, treeOver}
 use Rattle.wire.specs.Image.{filled, imageBlocks}
 use Rattle.wire.specs.Message.{manifestIn}
 use Rattle.wire.proofs.SizeLaws.{Sized}
@@ -49,7 +49,7 @@ module _ (H : List ℕ → List ℕ) (hash-long : (x : List ℕ) → length (H x
       n = countOf s
 
       long : length (filled (s .«block_len») x) ≡ countOf s * s .«block_len»
-      long = unfold countOf in (length-filled (s .«block_len») x (rw lx z) ∙ ap (λ t. blockCount (s .«block_len») t * s .«block_len») lx)
+      long = unfold countOf in (length-filled (s .«block_len») x (rw lx z) ∙ ap (areaLength (s .«block_len»)) lx)
 
       pos : 0 < countOf s
       pos = unfold countOf in z .first

@@ -4,7 +4,7 @@ use mathlib.Core.Logic.{_⊎_, inl, inr}
 use mathlib.Core.Bool.{Bool, true≢false}
 use mathlib.Core.List.{List, _++_}
 use mathlib.Core.Option.{Option, none, some}
-use Prim.Native.Nat.{ℕ, suc, pred, _+_, _*_, _≤_, _<_}
+use Prim.Native.Nat.{ℕ, suc, _+_, _*_, _≤_, _<_}
 use native.Mathlib.Omega.{arith}
 use lib.ListN.{length, take, drop}
 use borrow.Author.Tests.{lt-ltb, le-ltb}
@@ -12,7 +12,7 @@ use Rattle.merkle.proofs.ShapeLaws.{lt-or-le}
 use Rattle.wire.specs.declared.kind.Kind.the-variants.{Block, Update}
 use Rattle.wire.specs.declared.manifest.Manifest.{Manifest}
 use Rattle.wire.specs.declared.refusal.Refusal.{Refusal}
-use Rattle.wire.specs.Geometry.{countOf, blockLength, programLength}
+use Rattle.wire.specs.Geometry.{countOf, blockLength, blockStart, programLength}
 use Rattle.wire.specs.Message.{kind, manifestIn, blockIn, updateNumber, updateBlock, dueLength, leastUpdate}
 use Rattle.wire.proofs.GeometryLaws.{block-full, block-last, length-with, with-behind, with-start, with-same}
 use Rattle.wire.proofs.MessageLaws.{length-block, length-update-block}
@@ -51,7 +51,7 @@ module _ (H : List ℕ → List ℕ) (valid : (key message signature : List ℕ)
   update-is d f m k e = accepted-step H valid d f m e ∙ rw (k, accept)
 
   same-update : (d : Device) (f g m : List ℕ) → UpdatePassed H valid d f m
-      → (let s = manifestIn m in let at = pred (updateNumber m) * s .«block_len» in let end = at + blockLength (s .«block_len») (s .«image_len») (updateNumber m) in
+      → (let s = manifestIn m in let at = blockStart (s .«block_len») (updateNumber m) in let end = at + blockLength (s .«block_len») (s .«image_len») (updateNumber m) in
       (take at f ≡ take at g) → (drop end f ≡ drop end g) → updated s f m ≡ updated s g m)
   unfolding updated leastUpdate
   same-update d f g m p before behind =

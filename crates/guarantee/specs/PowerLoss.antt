@@ -3,11 +3,11 @@
 use mathlib.Core.Path.{_≡_}
 use mathlib.Core.Bool.{Bool}
 use mathlib.Core.List.{List}
-use Prim.Native.Nat.{ℕ, suc, pred, _+_, _*_}
+use Prim.Native.Nat.{ℕ, suc, _+_}
 use lib.ListN.{length, take, drop}
 use Rattle.wire.specs.declared.kind.Kind.the-variants.{Block, Update}
 use Rattle.wire.specs.declared.manifest.Manifest.{Manifest}
-use Rattle.wire.specs.Geometry.{blockLength, programLength}
+use Rattle.wire.specs.Geometry.{blockLength, blockStart, programLength}
 use Rattle.wire.specs.Message.{kind, manifestIn, updateNumber}
 use Rattle.machine.specs.declared.state.Stage.the-variants.{Loading, Complete}
 use Rattle.machine.specs.declared.state.Device.{Device}
@@ -23,7 +23,7 @@ OnlyBlocks (ms ▷ m) = OnlyBlocks ms × (kind m ≡ Block)
 -- Two flashes of one length that agree in the first k blocks of the manifest's program and behind it.
 pub record Agree (s : Manifest) (k : ℕ) (f g : List ℕ) : Type 0 where
   pub long : length f ≡ length g
-  pub accepted : take (k * s .«block_len») f ≡ take (k * s .«block_len») g
+  pub accepted : take (blockStart (s .«block_len») (suc k)) f ≡ take (blockStart (s .«block_len») (suc k)) g
   pub behind : drop (programLength s) f ≡ drop (programLength s) g
 
 module _ (H : List ℕ → List ℕ) (valid : (key message signature : List ℕ) → Bool) where
@@ -42,5 +42,5 @@ module _ (H : List ℕ → List ℕ) (valid : (key message signature : List ℕ)
   -- over its own torn block it does what it was to do the first time.
   abbrev pub TornUpdate : Type 0
   TornUpdate = (d : Device) (f g m : List ℕ) → kind m ≡ Update → length f ≡ length g
-      → (let s = manifestIn m in let at = pred (updateNumber m) * s .«block_len» in let end = at + blockLength (s .«block_len») (s .«image_len») (updateNumber m) in
+      → (let s = manifestIn m in let at = blockStart (s .«block_len») (updateNumber m) in let end = at + blockLength (s .«block_len») (s .«image_len») (updateNumber m) in
       (take at f ≡ take at g) → (drop end f ≡ drop end g) → step H valid d f m .answer ≡ Accepted → step H valid d g m ≡ step H valid d f m)

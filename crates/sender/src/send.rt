@@ -80,8 +80,7 @@ pub fn block(image: &[u8], len: u32, number: u32, out: &mut [u8]) -> Sent
     }
     let last = last_block(image, block_len, n);
     let block = block_of(image, &last[..block_len], block_len, n, i - 1);
-    put_block(number as u16, block, out);
-    let from = least_len(Kind::Block) + block.len();
+    let from = put_block(number as u16, block, out);
     merkle::write_siblings(
         &mut out[from..],
         image,

@@ -2,16 +2,17 @@
 use mathlib.Core.Path.{_≡_, refl, sym, ap, ap₂, _∙_}
 use mathlib.Core.Bool.{false}
 use mathlib.Core.List.{List, _++_}
-use Prim.Native.Nat.{ℕ, suc, pred, _+_, _-_, _*_, _≤_, _<_}
-use native.Mathlib.Nat.{le-refl, mul-le-mul-right}
+use Prim.Native.Nat.{ℕ, suc, _+_, _-_, _*_, _≤_, _<_}
+use native.Mathlib.Nat.{le-refl, mul-le-mul, mul-le-mul-right}
 use native.Mathlib.Omega.{arith}
 use lib.ListN.{length, take, drop, length-drop, length-append}
 use lib.Seq.{paste, length-paste, drop-paste, length-take-le, take-at, drop-at, take-length, drop-drop}
+use Rattle.merkle.specs.Limits.{maxBlocks}
 use Rattle.merkle.specs.Blocks.{cut, overlay}
 use Rattle.merkle.proofs.BlockLaws.{overlay-same, overlay-other, take-blocks, written}
 use Rattle.wire.specs.declared.manifest.Manifest.{Manifest}
 use Rattle.wire.specs.Size.{wrongSize}
-use Rattle.wire.specs.Geometry.{countOf, blockLength, programLength, blocksOf, withBlock}
+use Rattle.wire.specs.Geometry.{countOf, blockLength, blockStart, areaLength, programLength, blocksOf, withBlock}
 use Rattle.wire.proofs.SizeLaws.{sized}
 
 -- no block is longer than L
@@ -22,10 +23,14 @@ block-length-most L T i = le-refl L
 pub block-length-few : (L T i : ℕ) → wrongSize L T ≡ false → blockLength L T i ≤ 1024
 block-length-few L T i e = omega (arith, block-length-most L T i, sized L T e .most)
 
+-- nor are all of them together too many bytes for a number of the code
+pub area-few : (L T : ℕ) → wrongSize L T ≡ false → areaLength L T ≤ maxBlocks * 1024
+area-few L T e = let z = sized L T e in mul-le-mul (z .count) (z .most)
+
 -- a block written to its place is a copy to there
-pub with-copied : (L : ℕ) (flash : List ℕ) (i : ℕ) (x : List ℕ) → paste flash (pred i * L) x (length x) ≡ withBlock L flash i x
+pub with-copied : (L : ℕ) (flash : List ℕ) (i : ℕ) (x : List ℕ) → paste flash (blockStart L i) x (length x) ≡ withBlock L flash i x
 unfolding withBlock
-with-copied L flash i x = let at = pred i * L in ap (λ (y : List ℕ). take at flash ++ y ++ drop (at + length x) flash) (take-length x)
+with-copied L flash i x = let at = blockStart L i in ap (λ (y : List ℕ). take at flash ++ y ++ drop (at + length x) flash) (take-length x)
 
 -- the block with i blocks before it, in a flash that has room for the program
 module _ (s : Manifest) (i : ℕ) (flash : List ℕ) (below : i < countOf s) (room : programLength s ≤ length flash) where
@@ -36,7 +41,7 @@ module _ (s : Manifest) (i : ℕ) (flash : List ℕ) (below : i < countOf s) (ro
   long = blockLength L (s .«image_len») (suc i)
 
   pub block-within : i * L + long ≤ programLength s
-  unfolding blockLength programLength
+  unfolding blockLength programLength countOf
   block-within = let m : suc i * L ≤ countOf s * L = mul-le-mul-right L below in omega arith
 
   pub block-end : i * L + long ≤ length flash
@@ -48,7 +53,7 @@ module _ (s : Manifest) (i : ℕ) (flash : List ℕ) (below : i < countOf s) (ro
   block-full h = refl
 
   pub block-last : countOf s ≤ suc i → i * L + long ≡ programLength s
-  unfolding blockLength programLength
+  unfolding blockLength programLength countOf
   block-last h = let e : countOf s ≡ suc i = omega arith in rw e (omega arith)
 
   pub length-in : length (blocksOf s flash i) ≡ long
@@ -92,7 +97,7 @@ module _ (s : Manifest) (i : ℕ) (flash : List ℕ) (below : i < countOf s) (ro
         take-at (take (i * L) flash ++ x) (drop (i * L + length x) flash) (i * L + length x) (omega (arith, length-append (take (i * L) flash) x))
 
 -- what stands before a block and behind it is all that is left of the flash
-pub with-same : (L i : ℕ) (f g x : List ℕ) → take (pred i * L) f ≡ take (pred i * L) g → drop (pred i * L + length x) f ≡ drop (pred i * L + length x) g
+pub with-same : (L i : ℕ) (f g x : List ℕ) → take (blockStart L i) f ≡ take (blockStart L i) g → drop (blockStart L i + length x) f ≡ drop (blockStart L i + length x) g
     → withBlock L f i x ≡ withBlock L g i x
 unfolding withBlock
 with-same L i f g x before behind = rw (before, behind)

@@ -1,6 +1,6 @@
 -- The kind of a message, and the parts of a message that was written.
 use mathlib.Core.Path.{_≡_, refl, sym, ap, _∙_}
-use mathlib.Core.Bool.{cond}
+use mathlib.Core.Bool.{false, cond}
 use mathlib.Core.List.{List, [], _∷_, _++_, map, append-assoc, append-nil}
 use Prim.Native.Nat.{ℕ, _+_, _-_, _*_, _^_, _≤_, _<_}
 use native.Mathlib.Omega.{arith}
@@ -11,15 +11,18 @@ use Rattle.octets.specs.Octets.{Bytes, bytes, number, part, joined}
 use Rattle.octets.proofs.CopyLaws.{length-part}
 use Rattle.octets.proofs.JoinedLaws.{total, joined-length, stands}
 use Rattle.octets.proofs.NumberLaws.{length-bytes, part-bytes, number-back}
-use Rattle.merkle.specs.Limits.{hashLength}
+use Rattle.merkle.specs.Limits.{maxBlocks, hashLength}
 use Rattle.merkle.specs.Blocks.{blockCount}
 use Rattle.merkle.specs.Frontier.{carriedCount}
 use Rattle.wire.specs.declared.kind.Kind.the-variants.{Program, Block, Update, Unknown}
 use Rattle.wire.specs.declared.manifest.Manifest.{Manifest}
 use Rattle.wire.specs.Manifest.{manifestLength, written, read, Fits}
+use Rattle.wire.specs.Size.{wrongSize}
 use Rattle.wire.specs.Geometry.{blockLength}
-use Rattle.wire.specs.Message.{kind, kindLength, numberLength, leastLength, programMessage, blockMessage, updateMessage, manifestBytes, manifestIn, programSignature, numberIn, blockIn, hashesAfter, updateNumber, updateBlock, updateSignature, dueLength}
+use Rattle.wire.specs.Message.{kind, kindLength, numberLength, leastLength, programMessage, blockMessage, updateMessage, manifestBytes, manifestIn, programSignature, numberIn, blockIn, hashesAfter, updateNumber, updateBlock, updateSignature, dueLength, messagesLength}
 use Rattle.wire.specs.Claims.{OfProgram, ProgramBack, OfBlock, BlockBack, OfUpdate, UpdateBack}
+use Rattle.wire.proofs.SizeLaws.{sized}
+use Rattle.wire.proofs.GeometryLaws.{area-few}
 use Rattle.wire.proofs.ManifestLaws.{length-written, read-fits}
 
 pub kind-none : (m : List ℕ) → length m ≡ 0 → Unknown ≡ kind m
@@ -159,6 +162,11 @@ pub record Due (L T i : ℕ) (m : List ℕ) : Type 0 where
 pub due : (L T i : ℕ) (m : List ℕ) → length m ≡ dueLength L T i → Due L T i m
 unfolding dueLength
 due L T i m e = record { long = omega arith; rest = length-hashes (blockLength L T i) m ∙ omega arith }
+
+-- all block messages together are not too many bytes for a number of the code
+pub messages-few : (L T : ℕ) → wrongSize L T ≡ false → messagesLength L T ≤ maxBlocks * (leastLength Block + 1024 + hashLength)
+unfolding messagesLength
+messages-few L T e = omega (arith, area-few L T e, sized L T e .count)
 
 -- messages as they are written, part behind part
 pub program-parts : (s : Manifest) (signature : List ℕ) → (1 ∷ []) ++ written s ++ signature ≡ programMessage s signature

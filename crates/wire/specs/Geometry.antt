@@ -15,9 +15,16 @@ countOf s = blockCount (s .«block_len») (s .«image_len»)
 unfoldable pub blockLength : (L T i : ℕ) → ℕ
 blockLength L T i = L
 
--- "The area must have n × L bytes": the bytes of the flash that the program needs
+-- where block i, from 1, starts
+abbrev pub blockStart : (L i : ℕ) → ℕ
+blockStart L i = pred i * L
+
+-- "The area must have n × L bytes": those of all blocks of an image of T bytes, and so of the flash that a manifest's program needs
+abbrev pub areaLength : (L T : ℕ) → ℕ
+areaLength L T = blockCount L T * L
+
 unfoldable pub programLength : Manifest → ℕ
-programLength s = countOf s * s .«block_len»
+programLength s = areaLength (s .«block_len») (s .«image_len»)
 
 -- its blocks in the flash, by the number of blocks before
 unfoldable pub blocksOf : Manifest → List ℕ → ℕ → List ℕ
@@ -25,7 +32,7 @@ blocksOf s flash = cut (s .«block_len») flash
 
 -- "writes block i to its place and nothing else": the flash with block i, from 1, written
 unfoldable pub withBlock : (L : ℕ) → List ℕ → (i : ℕ) → List ℕ → List ℕ
-withBlock L flash i block = let at = pred i * L in take at flash ++ block ++ drop (at + length block) flash
+withBlock L flash i block = let at = blockStart L i in take at flash ++ block ++ drop (at + length block) flash
 
 -- "The tree over an area is that over its first n blocks": its root
 unfoldable pub treeOver : (List ℕ → List ℕ) → Manifest → List ℕ → List ℕ

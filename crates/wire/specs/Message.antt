@@ -1,7 +1,7 @@
 -- The messages (01, 'Slip, messages, state'): what each kind consists of, where each part of a received one stands, and how long a message must be.
 use mathlib.Core.Bool.{Bool, true, false, cond}
 use mathlib.Core.List.{List, [], _∷_, _++_}
-use Prim.Native.Nat.{ℕ, _+_, _*_}
+use Prim.Native.Nat.{ℕ, _+_, _-_, _*_}
 use lib.Dec.{eqb, ltb}
 use lib.ListN.{length, drop}
 use Rattle.octets.specs.Octets.{bytes, number, part, joined}
@@ -12,7 +12,7 @@ use Rattle.wire.specs.declared.kind.Kind.{Kind}
 use Rattle.wire.specs.declared.kind.Kind.the-variants.{Program, Block, Update, Unknown}
 use Rattle.wire.specs.declared.manifest.Manifest.{Manifest}
 use Rattle.wire.specs.Manifest.{manifestLength, read, written}
-use Rattle.wire.specs.Geometry.{blockLength}
+use Rattle.wire.specs.Geometry.{blockLength, areaLength}
 
 -- "The first byte of a message is its kind."
 unfoldable pub kind : List ℕ → Kind
@@ -86,6 +86,10 @@ updateSignature k m = drop (leastLength Update + k) m
 -- Refusal 12. Kind 2: message i has exactly "3 + L + 32 × c(i) bytes"; with L = 256 and n = 8, message 1 has 355.
 unfoldable pub dueLength : (L T i : ℕ) → ℕ
 dueLength L T i = leastLength Block + blockLength L T i + hashLength * carriedCount (blockCount L T) i
+
+-- All n block messages of an image together: each has its head, and among them they carry all blocks and n - 1 hashes.
+unfoldable pub messagesLength : (L T : ℕ) → ℕ
+messagesLength L T = let n = blockCount L T in leastLength Block * n + areaLength L T + hashLength * (n - 1)
 
 -- Kind 3: an update of block i has at least "51 + L" bytes.
 unfoldable pub leastUpdate : (L T i : ℕ) → ℕ

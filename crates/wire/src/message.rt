@@ -3,6 +3,7 @@ use crate::kind::Kind;
 use crate::manifest::MANIFEST_LEN;
 use crate::manifest::Manifest;
 use crate::manifest::read;
+use crate::sizes::area_len;
 use crate::sizes::block_count;
 use crate::sizes::block_length;
 ghost use mathlib.Core.Path.{_≡_};
@@ -12,7 +13,7 @@ ghost use lib.ListN.{length};
 ghost use Rattle.merkle.specs.Blocks.{blockCount};
 ghost use Rattle.wire.specs.declared.kind.Kind.the-variants.{Program, Block, Update};
 ghost use Rattle.wire.specs.Size.{wrongSize};
-ghost use Rattle.wire.specs.Message.{leastLength, manifestBytes, manifestIn, programSignature, numberIn, blockIn, hashesAfter, updateNumber, updateBlock, updateSignature, dueLength, leastUpdate};
+ghost use Rattle.wire.specs.Message.{leastLength, manifestBytes, manifestIn, programSignature, numberIn, blockIn, hashesAfter, updateNumber, updateBlock, updateSignature, dueLength, messagesLength, leastUpdate};
 ghost use Rattle.wire.specs.Message as spec;
 
 pub const KIND_LEN: usize = 1;
@@ -128,6 +129,15 @@ pub fn due_len(block_len: usize, image_len: usize, number: usize) -> usize
 {
     let counts = merkle::count(block_count(block_len, image_len), number - 1);
     BLOCK_LEAST + block_length(block_len, image_len, number) + merkle::HASH_LEN * counts.carried
+}
+
+// The bytes of all block messages of an image together.
+pub fn messages_len(block_len: usize, image_len: usize) -> usize
+    requires { ⌜ wrongSize «block_len» «image_len» ≡ false ⌝ }
+    ensures { λ r. ⌜ r ≡ messagesLength «block_len» «image_len» ⌝ }
+{
+    let n = block_count(block_len, image_len);
+    BLOCK_LEAST * n + area_len(block_len, image_len) + merkle::HASH_LEN * (n - 1)
 }
 
 // Refusal 12, kind 3: the least bytes of an update of block `number`.

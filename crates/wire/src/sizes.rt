@@ -1,11 +1,12 @@
 // Which block lengths, image lengths and block numbers are allowed, and what follows from them.
 ghost use mathlib.Core.Path.{_≡_};
+ghost use mathlib.Core.Bool.{false};
 ghost use Prim.Native.Nat.{_+_, _<_};
 ghost use lib.Dec.{ltb};
 ghost use Rattle.merkle.specs.Blocks.{blockCount};
 ghost use Rattle.wire.specs.Size as spec;
 ghost use Rattle.wire.specs.Size.{allowedLength, wrongSize};
-ghost use Rattle.wire.specs.Geometry.{blockLength};
+ghost use Rattle.wire.specs.Geometry.{blockLength, areaLength};
 
 fn allowed(block_len: usize) -> bool
     ensures { λ r. ⌜ r ≡ allowedLength «block_len» ⌝ }
@@ -29,6 +30,14 @@ pub fn block_length(block_len: usize, image_len: usize, number: usize) -> usize
     ensures { λ r. ⌜ r ≡ blockLength «block_len» «image_len» number ⌝ }
 {
     block_len
+}
+
+// The bytes of all blocks of an image, which is what its program needs in the flash.
+pub fn area_len(block_len: usize, image_len: usize) -> usize
+    requires { ⌜ wrongSize «block_len» «image_len» ≡ false ⌝ }
+    ensures { λ r. ⌜ r ≡ areaLength «block_len» «image_len» ⌝ }
+{
+    block_count(block_len, image_len) * block_len
 }
 
 // Refusal 5.

@@ -35,15 +35,17 @@ pub fn put_program(manifest: Manifest, signature: &[u8], out: &mut [u8])
     copy(out, PROGRAM_LEAST, signature);
 }
 
-// Kind 2, all of it but the hashes.
-pub fn put_block(number: u16, block: &[u8], out: &mut [u8])
+// Kind 2, all of it but the hashes; the answer is the index behind the block, where these go.
+pub fn put_block(number: u16, block: &[u8], out: &mut [u8]) -> usize
     requires { ⌜ leastLength Block + length (now block) ≤ length (now out) ⌝ }
-    ensures { λ _. ⌜ now (out .exit) ≡ atStart (blockMessage number (now (block .entry)) []) (now (out .entry)) ⌝ }
+    ensures { λ r. ⌜ (r ≡ leastLength Block + length (now (block .entry)))
+        × (now (out .exit) ≡ atStart (blockMessage number (now (block .entry)) []) (now (out .entry))) ⌝ }
 {
     let digits = be16(number);
     out[0] = 2;
     copy(out, KIND_LEN, &digits);
     copy(out, BLOCK_LEAST, block);
+    BLOCK_LEAST + block.len()
 }
 
 // Kind 3.

@@ -50,7 +50,7 @@ blocks-put c =
     let e = c .put-blocks .ensures in
     let y = known (c .before .before .before .before .before) in
     let r = room (c .before .before) in
-    (e .0, omega (arith, y .blocks, e .0, y .some), put-start (c .put-blocks .result) (sym (e .0)) (e .1))
+    (e .0, omega (arith, y .blocks, e .0), put-start (c .put-blocks .result) (sym (e .0)) (e .1))
 
 -- and the kind 1 message behind them
 program-put : (c : tie.After-written) → (let b = c .before .before .before .before .before .before .before .put-blocks in
@@ -76,7 +76,7 @@ block-count-requires : tie.Need-block-count-requires
 block-count-requires c κs = let z = sized _ _ (sym (c .before .wrong-size .ensures) ∙ c .if1 .left) in (omega (arith, z .least), omega (arith, z .some))
 
 unsigned-len-requires : tie.Need-unsigned-len-requires
-unsigned-len-requires c κs = let y = known c in (y .short, y .some, y .few)
+unsigned-len-requires c κs = known c .sized
 
 too-short-requires : tie.Need-too-short-requires
 too-short-requires c κs = search needs

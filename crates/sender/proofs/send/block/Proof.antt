@@ -38,15 +38,16 @@ long c =
     omega (arith, c .before .before .before .before .due-len .ensures, parts _ _ _ _ t, one _ _ _ _ t (c .block-of .result .now) (c .block-of .ensures))
 
 -- what `put_block` leaves, if it put number i there
-head : (i : ℕ) (c : tie.After-least-len) → (let a = c .before .before .before .before .before .before .before .before .before .before .before .before .before .before .before .before .before .args in let b = c .before .before .before .before .before .block-of .result .now in
-    let r = c .before .before .before .put-block .last .1 .1 .0 in r ≡ atStart (blockMessage i b []) (a .out .now) → Put (a .out .now) r (blockMessage i b []) (c .least-len .result + length b))
-head i c e = let b = c .before .before .before .before .before .block-of .result .now in put-start (c .least-len .result + length b) (block-size _ b [] ∙ omega (arith, c .least-len .ensures)) e
+head : (i : ℕ) (c : tie.After-put-block) → (let a = c .before .before .before .before .before .before .before .before .before .before .before .before .before .before .args in let b = c .before .before .block-of .result .now in
+    let r = c .put-block .last .1 .1 .0 in r ≡ atStart (blockMessage i b []) (a .out .now) → Put (a .out .now) r (blockMessage i b []) (c .put-block .result))
+head i c e = put-start (c .put-block .result) (block-size _ (c .before .before .block-of .result .now) [] ∙ omega (arith, c .put-block .ensures .0)) e
 
-placed : (c : tie.After-least-len) → c .least-len .result + length (c .before .before .before .before .before .block-of .result .now) + hashLength * carriedCount (c .before .before .before .before .before .before .before .before .before .before .before .before .block-count .result) (c .before .before .before .before .before .before .before .before .before .before .before .before .before .before .before .before .before .args .number - 1 + 1) ≤ length (c .before .before .before .put-block .last .1 .1 .0)
+-- and behind it the hashes have room
+placed : (c : tie.After-put-block) → c .put-block .result + hashLength * carriedCount (c .before .before .before .before .before .before .before .before .before .block-count .result) (c .before .before .before .before .before .before .before .before .before .before .before .before .before .before .args .number - 1 + 1) ≤ length (c .put-block .last .1 .1 .0)
 placed c =
-    let e = long (c .before .before .before .before .before) in
-    let l = c .before .before .before .before .before .before .before .before .if3 .left in
-    omega (arith, c .least-len .ensures, length-put (head _ c (c .before .before .before .put-block .ensures)) (omega (arith, c .least-len .ensures)))
+    let e = long (c .before .before) in
+    let l = c .before .before .before .before .before .if3 .left in
+    omega (arith, c .put-block .ensures .0, length-put (head _ c (c .put-block .ensures .1)) (omega (arith, c .put-block .ensures .0)))
 
 wrong-size-requires : tie.Need-wrong-size-requires
 wrong-size-requires c κs = search needs
@@ -105,40 +106,34 @@ cast-put-block c = let t = passed (c .before .before .before .before .before) in
 put-block-requires : tie.Need-put-block-requires
 put-block-requires c κs = omega (arith, long (c .before), c .before .before .before .before .if3 .left)
 
-least-len-requires : tie.Need-least-len-requires
-least-len-requires c κs = search needs
-
-add-from : tie.Need-add-from
-add-from c = search needs
-
 sub-write-siblings : tie.Need-sub-write-siblings
-sub-write-siblings c = omega (arith, placed c)
+sub-write-siblings c = omega (arith, placed (c .before .before))
 
 part-write-siblings-start : tie.Need-part-write-siblings-start
-part-write-siblings-start c = omega (arith, placed c)
+part-write-siblings-start c = omega (arith, placed (c .before .before))
 
 part-write-siblings-end : tie.Need-part-write-siblings-end
 part-write-siblings-end c = search needs
 
 sub-write-siblings-2 : tie.Need-sub-write-siblings-2
-sub-write-siblings-2 c = omega (arith, passed (c .before .before .before .before .before .before .before .before .before .before .before) .low)
+sub-write-siblings-2 c = omega (arith, passed (c .before .before .before .before .before .before .before .before .before .before) .low)
 
 sub-write-siblings-3 : tie.Need-sub-write-siblings-3
-sub-write-siblings-3 c = let t = passed (c .before .before .before .before .before .before .before .before .before .before .before) in omega (arith, t .low, t .high)
+sub-write-siblings-3 c = let t = passed (c .before .before .before .before .before .before .before .before .before .before) in omega (arith, t .low, t .high)
 
 array-share-prefix-last-2 : tie.Need-array-share-prefix-last-2
-array-share-prefix-last-2 c = omega (arith, passed (c .before .before .before .before .before .before .before .before .before .before .before) .sized .most, c .before .before .before .before .before .before .before .before .last-block .ensures .0)
+array-share-prefix-last-2 c = omega (arith, passed (c .before .before .before .before .before .before .before .before .before .before) .sized .most, c .before .before .before .before .before .before .before .last-block .ensures .0)
 
 slice-aggregate-write-siblings : tie.Need-slice-aggregate-write-siblings
-slice-aggregate-write-siblings c = simp length-take (omega (arith, passed (c .before .before .before .before .before .before .before .before .before .before .before .before) .sized .most, c .before .before .before .before .before .before .before .before .before .last-block .ensures .0))
+slice-aggregate-write-siblings c = simp length-take (omega (arith, passed (c .before .before .before .before .before .before .before .before .before .before .before) .sized .most, c .before .before .before .before .before .before .before .before .last-block .ensures .0))
 
 write-siblings-requires : tie.Need-write-siblings-requires
 write-siblings-requires c κs =
-    let s = c .before .before .before .before .before .before .before .before .before .before .before .before in
+    let s = c .before .before .before .before .before .before .before .before .before .before .before in
     let a = s .before .before .before .before .before .before .before .args in
     let t = passed s in
     let n = bounds (a .len) (a .image .now) (s .before .before .block-count .result) (t .sized) (t .count) in
-    (omega (arith, t .low, t .high), t .few, omega (arith, n), simp (length-take, length-drop) (omega (arith, placed (c .before .before))))
+    (omega (arith, t .low, t .high), t .few, omega (arith, n), simp (length-take, length-drop) (omega (arith, placed (c .before .before .before .before))))
 
 same-length : tie.Need-same-length
 same-length c = search needs
@@ -146,15 +141,16 @@ same-length c = search needs
 returns-4 : tie.Need-returns-4
 unfolding sendBlock count blocks
 returns-4 c =
-    let s = c .before .before .before .before .before .before .before .before .before .before .before .before .before .before .before in
+    let s = c .before .before .before .before .before .before .before .before .before .before .before .before .before .before in
     let a = s .before .before .before .before .before .before .before .args in
     let x = inBlocks (a .image .now) (a .len) in
     let t = passed s in
     let n = s .before .before .block-count .result in
-    let k = c .before .before .before .before .before .before .before .before .before .before .before .before .before .before .due-len in
-    let b = c .before .before .before .before .before .before .before .before .before .before .block-of in
-    let from = c .before .before .before .before .before .least-len .result + length (b .result .now) in
-    let last = c .before .before .before .before .before .before .before .before .before .before .before .before .last-block in
+    let k = c .before .before .before .before .before .before .before .before .before .before .before .before .before .due-len in
+    let b = c .before .before .before .before .before .before .before .before .before .block-of in
+    let p = c .before .before .before .before .before .before .before in
+    let from = p .put-block .result in
+    let last = c .before .before .before .before .before .before .before .before .before .before .before .last-block in
     let blocks = overlay (cut (a .len) (a .image .now)) (n - 1) (take (a .len) (last .result)) in
     let hs = sent (plain digest) n blocks (a .number - 1) in
     let h : hashLength * carriedCount n (a .number - 1 + 1) ≡ length hs =
@@ -162,10 +158,10 @@ returns-4 c =
     let same = same-sent (a .len) (a .image .now) n (t .sized) (t .count) digest (take (a .len) (last .result)) (last .ensures .1) (a .number - 1) in
     let is = block-whole (a .number) (b .result .now) hs ∙ block-is x n (a .number) (b .result .now) hs (t .count) (b .ensures) same in
     let all = due _ _ _ _ t in
-    let size : from + length hs ≡ length (blockFor digest x (a .number)) = omega (arith, h, long (c .before .before .before .before .before .before .before .before .before .before), k .ensures, all, c .before .before .before .before .before .least-len .ensures) in
-    let room = c .before .before .before .before .before .before .before .before .before .before .before .before .before .if3 .left in
+    let size : from + length hs ≡ length (blockFor digest x (a .number)) = omega (arith, h, long (c .before .before .before .before .before .before .before .before .before), k .ensures, all, p .put-block .ensures .0) in
+    let room = c .before .before .before .before .before .before .before .before .before .before .before .before .if3 .left in
     all-written-at x (blockFor digest x (a .number)) (a .out .now) (a .number) (t .size) (rw (t .count) at (t .inside)) (k .result) _ (all ∙ sym (k .ensures)) room
-    (put-part (head _ (c .before .before .before .before .before) (c .before .before .before .before .before .before .before .before .put-block .ensures)) hs _ (omega (arith, size, all, k .ensures, room)) (rw h at (c .before .before .write-siblings .ensures))
+    (put-part (head _ p (p .put-block .ensures .1)) hs _ (omega (arith, size, all, k .ensures, room)) (rw h at (c .before .before .write-siblings .ensures))
     ∙ ap₂ (λ (p : List ℕ) (y : ℕ). p ++ drop y (a .out .now)) is size)
 
 pub block-spec : {M : Type 1} → statement M
@@ -186,8 +182,6 @@ block-spec =
     block-of-requires
     cast-put-block
     put-block-requires
-    least-len-requires
-    add-from
     sub-write-siblings
     part-write-siblings-start
     part-write-siblings-end

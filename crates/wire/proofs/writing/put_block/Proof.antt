@@ -37,13 +37,16 @@ copy-requires c κs = simp length-set (omega (arith, c .before .before .before .
 copy-requires-2 : tie.Need-copy-requires-2
 copy-requires-2 c κs = let a = c .before .before .before .before .before .before .before .before .before in omega (arith, a .pre, length-put (put-1 (c .before .before .before)) (omega (arith, a .pre)))
 
+add-result : tie.Need-add-result
+add-result c = search needs
+
 same-length : tie.Need-same-length
 same-length c = length-put (put-2 (c .before .before)) (omega (arith, c .before .before .before .before .before .before .before .before .before .before .before .before .pre))
 
 returns : tie.Need-returns
 returns c =
     let a = c .before .before .before .before .before .before .before .before .before .before .before .before .args in
-    (rw (c .before .before .before .before .before .before .before .before .before .be16 .ensures) at (put-all (put-2 (c .before .before)))) ∙ ap (λ (p : List ℕ). atStart p (a .out .now)) (block-parts (a .number) (a .block .now))
+    (refl, (rw (c .before .before .before .before .before .before .before .before .before .be16 .ensures) at (put-all (put-2 (c .before .before)))) ∙ ap (λ (p : List ℕ). atStart p (a .out .now)) (block-parts (a .number) (a .block .now)))
 
 pub put-block-spec : {M : Type 1} → statement M
 put-block-spec =
@@ -54,5 +57,6 @@ put-block-spec =
     slice-aggregate-copy
     copy-requires
     copy-requires-2
+    add-result
     same-length
     returns)
