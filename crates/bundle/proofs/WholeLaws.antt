@@ -30,7 +30,7 @@ use Rattle.machine.specs.Readers.{acceptedBlocks}
 use Rattle.guarantee.specs.Demand3.{Sendable}
 use Rattle.machine.proofs.RefusalLaws.{program-passed}
 use Rattle.guarantee.proofs.RunLaws.{accepted-step}
-use Rattle.guarantee.proofs.SentLaws.{root-long, block-sent}
+use Rattle.guarantee.proofs.SentLaws.{block-sent}
 use Rattle.guarantee.proofs.HonestLaws.{Here, next-accepted, next-here, first-here, is-complete, flash-is}
 use Rattle.machine.proofs.SenseLaws.{sense-idle}
 use Rattle.guarantee.proofs.ProgramLaws.{is-program, program-accepted}

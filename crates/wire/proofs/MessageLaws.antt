@@ -7,7 +7,7 @@ use native.Mathlib.Omega.{arith}
 use lib.Dec.{eqb}
 use lib.ListN.{length, take, drop, getD, length-drop}
 use lib.Seq.{take-all}
-use Rattle.octets.specs.Octets.{Bytes, bytes, number, part, joined}
+use Rattle.octets.specs.Octets.{Bytes, bytes, part, joined}
 use Rattle.octets.proofs.CopyLaws.{length-part}
 use Rattle.octets.proofs.JoinedLaws.{total, joined-length, stands}
 use Rattle.octets.proofs.NumberLaws.{length-bytes, part-bytes, number-back}
