@@ -9,8 +9,9 @@
  *
  * The library is for x86-64 Linux. Stack of a call there, at most about: 8 KB for lertxuno_receive, 9 KB for the sender's functions, 4 KB for lertxuno_verify,
  * 1.1 KB for lertxuno_digest, 100 bytes for the others. Time goes into SHA-256 compressions, one for each 64 bytes hashed: a signature's verdict takes about
- * 4,400 (signature type 4, height 5) or 600 (type 3, height 10), a block at the device those of its bytes and two for each hash that it carries, an update at
- * the device and the sender's functions those of the whole image, lertxuno_block of the part that its hashes stand for. Measured stack, code and time: README.
+ * 4,400 (signature type 4, height 5) or 600 (type 3, height 10), a block at the device those of its bytes and two for each hash that it carries, a path update
+ * those of two blocks and four for each hash, an update at the device and the sender's functions those of the whole image, lertxuno_block of the part that its
+ * hashes stand for. Measured stack, code and time: README.
  *
  * Words: a program is an image, cut into blocks, and its manifest, which is signed. Numbers are big-endian.
  */
@@ -27,7 +28,7 @@ extern "C" {
 enum lertxuno_refusal {
     LERTXUNO_ACCEPTED = 0,
     LERTXUNO_STATE = 1,     /* the state makes no sense */
-    LERTXUNO_KIND = 2,      /* empty message, or its kind is not 1, 2, 3 */
+    LERTXUNO_KIND = 2,      /* empty message, or its kind is not 1 to 4 */
     LERTXUNO_SHORT = 3,     /* fewer bytes than the kind's least */
     LERTXUNO_VERSION = 4,   /* the manifest's version is not 1 */
     LERTXUNO_SIZE = 5,      /* block length not allowed, image empty, or more than LERTXUNO_MAX_BLOCKS blocks */
@@ -35,11 +36,12 @@ enum lertxuno_refusal {
     LERTXUNO_SERIAL = 7,    /* the manifest's serial is not above the device's */
     LERTXUNO_AREA = 8,      /* flash or output buffer too short */
     LERTXUNO_UNSIGNED = 9,  /* the signature is not valid */
-    LERTXUNO_STAGE = 10,    /* a block and not loading, or an update and not complete */
-    LERTXUNO_TURN = 11,     /* not the next block; for update and sender: no block of the image */
-    LERTXUNO_LENGTH = 12,   /* block: not the length due; update: shorter than its block needs. A longer update is one with a longer signature: 9 */
+    LERTXUNO_STAGE = 10,    /* a block and not loading, or an update of either kind and not complete */
+    LERTXUNO_TURN = 11,     /* not the next block; for updates and sender: no block of the image */
+    LERTXUNO_LENGTH = 12,   /* block: not the length due; update: shorter than its block and hashes need. A longer update is one with a longer signature: 9 */
     LERTXUNO_UNLIKE = 13,   /* the update's block length or image length differs from the complete one's */
-    LERTXUNO_MISMATCH = 14  /* the hash worked out differs from the one held or signed */
+    LERTXUNO_MISMATCH = 14, /* the hash worked out differs from the one held or signed */
+    LERTXUNO_PATH = 15      /* path update: the old block with the message's hashes does not lead to the root held */
 };
 
 /* An answer's word, for logs: "accepted" for 0, and "unknown" for a number that no function returns. */
@@ -60,12 +62,13 @@ static inline const char *lertxuno_refusal_word(uint32_t answer) {
     case LERTXUNO_LENGTH: return "length";
     case LERTXUNO_UNLIKE: return "unlike";
     case LERTXUNO_MISMATCH: return "mismatch";
+    case LERTXUNO_PATH: return "path";
     default: return "unknown";
     }
 }
 
 /* Order of the device's refusals, the first that applies: always 1, 2, 3; then new program 4, 5, 6, 7, 8, 9; block 10, 8, 11, 12, 14; update 10, 4, 5, 6, 7,
- * 13, 8, 11, 12, 9, 14. The sender's: 5, 11, 8. */
+ * 13, 8, 11, 12, 9, 14; path update the same, with 15 before 14. The sender's: 5, 11, 8. */
 
 /* Sizes. A block has 64, 128, 256, 512 or 1,024 bytes; the last one of an image is filled with 0xFF. The flash must have a program's blocks whole. */
 #define LERTXUNO_BLOCKS(image_length, block_length) (((image_length) + (block_length) - 1) / (block_length))
@@ -79,7 +82,7 @@ enum {
     LERTXUNO_KEY_LENGTH = 56,   /* tree type (4), signature type (4), identifier (16), top hash (32): an LMS key, without HSS's four bytes in front */
     LERTXUNO_MAX_BLOCKS = 4096,
     LERTXUNO_MAX_BLOCK_LENGTH = 1024,
-    LERTXUNO_MAX_HASHES = 12,   /* the most that a block message carries, and the most that a device holds */
+    LERTXUNO_MAX_HASHES = 12,   /* the most that a message carries, and the most that a device holds */
     LERTXUNO_MAX_SIGNATURE_LENGTH = LERTXUNO_SIGNATURE_LENGTH(67, 25)
 };
 
@@ -87,18 +90,21 @@ enum {
  * Messages, by their first byte:
  *   1, new program   kind (1), manifest, signature over it
  *   2, block         kind (1), number from 1 (2), block, hashes (32 each); how many follows from number and block count, 0 to 12
- *   3, update        kind (1), new manifest, number (2), new block, signature over the new manifest */
-enum lertxuno_kind { LERTXUNO_PROGRAM = 1, LERTXUNO_BLOCK = 2, LERTXUNO_UPDATE = 3 };
+ *   3, update        kind (1), new manifest, number (2), new block, signature over the new manifest
+ *   4, path update   kind (1), new manifest, number (2), new block, hashes (32 each), signature over the new manifest; the hashes are the siblings from the
+ *                    block's leaf to the root, lowest first, and their number is the leaf's depth, 0 to 12 */
+enum lertxuno_kind { LERTXUNO_PROGRAM = 1, LERTXUNO_BLOCK = 2, LERTXUNO_UPDATE = 3, LERTXUNO_PATH_UPDATE = 4 };
 
 /* Room for the sender's output, and the longest message of each kind. */
 enum {
     LERTXUNO_MANIFEST_LENGTH = 48,
     LERTXUNO_PROGRAM_HEAD = 1 + LERTXUNO_MANIFEST_LENGTH,    /* and the signature */
     LERTXUNO_BLOCK_HEAD = 3,                                 /* and the block and its hashes */
-    LERTXUNO_UPDATE_HEAD = 1 + LERTXUNO_MANIFEST_LENGTH + 2, /* and the block and the signature */
+    LERTXUNO_UPDATE_HEAD = 1 + LERTXUNO_MANIFEST_LENGTH + 2, /* and the block, for a path update its hashes, and the signature */
     LERTXUNO_MAX_PROGRAM_LENGTH = LERTXUNO_PROGRAM_HEAD + LERTXUNO_MAX_SIGNATURE_LENGTH,
     LERTXUNO_MAX_BLOCK_MESSAGE_LENGTH = LERTXUNO_BLOCK_HEAD + LERTXUNO_MAX_BLOCK_LENGTH + LERTXUNO_HASH_LENGTH * LERTXUNO_MAX_HASHES,
-    LERTXUNO_MAX_UPDATE_LENGTH = LERTXUNO_UPDATE_HEAD + LERTXUNO_MAX_BLOCK_LENGTH + LERTXUNO_MAX_SIGNATURE_LENGTH
+    LERTXUNO_MAX_UPDATE_LENGTH = LERTXUNO_UPDATE_HEAD + LERTXUNO_MAX_BLOCK_LENGTH + LERTXUNO_MAX_SIGNATURE_LENGTH,
+    LERTXUNO_MAX_PATH_UPDATE_LENGTH = LERTXUNO_MAX_UPDATE_LENGTH + LERTXUNO_HASH_LENGTH * LERTXUNO_MAX_HASHES
 };
 
 /* SHA-256 (FIPS 180-4) of the message. */
@@ -127,6 +133,10 @@ uint32_t lertxuno_block(const uint8_t *image, size_t image_length, uint32_t bloc
 /* Kind 3, update to this image, which differs from the complete one in this block at most; the signature is over this image's manifest. */
 uint32_t lertxuno_update(const uint8_t *image, size_t image_length, uint32_t block_length, uint32_t model, uint32_t serial, uint32_t number,
                          const uint8_t *signature, size_t signature_length, uint8_t *out, size_t room, size_t *written);
+
+/* Kind 4, path update: the same update for a device that is to read that one block of its flash, and not the whole of it. */
+uint32_t lertxuno_path_update(const uint8_t *image, size_t image_length, uint32_t block_length, uint32_t model, uint32_t serial, uint32_t number,
+                              const uint8_t *signature, size_t signature_length, uint8_t *out, size_t room, size_t *written);
 
 /* The device. Its whole state is LERTXUNO_STATE_LENGTH bytes, which the caller keeps, across power loss too (docs/INTEGRATION.md: in which order state and
  * flash are made durable). The bytes of a state are those between an offset below and the next. */

@@ -13,7 +13,7 @@ ghost use mathlib.Core.Path.{_≡_};
 ghost use Rattle.sha256.specs.Sha256.{digest};
 ghost use Rattle.lms.specs.Lms.{valid};
 ghost use Rattle.sender.specs.Job.{inBlocks, job};
-ghost use Rattle.sender.specs.Send.{Does, sendManifest, sendProgram, sendBlock, sendUpdate};
+ghost use Rattle.sender.specs.Send.{Does, sendManifest, sendProgram, sendBlock, sendUpdate, sendPath};
 ghost use Rattle.machine.specs.Device.{freshWith};
 ghost use Rattle.capi.specs.State.{encode};
 ghost use Rattle.capi.specs.Call.{verdict, told, receive};
@@ -121,6 +121,24 @@ pub extern "C" fn lertxuno_update(
     ensures { λ r. ⌜ Does (told (now (written .entry))) (sendUpdate (job (inBlocks (now (image .entry)) len) model serial) number (now (signature .entry)) (now (out .entry))) (record { answer = r; written = now (written .exit) }) (now (out .exit)) ⌝ }
 {
     let sent = sender::update(image, len, model, serial, number, signature, out);
+    report(sent, written)
+}
+
+// Kind 4.
+#[no_mangle]
+pub extern "C" fn lertxuno_path_update(
+    image: &[u8],
+    len: u32,
+    model: u32,
+    serial: u32,
+    number: u32,
+    signature: &[u8],
+    out: &mut [u8],
+    written: &mut usize,
+) -> u32
+    ensures { λ r. ⌜ Does (told (now (written .entry))) (sendPath (job (inBlocks (now (image .entry)) len) model serial) number (now (signature .entry)) (now (out .entry))) (record { answer = r; written = now (written .exit) }) (now (out .exit)) ⌝ }
+{
+    let sent = sender::path_update(image, len, model, serial, number, signature, out);
     report(sent, written)
 }
 

@@ -8,17 +8,18 @@ use lib.Dec.{eqb}
 use lib.ListN.{length}
 use borrow.Author.Tests.{ltb-true}
 use Rattle.wire.specs.declared.kind.Kind.{Kind}
-use Rattle.wire.specs.declared.kind.Kind.the-variants.{Program, Block, Update, Unknown}
+use Rattle.wire.specs.declared.kind.Kind.the-variants.{Program, Block, Update, PathUpdate, Unknown}
 use Rattle.wire.specs.declared.manifest.Manifest.{Manifest}
 use Rattle.wire.specs.declared.refusal.Refusal.{Refusal}
 use Rattle.wire.specs.declared.refusal.Refusal.the-variants as refusal
 use Rattle.wire.specs.Refusal.{refusalNumber, firstThatApplies}
-use Rattle.wire.specs.Size.{wrongSize}
+use Rattle.wire.specs.Size.{wrongSize, outside}
+use Rattle.wire.specs.Geometry.{countOf}
 use Rattle.wire.specs.Message.{short}
 use Rattle.machine.specs.declared.state.Device.{Device}
 use Rattle.machine.specs.declared.state.Answer.{Answer}
 use Rattle.machine.specs.declared.state.Answer.the-variants.{Accepted, Refused}
-use Rattle.machine.specs.Refusals.{noKind, ofManifest}
+use Rattle.machine.specs.Refusals.{noKind, tooSmall, ofManifest, ofSuccessor}
 use Rattle.machine.specs.Step.{answerOf}
 use Rattle.machine.proofs.RefusalLaws.{testOf, clear, answer-none, answer-some, Passes, behind-piece, in-piece}
 
@@ -56,10 +57,19 @@ pub size-passed : (d : Device) (s : Manifest) {a : Answer} → a ≡ answerOf (f
 unfolding ofManifest testOf
 size-passed d s e q = clear refusal.Size (ofManifest d s) (answer-none (firstThatApplies (ofManifest d s)) (sym e ∙ q))
 
+-- So has an update's that passed its first tests, and it has room and a number within.
+pub successor-passed : (d : Device) (f : List ℕ) (s : Manifest) (i : ℕ) {a : Answer} → a ≡ answerOf (firstThatApplies (ofSuccessor d f s i)) → a ≡ Accepted
+    → (wrongSize (s .«block_len») (s .«image_len») ≡ false) × (tooSmall s f ≡ false) × (outside (countOf s) i ≡ false)
+unfolding ofSuccessor ofManifest testOf
+successor-passed d f s i e q =
+    let a = answer-none (firstThatApplies (ofSuccessor d f s i)) (sym e ∙ q) in
+    (clear refusal.Size (ofSuccessor d f s i) a, clear refusal.Area (ofSuccessor d f s i) a, clear refusal.Turn (ofSuccessor d f s i) a)
+
 -- Every message is long enough for an unknown kind.
 pub known-short : (k : Kind) (m : List ℕ) → short k m ≡ true → noKind k ≡ false
 unfolding short noKind
 known-short Program m e = refl
 known-short Block m e = refl
 known-short Update m e = refl
+known-short PathUpdate m e = refl
 known-short Unknown m e = absurd (let l = ltb-true (length m) 0 e in omega arith)

@@ -14,8 +14,8 @@ ghost use Rattle.sha256.specs.Sha256.{digest};
 ghost use Rattle.merkle.specs.Limits.{maxBlocks};
 ghost use Rattle.lms.specs.Lms.{valid};
 ghost use Rattle.wire.specs.declared.kind.Kind.the-variants as kinds;
-ghost use Rattle.wire.specs.Geometry.{withBlock};
-ghost use Rattle.wire.specs.Message.{leastLength};
+ghost use Rattle.wire.specs.Geometry.{countOf, programLength, withBlock};
+ghost use Rattle.wire.specs.Message.{leastLength, manifestIn, updateNumber, leastUpdate};
 ghost use Rattle.wire.specs.Message as messages;
 ghost use Rattle.machine.specs.Step.{acceptProgram, stageAfter, acceptBlock, acceptUpdate, refusalOf};
 ghost use Rattle.machine.specs.Step as spec;
@@ -29,6 +29,7 @@ pub fn accept(device: Device, kind: Kind, flash: &mut [u8], message: &[u8]) -> D
         Kind::Program => accept_program(device, message),
         Kind::Block => accept_block(device, flash, message),
         Kind::Update => accept_update(device, flash, message),
+        Kind::PathUpdate => accept_update(device, flash, message),
         // Never accepted; the definition has this arm too.
         Kind::Unknown => device,
     }
@@ -99,9 +100,10 @@ fn accept_block(device: Device, flash: &mut [u8], message: &[u8]) -> Device
     }
 }
 
-// Kind 3.
+// Kinds 3 and 4.
 fn accept_update(device: Device, flash: &mut [u8], message: &[u8]) -> Device
-    requires { ⌜ (messages.kind (now message) ≡ kinds.Update) × (refusalOf digest valid device (now flash) (now message) ≡ none) ⌝ }
+    requires { ⌜ (leastUpdate (manifestIn (now message) .«block_len») (manifestIn (now message) .«image_len») (updateNumber (now message)) ≤ length (now message))
+        × (programLength (manifestIn (now message)) ≤ length (now flash)) × (0 < updateNumber (now message)) × (updateNumber (now message) ≤ countOf (manifestIn (now message))) ⌝ }
     ensures { λ r. ⌜ acceptUpdate device (now (flash .entry)) (now (message .entry)) ≡ record { device = r; flash = now (flash .exit) } ⌝ }
 {
     let manifest = wire::manifest_in(message);

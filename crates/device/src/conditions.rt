@@ -1,4 +1,4 @@
-// When each refusal is given: a test for each, but for 2, 3 and the 12 of kind 3, which stand in `judge`.
+// When each refusal is given: a test for each, but for 2, 3 and the 12 of kinds 3 and 4, which stand in `judge`.
 use machine::Device;
 use machine::Stage;
 use wire::Manifest;
@@ -12,7 +12,7 @@ ghost use Rattle.wire.specs.declared.kind.Kind.the-variants as kinds;
 ghost use Rattle.wire.specs.Size.{wrongSize};
 ghost use Rattle.wire.specs.Size as size;
 ghost use Rattle.wire.specs.Geometry.{countOf, blockLength, programLength, withBlock};
-ghost use Rattle.wire.specs.Message.{leastLength};
+ghost use Rattle.wire.specs.Message.{leastLength, leastPath};
 ghost use Rattle.machine.specs.declared.state.Stage.the-variants.{Loading};
 ghost use Rattle.machine.specs.Device.{serialOf, nextOf};
 ghost use Rattle.machine.specs.Refusals.{wrongVersion, otherModel, notNewer, tooSmall, notLoading, notComplete, notNext, wrongLength};
@@ -224,4 +224,17 @@ pub fn lacks_root(manifest: Manifest, flash: &[u8], number: u16, block: &[u8]) -
         block,
     );
     !octets::equal(&found, &root)
+}
+
+// 15 and 14, kind 4: the block with the message's siblings does not lead to the root.
+pub fn strays(manifest: Manifest, number: u16, block: &[u8], message: &[u8], root: &[u8]) -> bool
+    requires { ⌜ (wrongSize (manifest .«block_len») (manifest .«image_len») ≡ false) × (size.outside (countOf manifest) number ≡ false) × (leastPath (manifest .«block_len») (manifest .«image_len») number ≤ length (now message)) ⌝ }
+    ensures { λ r. ⌜ r ≡ spec.strays digest manifest number (now (block .entry)) (now (message .entry)) (now (root .entry)) ⌝ }
+{
+    let n = count(manifest);
+    let before = number as usize - 1;
+    let depth = merkle::leaf_depth(n, before);
+    let siblings = wire::path_in(message, block_len(manifest, number), depth);
+    let found = merkle::path_hash(n, before, block, siblings);
+    !octets::equal(&found, root)
 }

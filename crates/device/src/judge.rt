@@ -11,6 +11,7 @@ use crate::conditions::not_newer;
 use crate::conditions::not_next;
 use crate::conditions::other_model;
 use crate::conditions::senseless;
+use crate::conditions::strays;
 use crate::conditions::too_small;
 use crate::conditions::unlike;
 use crate::conditions::unsigned;
@@ -32,7 +33,7 @@ ghost use Rattle.wire.specs.declared.kind.Kind.the-variants as kinds;
 ghost use Rattle.wire.specs.Refusal.{firstThatApplies};
 ghost use Rattle.wire.specs.Message.{leastLength, manifestIn};
 ghost use Rattle.machine.specs.Device.{nextOf};
-ghost use Rattle.machine.specs.Refusals.{ofManifest, ofProgram, ofBlock, ofUpdate, refusals};
+ghost use Rattle.machine.specs.Refusals.{ofManifest, ofProgram, ofBlock, ofSuccessor, ofUpdate, ofPathUpdate, refusals};
 ghost use Rattle.machine.specs.Refusals as spec;
 ghost use Rattle.machine.specs.Step.{answerOf};
 
@@ -51,10 +52,11 @@ pub fn judge(device: Device, kind: Kind, flash: &[u8], message: &[u8]) -> Answer
         Kind::Program => judge_program(device, flash, message),
         Kind::Block => judge_block(device, flash, message),
         Kind::Update => judge_update(device, flash, message),
+        Kind::PathUpdate => judge_path_update(device, flash, message),
     }
 }
 
-// A new manifest, in kind 1 or kind 3: 4, 5, 6, 7.
+// A new manifest, in kind 1, 3 or 4: 4, 5, 6, 7.
 fn judge_manifest(device: Device, manifest: Manifest) -> Answer
     ensures { λ r. ⌜ r ≡ answerOf (firstThatApplies (ofManifest device manifest)) ⌝ }
 {
@@ -122,16 +124,14 @@ fn judge_block(device: Device, flash: &[u8], message: &[u8]) -> Answer
     Answer::Accepted
 }
 
-// Kind 3: 10, 4, 5, 6, 7, 13, 8, 11, 12, 9, 14.
-fn judge_update(device: Device, flash: &[u8], message: &[u8]) -> Answer
-    requires { ⌜ leastLength kinds.Update ≤ length (now message) ⌝ }
-    ensures { λ r. ⌜ r ≡ answerOf (firstThatApplies (ofUpdate digest valid device (now (flash .entry)) (now (message .entry)) (manifestIn (now (message .entry))))) ⌝ }
+// An update of either kind: 10, 4, 5, 6, 7, 13, 8, 11.
+fn judge_successor(device: Device, flash: &[u8], manifest: Manifest, number: u16) -> Answer
+    ensures { λ r. ⌜ r ≡ answerOf (firstThatApplies (ofSuccessor device (now (flash .entry)) manifest number)) ⌝ }
 {
     let stage = device.stage;
     if not_complete(stage) {
         return Answer::Refused(Refusal::Stage);
     }
-    let manifest = wire::manifest_in(message);
     let first = judge_manifest(device, manifest);
     let Answer::Accepted = first else {
         return first;
@@ -143,10 +143,23 @@ fn judge_update(device: Device, flash: &[u8], message: &[u8]) -> Answer
     if too_small(manifest, flash) {
         return Answer::Refused(Refusal::Area);
     }
-    let number = wire::update_number(message);
     if wire::outside(count(manifest), number as usize) {
         return Answer::Refused(Refusal::Turn);
     }
+    Answer::Accepted
+}
+
+// Kind 3: these, then 12, 9, 14.
+fn judge_update(device: Device, flash: &[u8], message: &[u8]) -> Answer
+    requires { ⌜ leastLength kinds.Update ≤ length (now message) ⌝ }
+    ensures { λ r. ⌜ r ≡ answerOf (firstThatApplies (ofUpdate digest valid device (now (flash .entry)) (now (message .entry)) (manifestIn (now (message .entry))))) ⌝ }
+{
+    let manifest = wire::manifest_in(message);
+    let number = wire::update_number(message);
+    let first = judge_successor(device, flash, manifest, number);
+    let Answer::Accepted = first else {
+        return first;
+    };
     if message.len()
         < wire::least_update(
             manifest.block_len as usize,
@@ -165,6 +178,49 @@ fn judge_update(device: Device, flash: &[u8], message: &[u8]) -> Answer
         return Answer::Refused(Refusal::Unsigned);
     }
     if lacks_root(manifest, flash, number, wire::update_block(message, len)) {
+        return Answer::Refused(Refusal::Mismatch);
+    }
+    Answer::Accepted
+}
+
+// Kind 4: the same, then 12, 9, 15, 14.
+fn judge_path_update(device: Device, flash: &[u8], message: &[u8]) -> Answer
+    requires { ⌜ leastLength kinds.Update ≤ length (now message) ⌝ }
+    ensures { λ r. ⌜ r ≡ answerOf (firstThatApplies (ofPathUpdate digest valid device (now (flash .entry)) (now (message .entry)) (manifestIn (now (message .entry))))) ⌝ }
+{
+    let manifest = wire::manifest_in(message);
+    let number = wire::update_number(message);
+    let first = judge_successor(device, flash, manifest, number);
+    let Answer::Accepted = first else {
+        return first;
+    };
+    let block_len = manifest.block_len as usize;
+    if message.len() < wire::least_path(block_len, manifest.image_len as usize, number as usize) {
+        return Answer::Refused(Refusal::Length);
+    }
+    let len = crate::conditions::block_len(manifest, number);
+    let depth = merkle::leaf_depth(count(manifest), number as usize - 1);
+    if unsigned(
+        device,
+        wire::manifest_bytes(message),
+        wire::path_signature(message, len, depth),
+    ) {
+        return Answer::Refused(Refusal::Unsigned);
+    }
+    let from = (number as usize - 1) * block_len;
+    let end = from + len;
+    let held = device.manifest.root;
+    if strays(manifest, number, &flash[from..end], message, &held) {
+        return Answer::Refused(Refusal::Path);
+    }
+    let root = manifest.root;
+    if strays(
+        manifest,
+        number,
+        wire::update_block(message, len),
+        message,
+        &root,
+    ) {
         return Answer::Refused(Refusal::Mismatch);
     }
     Answer::Accepted

@@ -16,7 +16,7 @@ use Rattle.machine.specs.declared.state.Device.{Device}
 use Rattle.machine.specs.Device.{nextOf, Situation}
 use Rattle.machine.specs.Flash.{stored, updated}
 use Rattle.machine.specs.Step.{acceptProgram, acceptBlock, acceptUpdate, accept}
-use Rattle.machine.proofs.RefusalLaws.{BlockPassed, UpdatePassed, Passed, took-program, took-block, took-update, passed}
+use Rattle.machine.proofs.RefusalLaws.{BlockPassed, Successor, path-block, Passed, took-program, took-block, took-update, took-path, passed}
 use Rattle.guarantee.specs.Run.{Messages, _▷_}
 use Rattle.guarantee.proofs.RunLaws.{now, refusalAt, more, same}
 
@@ -39,19 +39,20 @@ module _ (H : List ℕ → List ℕ) (valid : (key message signature : List ℕ)
         let size : ℕ = blockLength (s .«block_len») (s .«image_len») i in
         behind-block s i flash (blockIn size m) (p .awaited .low) (p .awaited .high) (p .room) (length-block size m (omega (arith, p .long)))
 
-    kept-update : UpdatePassed H valid d flash m → Kept (acceptUpdate d flash m)
+    kept-update : {least : ℕ} {signature : List ℕ} → Successor H valid d flash m least signature → leastUpdate (manifestIn m .«block_len») (manifestIn m .«image_len») (updateNumber m) ≤ length m → Kept (acceptUpdate d flash m)
     unfolding acceptUpdate updated leastUpdate
-    kept-update p =
+    kept-update p long =
         let s : Manifest = manifestIn m in
         let i : ℕ = updateNumber m in
         let size : ℕ = blockLength (s .«block_len») (s .«image_len») i in
-        behind-block s i flash (updateBlock size m) (p .turn .0) (p .turn .1) (p .room) (length-update-block size m (p .long))
+        behind-block s i flash (updateBlock size m) (p .turn .0) (p .turn .1) (p .room) (length-update-block size m long)
 
     kept : Passed H valid d flash m → Kept (accept (kind m) d flash m)
     unfolding accept acceptProgram
     kept (took-program q p) = rw q refl
     kept (took-block q p) = rw q (kept-block p)
-    kept (took-update q p) = rw q (kept-update p)
+    kept (took-update q p) = rw q (kept-update (p .successor) (p .successor .long))
+    kept (took-path q p) = rw q (kept-update (p .successor) (path-block H valid d flash m p))
 
   pub beyond : (d : Device) (flash : List ℕ) (ms : Messages) (m : List ℕ)
       → (let s = now H valid d flash (ms ▷ m) .device .manifest in drop (programLength s) (now H valid d flash (ms ▷ m) .flash) ≡ drop (programLength s) (now H valid d flash ms .flash))

@@ -1,10 +1,10 @@
 -- What every list of messages keeps, from a fresh device on: the invariant behind demand 3's first half.
 use mathlib.Core.Path.{_≡_, refl, sym, ap, _∙_, subst}
-use mathlib.Core.Logic.{_⊎_, inl, inr}
+use mathlib.Core.Logic.{_⊎_, inl, inr, ⊎-elim}
 use mathlib.Core.Bool.{Bool, true, false, cond, true≢false}
-use mathlib.Core.List.{List}
+use mathlib.Core.List.{List, _∷_}
 use mathlib.Core.Option.{none, some}
-use Prim.Native.Nat.{ℕ, zero, suc, _*_, _≤_, _<_}
+use Prim.Native.Nat.{ℕ, zero, suc, pred, _*_, _≤_, _<_}
 use native.Mathlib.Omega.{arith}
 use lib.Dec.{ltb}
 use lib.ListN.{length}
@@ -12,16 +12,17 @@ use borrow.Author.Tests.{not-false, lt-ltb, le-ltb}
 use Rattle.merkle.specs.Limits.{maxBlocks, hashLength, heldBytes}
 use Rattle.merkle.specs.Shape.{shape}
 use Rattle.merkle.specs.Frontier.{carriedCount}
+use Rattle.merkle.specs.Path.{leafDepth}
 use Rattle.merkle.specs.Held.{heldIn, advanced, fits}
 use Rattle.merkle.specs.Hash.{plain}
 use Rattle.merkle.proofs.ShapeLaws.{lt-or-le, size-shape}
 use Rattle.merkle.proofs.HeldLaws.{begun-held, length-begun, all-held, advance}
 use Rattle.merkle.proofs.LoadingLaws.{Loaded, loaded-start, loaded-end}
 use Rattle.merkle.proofs.FitsLaws.{loaded-fits}
-use Rattle.wire.specs.declared.kind.Kind.the-variants.{Program, Block, Update}
+use Rattle.wire.specs.declared.kind.Kind.the-variants.{Program, Block, Update, PathUpdate}
 use Rattle.wire.specs.declared.manifest.Manifest.{Manifest}
 use Rattle.wire.specs.Geometry.{countOf, blockLength, programLength, blocksOf, withBlock, treeOver}
-use Rattle.wire.specs.Message.{kind, carries, manifestBytes, manifestIn, programSignature, blockIn, hashesAfter, updateNumber, updateBlock, updateSignature, dueLength, leastUpdate}
+use Rattle.wire.specs.Message.{kind, carries, manifestBytes, manifestIn, programSignature, blockIn, hashesAfter, updateNumber, updateBlock, updateSignature, pathSignature, dueLength, leastUpdate}
 use Rattle.wire.proofs.SizeLaws.{Sized}
 use Rattle.wire.proofs.GeometryLaws.{length-with, with-here, with-before}
 use Rattle.wire.proofs.MessageLaws.{length-root, length-block, length-update-block, Due, due}
@@ -32,9 +33,11 @@ use Rattle.machine.specs.Device.{nextOf, Situation}
 use Rattle.machine.specs.Flash.{stored, updated}
 use Rattle.machine.specs.Refusals.{notLoading, notComplete, mismatch}
 use Rattle.machine.specs.Step.{acceptProgram, stageAfter, acceptBlock, acceptUpdate, accept}
-use Rattle.guarantee.specs.Run.{Messages, _▷_, lastProgram, blocksSince, lastCarrier, signatureIn}
-use Rattle.machine.proofs.RefusalLaws.{ProgramPassed, BlockPassed, UpdatePassed, Passed, took-program, took-block, took-update}
+use Rattle.guarantee.specs.Run.{Messages, _▷_, Taken, lastProgram, blocksSince, lastCarrier, signatureIn}
+use Rattle.machine.proofs.RefusalLaws.{ProgramPassed, BlockPassed, Successor, PathPassed, path-block, Passed, took-program, took-block, took-update, took-path}
 use Rattle.machine.proofs.HeldLaws.{mismatch-is}
+use Rattle.guarantee.specs.Demand3.{Clash, Misled}
+use Rattle.guarantee.proofs.PathLaws.{path-tree}
 
 -- what an accepted message of each kind adds to the list of those accepted
 module _ (ms : Messages) (m : List ℕ) where
@@ -50,6 +53,12 @@ module _ (ms : Messages) (m : List ℕ) where
       → (lastProgram (ms ▷ m) ≡ lastProgram ms) × (blocksSince (ms ▷ m) ≡ blocksSince ms) × (lastCarrier (ms ▷ m) ≡ some m) × (signatureIn m ≡ updateSignature (blockLength (manifestIn m .«block_len») (manifestIn m .«image_len») (updateNumber m)) m)
   unfolding lastProgram blocksSince lastCarrier carries signatureIn
   with-update e = (rw (e, lastProgram), rw (e, blocksSince), rw (e, lastCarrier), rw (e, signatureIn))
+
+  pub with-path : kind m ≡ PathUpdate
+      → (lastProgram (ms ▷ m) ≡ lastProgram ms) × (blocksSince (ms ▷ m) ≡ blocksSince ms) × (lastCarrier (ms ▷ m) ≡ some m)
+      × (let s = manifestIn m in signatureIn m ≡ pathSignature (blockLength (s .«block_len») (s .«image_len») (updateNumber m)) (leafDepth (countOf s) (pred (updateNumber m))) m)
+  unfolding lastProgram blocksSince lastCarrier carries signatureIn
+  with-path e = (rw (e, lastProgram), rw (e, blocksSince), rw (e, lastCarrier), rw (e, signatureIn))
 
 module _ (H : List ℕ → List ℕ) (valid : (key message signature : List ℕ) → Bool) (key : List ℕ) where
   -- the last accepted message that carries a manifest has this one, and it was signed
@@ -71,32 +80,33 @@ module _ (H : List ℕ → List ℕ) (valid : (key message signature : List ℕ)
     pub loaded : Loaded (plain H) (shape (countOf s)) (s .root) k (blocksOf s flash) (heldIn (countOf s) k array)
 
   -- complete; first is the manifest of the last program message, before any update
-  pub record InComplete (s : Manifest) (flash : List ℕ) (taken : Messages) : Type 0 where
+  pub record InComplete (s : Manifest) (flash : List ℕ) (taken : Messages) (story : List Taken) : Type 0 where
     pub size : Sized (s .«block_len») (s .«image_len»)
     pub room : programLength s ≤ length flash
     pub carries : Carried taken s
     pub first : Manifest
     pub last : lastProgram taken ≡ some first
     pub all : blocksSince taken ≡ countOf first
-    pub rooted : treeOver H s flash ≡ s .root
+    pub tree : (treeOver H s flash ≡ s .root) ⊎ Misled H story
 
-  abbrev pub Holds : Stage → Manifest → List ℕ → List ℕ → Messages → Type 0
-  Holds Idle s array flash taken = (lastProgram taken ≡ none) × (lastCarrier taken ≡ none)
-  Holds (Loading zero) s array flash taken = ⊥
-  Holds (Loading (suc k)) s array flash taken = InLoading k s array flash taken
-  Holds Complete s array flash taken = InComplete s flash taken
+  abbrev pub Holds : Stage → Manifest → List ℕ → List ℕ → Messages → List Taken → Type 0
+  Holds Idle s array flash taken story = (lastProgram taken ≡ none) × (lastCarrier taken ≡ none)
+  Holds (Loading zero) s array flash taken story = ⊥
+  Holds (Loading (suc k)) s array flash taken story = InLoading k s array flash taken
+  Holds Complete s array flash taken story = InComplete s flash taken story
 
   -- total is the length of the flash
-  pub record Invariant (total : ℕ) (d : Device) (flash : List ℕ) (taken : Messages) : Type 0 where
+  pub record Invariant (total : ℕ) (d : Device) (flash : List ℕ) (taken : Messages) (story : List Taken) : Type 0 where
     pub same : d .key ≡ key
     pub long : length flash ≡ total
-    pub holds : Holds (d .stage) (d .manifest) (d .hashes) flash taken
+    pub holds : Holds (d .stage) (d .manifest) (d .hashes) flash taken story
 
-  module _ (total : ℕ) (d : Device) (flash m : List ℕ) (taken : Messages) (v : Invariant total d flash taken) where
-    abbrev Kept : Situation → Messages → Type 0
-    Kept s taken = Invariant total (s .device) (s .flash) taken
+  module _ (hash-long : (x : List ℕ) → length (H x) ≡ hashLength) (total : ℕ) (d : Device) (flash m : List ℕ) (taken : Messages) (story : List Taken) (v : Invariant total d flash taken story) where
+    -- after the message
+    abbrev Kept : Situation → Type 0
+    Kept s = Invariant total (s .device) (s .flash) (taken ▷ m) (record { flash = flash; message = m } ∷ story)
 
-    kept-program : kind m ≡ Program → ProgramPassed H valid d flash m → Kept (acceptProgram d flash m) (taken ▷ m)
+    kept-program : kind m ≡ Program → ProgramPassed H valid d flash m → Kept (acceptProgram d flash m)
     unfolding acceptProgram countOf
     kept-program e p =
         let s : Manifest = manifestIn m in
@@ -180,7 +190,7 @@ module _ (H : List ℕ → List ℕ) (valid : (key message signature : List ℕ)
       carried-on : Carried (taken ▷ m) s
       carried-on = let c = w .carries in record { carrier = c .carrier; last = with-block taken m e .2 ∙ c .last; manifest = c .manifest; signed = c .signed }
 
-      next-stage : Holds (stageAfter n (suc k)) s array' flash' (taken ▷ m)
+      next-stage : Holds (stageAfter n (suc k)) s array' flash' (taken ▷ m) (record { flash = flash; message = m } ∷ story)
       unfolding stageAfter
       next-stage = go (lt-or-le (suc k) n)
         where
@@ -190,7 +200,7 @@ module _ (H : List ℕ → List ℕ) (valid : (key message signature : List ℕ)
           last : lastProgram (taken ▷ m) ≡ some s
           last = with-block taken m e .0 ∙ w .last
 
-          go : (suc k < n) ⊎ (n ≤ suc k) → Holds (cond (ltb (suc k) n) (Loading (suc (suc k))) Complete) s array' flash' (taken ▷ m)
+          go : (suc k < n) ⊎ (n ≤ suc k) → Holds (cond (ltb (suc k) n) (Loading (suc (suc k))) Complete) s array' flash' (taken ▷ m) (record { flash = flash; message = m } ∷ story)
           go (inl g) =
               rw (lt-ltb (suc k) n g)
               (record {
@@ -213,14 +223,14 @@ module _ (H : List ℕ → List ℕ) (valid : (key message signature : List ℕ)
                 first = s;
                 last = last;
                 all = since ∙ q;
-                rooted = last-loaded q;
+                tree = inl (last-loaded q);
               })
 
-    kept-block : kind m ≡ Block → BlockPassed H valid d flash m → Kept (acceptBlock d flash m) (taken ▷ m)
+    kept-block : kind m ≡ Block → BlockPassed H valid d flash m → Kept (acceptBlock d flash m)
     unfolding acceptBlock stored nextOf notLoading
     kept-block e p = go (d .stage) refl (v .holds)
       where
-        go : (t : Stage) → d .stage ≡ t → Holds t (d .manifest) (d .hashes) flash taken → Kept (acceptBlock d flash m) (taken ▷ m)
+        go : (t : Stage) → d .stage ≡ t → Holds t (d .manifest) (d .hashes) flash taken story → Kept (acceptBlock d flash m)
         go Idle q w = absurd (true≢false (rw q at (p .loading)))
         go (Loading zero) q w = absurd w
         go (Loading (suc k)) q w =
@@ -229,43 +239,60 @@ module _ (H : List ℕ → List ℕ) (valid : (key message signature : List ℕ)
             rw q (record { same = v .same; long = flash-long k e q l f w ∙ v .long; holds = next-stage k e q l f w })
         go Complete q w = absurd (true≢false (rw q at (p .loading)))
 
-    length-updated : UpdatePassed H valid d flash m → length (updated (manifestIn m) flash m) ≡ length flash
-    unfolding updated leastUpdate
-    length-updated p = go (updateNumber m) (p .turn) (length-update-block _ m (p .long))
+    -- an update of either kind
+    module _ {least : ℕ} {signature : List ℕ} (p : Successor H valid d flash m least signature)
+        (long : leastUpdate (manifestIn m .«block_len») (manifestIn m .«image_len») (updateNumber m) ≤ length m) where
+      length-updated : length (updated (manifestIn m) flash m) ≡ length flash
+      unfolding updated leastUpdate
+      length-updated = go (updateNumber m) (p .turn) (length-update-block _ m long)
+        where
+          size : ℕ → ℕ
+          size i = blockLength (manifestIn m .«block_len») (manifestIn m .«image_len») i
+
+          go : (i : ℕ) → (0 < i) × (i ≤ countOf (manifestIn m)) → length (updateBlock (size i) m) ≡ size i → length (withBlock (manifestIn m .«block_len») flash i (updateBlock (size i) m)) ≡ length flash
+          go zero t l = absurd (omega arith)
+          go (suc i) t l = length-with (manifestIn m) i flash (t .1) (p .room) (updateBlock (size (suc i)) m) l
+
+      kept-update : (lastProgram (taken ▷ m) ≡ lastProgram taken) × (blocksSince (taken ▷ m) ≡ blocksSince taken) × (lastCarrier (taken ▷ m) ≡ some m) × (signatureIn m ≡ signature)
+          → (d .stage ≡ Complete → InComplete (d .manifest) flash taken story
+          → (treeOver H (manifestIn m) (updated (manifestIn m) flash m) ≡ manifestIn m .root) ⊎ Misled H (record { flash = flash; message = m } ∷ story))
+          → Kept (acceptUpdate d flash m)
+      unfolding acceptUpdate notComplete
+      kept-update a tree = go (d .stage) refl (v .holds)
+        where
+          go : (t : Stage) → d .stage ≡ t → Holds t (d .manifest) (d .hashes) flash taken story → Kept (acceptUpdate d flash m)
+          go Idle q w = absurd (true≢false (rw q at (p .complete)))
+          go (Loading i) q w = absurd (true≢false (rw q at (p .complete)))
+          go Complete q w =
+              record {
+                same = v .same;
+                long = length-updated ∙ v .long;
+                holds = rw q
+                    (record {
+                      size = p .size;
+                      room = rw length-updated (p .room);
+                      carries = record { carrier = m; last = a .2; manifest = refl; signed = rw (a .3) (rw (v .same) at (p .signed)) };
+                      first = w .first;
+                      last = a .0 ∙ w .last;
+                      all = a .1 ∙ w .all;
+                      tree = tree q w;
+                    });
+              }
+
+    -- a path update keeps the root, or misleads, or the device was misled before
+    path-kept : kind m ≡ PathUpdate → PathPassed H valid d flash m → InComplete (d .manifest) flash taken story
+        → (treeOver H (manifestIn m) (updated (manifestIn m) flash m) ≡ manifestIn m .root) ⊎ Misled H (record { flash = flash; message = m } ∷ story)
+    unfolding Misled
+    path-kept q p w = rw (q, Misled) (go (w .tree))
       where
-        size : ℕ → ℕ
-        size i = blockLength (manifestIn m .«block_len») (manifestIn m .«image_len») i
+        go : (treeOver H (d .manifest) flash ≡ d .manifest .root) ⊎ Misled H story
+            → (treeOver H (manifestIn m) (updated (manifestIn m) flash m) ≡ manifestIn m .root) ⊎ (Clash H (record { flash = flash; message = m }) ⊎ Misled H story)
+        go (inl e) = ⊎-elim (λ r. inl r) (λ c. inr (inl c)) (path-tree H hash-long valid d flash m p e)
+        go (inr c) = inr (inr c)
 
-        go : (i : ℕ) → (0 < i) × (i ≤ countOf (manifestIn m)) → length (updateBlock (size i) m) ≡ size i → length (withBlock (manifestIn m .«block_len») flash i (updateBlock (size i) m)) ≡ length flash
-        go zero t l = absurd (omega arith)
-        go (suc i) t l = length-with (manifestIn m) i flash (t .1) (p .room) (updateBlock (size (suc i)) m) l
-
-    kept-update : kind m ≡ Update → UpdatePassed H valid d flash m → Kept (acceptUpdate d flash m) (taken ▷ m)
-    unfolding acceptUpdate notComplete
-    kept-update e p = go (d .stage) refl (v .holds)
-      where
-        go : (t : Stage) → d .stage ≡ t → Holds t (d .manifest) (d .hashes) flash taken → Kept (acceptUpdate d flash m) (taken ▷ m)
-        go Idle q w = absurd (true≢false (rw q at (p .complete)))
-        go (Loading i) q w = absurd (true≢false (rw q at (p .complete)))
-        go Complete q w =
-            let a = with-update taken m e in
-            record {
-              same = v .same;
-              long = length-updated p ∙ v .long;
-              holds = rw q
-                  (record {
-                    size = p .size;
-                    room = rw (length-updated p) (p .room);
-                    carries = record { carrier = m; last = a .2; manifest = refl; signed = rw (a .3) (rw (v .same) at (p .signed)) };
-                    first = w .first;
-                    last = a .0 ∙ w .last;
-                    all = a .1 ∙ w .all;
-                    rooted = p .rooted;
-                  });
-            }
-
-    pub kept : Passed H valid d flash m → Kept (accept (kind m) d flash m) (taken ▷ m)
+    pub kept : Passed H valid d flash m → Kept (accept (kind m) d flash m)
     unfolding accept
     kept (took-program q p) = rw q (kept-program q p)
     kept (took-block q p) = rw q (kept-block q p)
-    kept (took-update q p) = rw q (kept-update q p)
+    kept (took-update q p) = rw q (kept-update (p .successor) (p .successor .long) (with-update taken m q) (λ c w. inl (p .rooted)))
+    kept (took-path q p) = rw q (kept-update (p .successor) (path-block H valid d flash m p) (with-path taken m q) (λ c w. path-kept q p w))

@@ -1,3 +1,4 @@
+pub mod PathLaws
 pub mod InvariantLaws
 pub mod RunLaws
 pub mod BeyondLaws

@@ -22,7 +22,7 @@ use Rattle.machine.specs.declared.state.Device.{Device}
 use Rattle.machine.specs.declared.state.Answer.the-variants.{Accepted}
 use Rattle.machine.specs.Device.{nextOf, Situation}
 use Rattle.machine.specs.Flash.{stored, updated}
-use Rattle.machine.specs.Refusals.{tooSmall, notLoading, ofBlock, ofUpdate, ofKind, refusals}
+use Rattle.machine.specs.Refusals.{tooSmall, notLoading, ofBlock, ofSuccessor, ofUpdate, ofKind, refusals}
 use Rattle.machine.specs.Step.{stageAfter, acceptBlock, acceptUpdate, accept, answerOf, refusalOf, step}
 use Rattle.machine.proofs.RefusalLaws.{BlockPassed, block-passed, UpdatePassed, update-passed}
 use Rattle.guarantee.specs.Run.{Messages, empty, _▷_, after, answerTo}
@@ -38,7 +38,7 @@ module _ (H : List ℕ → List ℕ) (valid : (key message signature : List ℕ)
   -- an update's also the flash that it would leave
   update-refusal : (d : Device) (f g m : List ℕ) → kind m ≡ Update → length f ≡ length g → updated (manifestIn m) f m ≡ updated (manifestIn m) g m
       → refusalOf H valid d f m ≡ refusalOf H valid d g m
-  unfolding refusalOf refusals ofKind ofUpdate tooSmall
+  unfolding refusalOf refusals ofKind ofSuccessor ofUpdate tooSmall
   update-refusal d f g m e long after = rw (e, long, after)
 
   update-is : (d : Device) (f m : List ℕ) → kind m ≡ Update → refusalOf H valid d f m ≡ none
@@ -58,7 +58,7 @@ module _ (H : List ℕ → List ℕ) (valid : (key message signature : List ℕ)
       let s : Manifest = manifestIn m in
       let i : ℕ = updateNumber m in
       let size : ℕ = blockLength (s .«block_len») (s .«image_len») i in
-      with-same (s .«block_len») i f g (updateBlock size m) before (rw (length-update-block size m (p .long)) behind)
+      with-same (s .«block_len») i f g (updateBlock size m) before (rw (length-update-block size m (p .successor .long)) behind)
 
   pub torn-update : TornUpdate H valid
   unfolding after answerTo

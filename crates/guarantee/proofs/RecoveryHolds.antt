@@ -25,13 +25,13 @@ use Rattle.machine.specs.declared.state.Answer.the-variants.{Accepted, Refused}
 use Rattle.machine.specs.Device.{Situation, Outcome}
 use Rattle.machine.specs.Refusals.{wrongVersion, senseless, notLoading, notComplete}
 use Rattle.machine.specs.Step.{answerOf, refusalOf, step}
-use Rattle.machine.proofs.RefusalLaws.{answer-none, Passed, took-program, took-block, took-update, passed}
+use Rattle.machine.proofs.RefusalLaws.{answer-none, Successor, Passed, took-program, took-block, took-update, took-path, passed}
 use Rattle.machine.proofs.SenseLaws.{sense-idle, sense-loading, sense-complete}
-use Rattle.guarantee.specs.Run.{Messages, empty, _▷_, after, answerTo, accepted, lastProgram, blocksSince, lastCarrier, Completed}
+use Rattle.guarantee.specs.Run.{Messages, empty, _▷_, after, answerTo, accepted, lastProgram, blocksSince, lastCarrier, signatureIn, Completed}
 use Rattle.guarantee.specs.Demand3.{thenBlocks, Calls, Begun, Honest, begin, next, Loaded, Claim, SecondHalf, Demand3}
 use Rattle.guarantee.specs.Claims.{MakesSense}
 use Rattle.guarantee.specs.Recovery.{Offered, Recovers, Recovery, RecoveryFrom}
-use Rattle.guarantee.proofs.InvariantLaws.{with-program, with-block, with-update}
+use Rattle.guarantee.proofs.InvariantLaws.{with-program, with-block, with-update, with-path}
 use Rattle.guarantee.proofs.RunLaws.{calls}
 use Rattle.guarantee.proofs.SecondHalf.{second-half}
 use Rattle.guarantee.proofs.Demand3Holds.{demand3}
@@ -83,6 +83,13 @@ module _ (H : List ℕ → List ℕ) (valid : (key message signature : List ℕ)
   abbrev is-complete : (ms : Messages) (s : Manifest) → lastProgram (taken ms) ≡ some s → blocksSince (taken ms) ≡ countOf s → at ms .device .stage ≡ Complete
   is-complete ms s e h = claim ms .first .exactly .1 (record { manifest = s; last = e; all = h })
 
+  after-update : (ms : Messages) (m : List ℕ) {least : ℕ} {signature : List ℕ} → Successor H valid (at ms .device) (at ms .flash) m least signature
+      → (lastProgram (taken ms ▷ m) ≡ lastProgram (taken ms)) × (blocksSince (taken ms ▷ m) ≡ blocksSince (taken ms)) × (lastCarrier (taken ms ▷ m) ≡ some m) × (signatureIn m ≡ signature)
+      → Standing (taken ms ▷ m)
+  after-update ms m p a =
+      let c : Completed (taken ms) = claim ms .first .exactly .0 (not-complete (at ms .device .stage) (p .complete)) in
+      complete (c .manifest) m (a .0 ∙ c .last) (a .2) (p .version) (p .size) (a .1 ∙ c .all)
+
   more : (ms : Messages) (m : List ℕ) → Passed H valid (at ms .device) (at ms .flash) m → Standing (taken ms) → Standing (taken ms ▷ m)
   more ms m (took-program k p) t =
       let a = with-program (taken ms) m k in
@@ -97,10 +104,8 @@ module _ (H : List ℕ → List ℕ) (valid : (key message signature : List ℕ)
       go (inl l) = loading s c (a .0 ∙ e) (a .2 ∙ f) i v z (rw (a .1) l)
       go (inr l) = complete s c (a .0 ∙ e) (a .2 ∙ f) v z (a .1 ∙ omega arith)
   more ms m (took-block k p) (complete s c e f v z h) = absurd (not-done (at ms .device .stage) (p .loading) (is-complete ms s e h))
-  more ms m (took-update k p) t =
-      let a = with-update (taken ms) m k in
-      let c : Completed (taken ms) = claim ms .first .exactly .0 (not-complete (at ms .device .stage) (p .complete)) in
-      complete (c .manifest) m (a .0 ∙ c .last) (a .2) (p .version) (p .size) (a .1 ∙ c .all)
+  more ms m (took-update k p) t = after-update ms m (p .successor) (with-update (taken ms) m k)
+  more ms m (took-path k p) t = after-update ms m (p .successor) (with-path (taken ms) m k)
 
   standing : (ms : Messages) → Standing (taken ms)
   unfolding accepted lastProgram

@@ -15,7 +15,7 @@ use Rattle.merkle.specs.Shape.{size, leastFrom, depth, split, build, shape}
 use Rattle.merkle.specs.Hash.{hash, hashes, climbFrom, climb}
 use Rattle.merkle.specs.Frontier.{largest, rightSiblings, siblings, carriedCount, frontier, heldCount}
 use Rattle.merkle.specs.Held.{hashesIn, heldStart, heldIn, nextHeld, begun, advanced, fits, sent}
-use Rattle.wire.specs.declared.kind.Kind.the-variants.{Program, Block, Update, Unknown}
+use Rattle.wire.specs.declared.kind.Kind.the-variants.{Program, Block, Update, PathUpdate, Unknown}
 use Rattle.wire.specs.declared.manifest.Manifest.{Manifest}
 use Rattle.wire.specs.declared.refusal.Refusal.the-variants as refusal
 use Rattle.wire.specs.Refusal.{firstThatApplies}
@@ -31,10 +31,10 @@ use Rattle.machine.specs.declared.state.Device.{Device}
 use Rattle.machine.specs.declared.state.Answer.the-variants.{Accepted, Refused}
 use Rattle.machine.specs.Device.{Fresh, serialOf, nextOf, heldBy, Outcome}
 use Rattle.machine.specs.Flash.{stored, updated}
-use Rattle.machine.specs.Refusals.{wrongVersion, senseless, noKind, otherModel, notNewer, tooSmall, notLoading, notComplete, notNext, wrongLength, unlike, mismatch, lacksRoot, unsigned, ofManifest, always, ofProgram, ofBlock, ofUpdate, ofKind, refusals}
+use Rattle.machine.specs.Refusals.{wrongVersion, senseless, noKind, otherModel, notNewer, tooSmall, notLoading, notComplete, notNext, wrongLength, unlike, mismatch, lacksRoot, unsigned, strays, ofManifest, always, ofProgram, ofBlock, ofSuccessor, ofUpdate, ofPathUpdate, ofKind, refusals}
 use Rattle.machine.specs.Step.{acceptProgram, stageAfter, acceptBlock, acceptUpdate, accept, answerOf, outcome, refusalOf, step}
-use Rattle.guarantee.specs.Run.{Messages, empty, _▷_, after, answerTo, accepted, lastProgram, blocksSince, lastCarrier, signatureIn}
-use Rattle.guarantee.specs.Demand3.{thenBlocks, Demand3}
+use Rattle.guarantee.specs.Run.{Messages, empty, _▷_, after, answerTo, accepted, history, lastProgram, blocksSince, lastCarrier, signatureIn}
+use Rattle.guarantee.specs.Demand3.{Misled, thenBlocks, Demand3}
 use Rattle.guarantee.proofs.Demand3Holds.{demand3-for}
 
 abbrev pub Step : Type 0
@@ -98,7 +98,7 @@ butFlash o f = elim (o .answer) [ Accepted ↦ record { answer = Accepted; devic
 
 -- a device with a step for each kind
 unfoldable pub byKind : Step → Step → Step → Step
-byKind p b u d f m = elim (kind m) [ Program ↦ p d f m | Block ↦ b d f m | Update ↦ u d f m | Unknown ↦ right d f m ]
+byKind p b u d f m = elim (kind m) [ Program ↦ p d f m | Block ↦ b d f m | Update ↦ u d f m | PathUpdate ↦ right d f m | Unknown ↦ right d f m ]
 
 -- What the runs compute with, by layer: to unfold the last is to unfold all.
 unfoldable pub tree-computes : ℕ
@@ -114,11 +114,11 @@ unfolding count blocks rootOf manifestFor programFor blockFor updateFor
 sender-computes = 0
 
 unfoldable pub refusals-compute : ℕ
-unfolding serialOf nextOf heldBy wrongVersion senseless noKind otherModel notNewer tooSmall notLoading notComplete notNext wrongLength unlike mismatch lacksRoot unsigned always ofManifest ofProgram ofBlock ofUpdate ofKind refusals refusalOf
+unfolding serialOf nextOf heldBy wrongVersion senseless noKind otherModel notNewer tooSmall notLoading notComplete notNext wrongLength unlike mismatch lacksRoot unsigned strays always ofManifest ofProgram ofBlock ofSuccessor ofUpdate ofPathUpdate ofKind refusals refusalOf
 refusals-compute = 0
 
 unfoldable pub run-computes : ℕ
-unfolding stored updated acceptProgram stageAfter acceptBlock acceptUpdate accept outcome step after answerTo accepted lastProgram blocksSince lastCarrier signatureIn answerOf thenBlocks
+unfolding stored updated acceptProgram stageAfter acceptBlock acceptUpdate accept outcome step after answerTo accepted history Misled lastProgram blocksSince lastCarrier signatureIn answerOf thenBlocks
 run-computes = 0
 
 unfoldable pub computing : ℕ

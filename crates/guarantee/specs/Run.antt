@@ -1,13 +1,14 @@
 -- Lists of messages, and what a device makes of them (01, 'The list that demand 3 speaks of').
 use mathlib.Core.Path.{_≡_}
 use mathlib.Core.Bool.{cond}
-use mathlib.Core.List.{List, []}
+use mathlib.Core.List.{List, [], _∷_}
 use mathlib.Core.Option.{Option, none, some}
-use Prim.Native.Nat.{ℕ, suc}
-use Rattle.wire.specs.declared.kind.Kind.the-variants.{Program, Block, Update, Unknown}
+use Prim.Native.Nat.{ℕ, suc, pred}
+use Rattle.merkle.specs.Path.{leafDepth}
+use Rattle.wire.specs.declared.kind.Kind.the-variants.{Program, Block, Update, PathUpdate, Unknown}
 use Rattle.wire.specs.declared.manifest.Manifest.{Manifest}
 use Rattle.wire.specs.Geometry.{countOf, blockLength}
-use Rattle.wire.specs.Message.{kind, carries, manifestIn, programSignature, updateNumber, updateSignature}
+use Rattle.wire.specs.Message.{kind, carries, manifestIn, programSignature, updateNumber, updateSignature, pathSignature}
 use Rattle.machine.specs.declared.state.Device.{Device}
 use Rattle.machine.specs.declared.state.Answer.{Answer}
 use Rattle.machine.specs.declared.state.Answer.the-variants.{Accepted, Refused}
@@ -18,6 +19,11 @@ infixl 25 _▷_
 pub data Messages : Type 0 where
   empty : Messages
   _▷_ : Messages → List ℕ → Messages
+
+-- An accepted message, and the flash that it found.
+pub record Taken : Type 0 where
+  pub flash : List ℕ
+  pub message : List ℕ
 
 -- "Each message, of any kind or none, goes with the state that the call before it returned and the area that it left", from device d and its flash on.
 module _ (step : Device → List ℕ → List ℕ → Outcome) (d : Device) (flash : List ℕ) where
@@ -34,15 +40,20 @@ module _ (step : Device → List ℕ → List ℕ → Outcome) (d : Device) (fla
   accepted empty = empty
   accepted (ms ▷ m) = elim (answerTo ms m) [ Accepted ↦ accepted ms ▷ m | Refused r ↦ accepted ms ]
 
+  -- the same, the last one first, each with the flash that it found
+  unfoldable pub history : Messages → List Taken
+  history empty = []
+  history (ms ▷ m) = elim (answerTo ms m) [ Accepted ↦ record { flash = after ms .flash; message = m } ∷ history ms | Refused r ↦ history ms ]
+
 -- Of a list of accepted messages: the manifest of the last kind 1,
 unfoldable pub lastProgram : Messages → Option Manifest
 lastProgram empty = none
-lastProgram (ms ▷ m) = elim (kind m) [ Program ↦ some (manifestIn m) | Block ↦ lastProgram ms | Update ↦ lastProgram ms | Unknown ↦ lastProgram ms ]
+lastProgram (ms ▷ m) = elim (kind m) [ Program ↦ some (manifestIn m) | Block ↦ lastProgram ms | Update ↦ lastProgram ms | PathUpdate ↦ lastProgram ms | Unknown ↦ lastProgram ms ]
 
 -- how many kind 2 came since that,
 unfoldable pub blocksSince : Messages → ℕ
 blocksSince empty = 0
-blocksSince (ms ▷ m) = elim (kind m) [ Program ↦ 0 | Block ↦ suc (blocksSince ms) | Update ↦ blocksSince ms | Unknown ↦ blocksSince ms ]
+blocksSince (ms ▷ m) = elim (kind m) [ Program ↦ 0 | Block ↦ suc (blocksSince ms) | Update ↦ blocksSince ms | PathUpdate ↦ blocksSince ms | Unknown ↦ blocksSince ms ]
 
 -- and the last message that carries a manifest.
 unfoldable pub lastCarrier : Messages → Option (List ℕ)
@@ -53,10 +64,12 @@ lastCarrier (ms ▷ m) = cond (carries (kind m)) (some m) (lastCarrier ms)
 unfoldable pub signatureIn : List ℕ → List ℕ
 signatureIn m =
     let s = manifestIn m in
+    let k = blockLength (s .«block_len») (s .«image_len») (updateNumber m) in
     elim (kind m) [
       | Program ↦ programSignature m
       | Block ↦ []
-      | Update ↦ updateSignature (blockLength (s .«block_len») (s .«image_len») (updateNumber m)) m
+      | Update ↦ updateSignature k m
+      | PathUpdate ↦ pathSignature k (leafDepth (countOf s) (pred (updateNumber m))) m
       | Unknown ↦ []
     ]
 

@@ -3,20 +3,24 @@ use mathlib.Core.Path.{_≡_, refl, sym, _∙_, subst}
 use mathlib.Core.Bool.{Bool, true, false, _||_, cond, true≢false}
 use mathlib.Core.List.{List, [], _∷_, _++_}
 use mathlib.Core.Option.{Option, none, some}
-use Prim.Native.Nat.{ℕ, _≤_, _<_}
+use Prim.Native.Nat.{ℕ, pred, _≤_, _<_}
 use native.Mathlib.Omega.{arith}
 use lib.Dec.{eqb}
 use lib.ListN.{length}
 use borrow.Author.Tests.{eqb-true, ltb-false, not-false}
 use Rattle.octets.proofs.EqualLaws.{equal-true}
+use Rattle.merkle.specs.Shape.{shape}
+use Rattle.merkle.specs.Hash.{plain}
+use Rattle.merkle.specs.Path.{leafDepth, pathHash}
+use Rattle.merkle.specs.Held.{hashesIn}
 use Rattle.wire.specs.declared.kind.Kind.{Kind}
-use Rattle.wire.specs.declared.kind.Kind.the-variants.{Program, Block, Update, Unknown}
+use Rattle.wire.specs.declared.kind.Kind.the-variants.{Program, Block, Update, PathUpdate, Unknown}
 use Rattle.wire.specs.declared.refusal.Refusal.{Refusal}
 use Rattle.wire.specs.declared.refusal.Refusal.the-variants as refusal
 use Rattle.wire.specs.Refusal.{refusalNumber, firstThatApplies}
 use Rattle.wire.specs.Size.{wrongSize}
-use Rattle.wire.specs.Geometry.{countOf, blockLength, programLength, treeOver}
-use Rattle.wire.specs.Message.{kind, leastLength, short, manifestBytes, manifestIn, programSignature, updateNumber, updateSignature, dueLength, leastUpdate}
+use Rattle.wire.specs.Geometry.{countOf, blockLength, programLength, blocksOf, treeOver}
+use Rattle.wire.specs.Message.{kind, leastLength, short, manifestBytes, manifestIn, programSignature, updateNumber, updateBlock, updateSignature, pathIn, pathSignature, dueLength, leastUpdate, leastPath}
 use Rattle.wire.proofs.SizeLaws.{Sized, sized, or-false, inside}
 use Rattle.machine.specs.declared.state.Stage.{Stage}
 use Rattle.machine.specs.declared.state.Stage.the-variants.{Idle, Loading, Complete}
@@ -24,7 +28,7 @@ use Rattle.machine.specs.declared.state.Device.{Device}
 use Rattle.machine.specs.declared.state.Answer.the-variants.{Accepted, Refused}
 use Rattle.machine.specs.Device.{nextOf}
 use Rattle.machine.specs.Flash.{updated}
-use Rattle.machine.specs.Refusals.{wrongVersion, senseless, otherModel, notNewer, noKind, tooSmall, notLoading, notComplete, notNext, wrongLength, mismatch, lacksRoot, unsigned, ofManifest, always, ofProgram, ofBlock, ofUpdate, ofKind, refusals}
+use Rattle.machine.specs.Refusals.{wrongVersion, senseless, otherModel, notNewer, noKind, tooSmall, notLoading, notComplete, notNext, wrongLength, mismatch, unlike, lacksRoot, strays, unsigned, ofManifest, always, ofProgram, ofBlock, ofSuccessor, ofUpdate, ofPathUpdate, ofKind, refusals}
 use Rattle.machine.specs.Step.{answerOf, refusalOf}
 
 -- The test of a refusal; one that the list lacks never applies.
@@ -123,22 +127,43 @@ module _ (H : List ℕ → List ℕ) (valid : (key message signature : List ℕ)
     pub long : length m ≡ dueLength (d .manifest .«block_len») (d .manifest .«image_len») (nextOf (d .stage))
     pub same : mismatch H d (nextOf (d .stage)) m ≡ false
 
-  pub record UpdatePassed : Type 0 where
+  -- of an update of either kind, with its least length and its signature
+  pub record Successor (least : ℕ) (signature : List ℕ) : Type 0 where
     pub complete : notComplete (d .stage) ≡ false
     pub version : wrongVersion (manifestIn m) ≡ false
     pub size : Sized (manifestIn m .«block_len») (manifestIn m .«image_len»)
     pub newer : notNewer d (manifestIn m) ≡ false
+    pub alike : unlike (manifestIn m) (d .manifest) ≡ false
     pub room : programLength (manifestIn m) ≤ length flash
     pub turn : (0 < updateNumber m) × (updateNumber m ≤ countOf (manifestIn m))
-    pub long : leastUpdate (manifestIn m .«block_len») (manifestIn m .«image_len») (updateNumber m) ≤ length m
-    pub signed : valid (d .key) (manifestBytes m) (updateSignature (blockLength (manifestIn m .«block_len») (manifestIn m .«image_len») (updateNumber m)) m) ≡ true
+    pub long : least ≤ length m
+    pub signed : valid (d .key) (manifestBytes m) signature ≡ true
+
+  abbrev pub newLength : ℕ
+  newLength = blockLength (manifestIn m .«block_len») (manifestIn m .«image_len») (updateNumber m)
+
+  abbrev pub newDepth : ℕ
+  newDepth = leafDepth (countOf (manifestIn m)) (pred (updateNumber m))
+
+  pub record UpdatePassed : Type 0 where
+    pub successor : Successor (leastUpdate (manifestIn m .«block_len») (manifestIn m .«image_len») (updateNumber m)) (updateSignature newLength m)
     pub rooted : treeOver H (manifestIn m) (updated (manifestIn m) flash m) ≡ manifestIn m .root
+
+  -- what the message's siblings and a block lead to
+  abbrev pub ledTo : List ℕ → List ℕ
+  ledTo block = pathHash (plain H) 0 (shape (countOf (manifestIn m))) (pred (updateNumber m)) block (hashesIn newDepth (pathIn newLength newDepth m))
+
+  pub record PathPassed : Type 0 where
+    pub successor : Successor (leastPath (manifestIn m .«block_len») (manifestIn m .«image_len») (updateNumber m)) (pathSignature newLength newDepth m)
+    pub old : ledTo (blocksOf (manifestIn m) flash (pred (updateNumber m))) ≡ d .manifest .root
+    pub new : ledTo (updateBlock newLength m) ≡ manifestIn m .root
 
   -- what is known of an accepted message, by its kind
   pub data Passed : Type 0 where
     took-program : kind m ≡ Program → ProgramPassed → Passed
     took-block : kind m ≡ Block → BlockPassed → Passed
     took-update : kind m ≡ Update → UpdatePassed → Passed
+    took-path : kind m ≡ PathUpdate → PathPassed → Passed
 
   -- a new program that the device takes: no test applies
   pub record ProgramDue : Type 0 where
@@ -192,19 +217,48 @@ module _ (H : List ℕ → List ℕ) (valid : (key message signature : List ℕ)
       }
 
   pub update-passed : kind m ≡ Update → refusalOf H valid d flash m ≡ none → UpdatePassed
-  unfolding refusals always ofKind ofManifest ofUpdate testOf tooSmall unsigned lacksRoot
+  unfolding refusals always ofKind ofManifest ofSuccessor ofUpdate testOf tooSmall unsigned lacksRoot
   update-passed k a =
       record {
-        complete = without refusal.Stage Update k a;
-        version = without refusal.Version Update k a;
-        size = sized _ _ (without refusal.Size Update k a);
-        newer = without refusal.Serial Update k a;
-        room = ltb-false _ _ (without refusal.Area Update k a);
-        turn = inside _ _ (without refusal.Turn Update k a);
-        long = ltb-false _ _ (without refusal.Length Update k a);
-        signed = not-false _ (without refusal.Unsigned Update k a);
+        successor =
+            record {
+              complete = without refusal.Stage Update k a;
+              version = without refusal.Version Update k a;
+              size = sized _ _ (without refusal.Size Update k a);
+              newer = without refusal.Serial Update k a;
+              alike = without refusal.Unlike Update k a;
+              room = ltb-false _ _ (without refusal.Area Update k a);
+              turn = inside _ _ (without refusal.Turn Update k a);
+              long = ltb-false _ _ (without refusal.Length Update k a);
+              signed = not-false _ (without refusal.Unsigned Update k a);
+            };
         rooted = equal-true _ _ (not-false _ (without refusal.Mismatch Update k a));
       }
+
+  pub path-passed : kind m ≡ PathUpdate → refusalOf H valid d flash m ≡ none → PathPassed
+  unfolding refusals always ofKind ofManifest ofSuccessor ofPathUpdate testOf tooSmall unsigned strays
+  path-passed k a =
+      record {
+        successor =
+            record {
+              complete = without refusal.Stage PathUpdate k a;
+              version = without refusal.Version PathUpdate k a;
+              size = sized _ _ (without refusal.Size PathUpdate k a);
+              newer = without refusal.Serial PathUpdate k a;
+              alike = without refusal.Unlike PathUpdate k a;
+              room = ltb-false _ _ (without refusal.Area PathUpdate k a);
+              turn = inside _ _ (without refusal.Turn PathUpdate k a);
+              long = ltb-false _ _ (without refusal.Length PathUpdate k a);
+              signed = not-false _ (without refusal.Unsigned PathUpdate k a);
+            };
+        old = equal-true _ _ (not-false _ (without refusal.Path PathUpdate k a));
+        new = equal-true _ _ (not-false _ (without refusal.Mismatch PathUpdate k a));
+      }
+
+  -- it has its block whole
+  pub path-block : PathPassed → leastUpdate (manifestIn m .«block_len») (manifestIn m .«image_len») (updateNumber m) ≤ length m
+  unfolding leastPath
+  path-block p = let l = p .successor .long in omega arith
 
   pub unknown-refused : kind m ≡ Unknown → refusalOf H valid d flash m ≡ none → ⊥
   unfolding refusals always ofKind noKind testOf
@@ -217,6 +271,7 @@ module _ (H : List ℕ → List ℕ) (valid : (key message signature : List ℕ)
       go Program e = took-program e (program-passed e a)
       go Block e = took-block e (block-passed e a)
       go Update e = took-update e (update-passed e a)
+      go PathUpdate e = took-path e (path-passed e a)
       go Unknown e = absurd (unknown-refused e a)
 
   pub program-unrefused : ProgramDue → refusalOf H valid d flash m ≡ none

@@ -5,7 +5,7 @@ use mathlib.Core.List.{List, [], _∷_}
 use mathlib.Core.Option.{none}
 use Prim.Native.Nat.{ℕ}
 use Rattle.octets.specs.Octets.{Bytes}
-use Rattle.wire.specs.declared.kind.Kind.the-variants.{Program, Block, Update}
+use Rattle.wire.specs.declared.kind.Kind.the-variants.{Program, Block, Update, PathUpdate}
 use Rattle.wire.specs.declared.refusal.Refusal.{Refusal}
 use Rattle.wire.specs.Refusal.{refusalNumber}
 use Rattle.wire.specs.Message.{kind, carries}
@@ -29,6 +29,7 @@ module _ (H : List ℕ → List ℕ) (valid : (key message signature : List ℕ)
     pub program : numbers (refusals H valid Program d flash m) ≡ 1 ∷ 2 ∷ 3 ∷ 4 ∷ 5 ∷ 6 ∷ 7 ∷ 8 ∷ 9 ∷ []
     pub block : numbers (refusals H valid Block d flash m) ≡ 1 ∷ 2 ∷ 3 ∷ 10 ∷ 8 ∷ 11 ∷ 12 ∷ 14 ∷ []
     pub update : numbers (refusals H valid Update d flash m) ≡ 1 ∷ 2 ∷ 3 ∷ 10 ∷ 4 ∷ 5 ∷ 6 ∷ 7 ∷ 13 ∷ 8 ∷ 11 ∷ 12 ∷ 9 ∷ 14 ∷ []
+    pub pathUpdate : numbers (refusals H valid PathUpdate d flash m) ≡ 1 ∷ 2 ∷ 3 ∷ 10 ∷ 4 ∷ 5 ∷ 6 ∷ 7 ∷ 13 ∷ 8 ∷ 11 ∷ 12 ∷ 9 ∷ 15 ∷ 14 ∷ []
 
   -- "The serial is compared as a plain number and has no wrap: after 4,294,967,295 no slip is accepted."
   abbrev pub LastSerial : Type 0

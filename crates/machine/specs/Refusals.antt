@@ -1,11 +1,13 @@
 -- When each refusal is given, and their order for each kind of message (01, 'The drive's refusals').
 use mathlib.Core.Bool.{Bool, true, false, not, _||_, _&&_}
 use mathlib.Core.List.{List, [], _∷_, _++_}
-use Prim.Native.Nat.{ℕ}
+use Prim.Native.Nat.{ℕ, pred}
 use lib.Dec.{eqb, ltb}
 use lib.ListN.{length, getD}
 use Rattle.octets.specs.Octets.{equal}
+use Rattle.merkle.specs.Shape.{shape}
 use Rattle.merkle.specs.Hash.{plain, climb}
+use Rattle.merkle.specs.Path.{leafDepth, pathHash}
 use Rattle.merkle.specs.Frontier.{carriedCount}
 use Rattle.merkle.specs.Held.{hashesIn}
 use Rattle.wire.specs.declared.kind.Kind.{Kind}
@@ -14,8 +16,8 @@ use Rattle.wire.specs.declared.manifest.Manifest.{Manifest}
 use Rattle.wire.specs.declared.refusal.Refusal.{Refusal}
 use Rattle.wire.specs.declared.refusal.Refusal.the-variants as refusal
 use Rattle.wire.specs.Size.{wrongSize, outside}
-use Rattle.wire.specs.Geometry.{countOf, blockLength, programLength, treeOver}
-use Rattle.wire.specs.Message.{short, manifestBytes, manifestIn, programSignature, numberIn, blockIn, hashesAfter, updateNumber, updateSignature, dueLength, leastUpdate}
+use Rattle.wire.specs.Geometry.{countOf, blockLength, programLength, blocksOf, treeOver}
+use Rattle.wire.specs.Message.{short, manifestBytes, manifestIn, programSignature, numberIn, blockIn, hashesAfter, updateNumber, updateBlock, updateSignature, pathIn, pathSignature, dueLength, leastUpdate, leastPath}
 use Rattle.machine.specs.declared.state.Stage.{Stage}
 use Rattle.machine.specs.declared.state.Stage.the-variants.{Idle, Loading, Complete}
 use Rattle.machine.specs.declared.state.Device.{Device}
@@ -33,9 +35,9 @@ senseless d =
     let broken = wrongVersion s || wrongSize (s .«block_len») (s .«image_len») in
     elim (d .stage) [ Idle ↦ false | Loading i ↦ broken || outside (countOf s) i | Complete ↦ broken ]
 
--- 2: empty message, or kind not 1, 2, 3
+-- 2: empty message, or kind not 1, 2, 3, 4
 unfoldable pub noKind : Kind → Bool
-noKind k = elim k [ kinds.Program ↦ false | kinds.Block ↦ false | kinds.Update ↦ false | kinds.Unknown ↦ true ]
+noKind k = elim k [ kinds.Program ↦ false | kinds.Block ↦ false | kinds.Update ↦ false | kinds.PathUpdate ↦ false | kinds.Unknown ↦ true ]
 
 -- 6: the manifest's model not the device's. 7: its serial not above the device's.
 unfoldable pub otherModel : Device → Manifest → Bool
@@ -52,7 +54,7 @@ tooSmall s flash = ltb (length flash) (programLength s)
 unfoldable pub unsigned : (valid : (key message signature : List ℕ) → Bool) → Device → (manifest signature : List ℕ) → Bool
 unsigned valid d manifest signature = not (valid (d .key) manifest signature)
 
--- 10: kind 2 and not loading; kind 3 and not complete
+-- 10: kind 2 and not loading; kinds 3 and 4 and not complete
 unfoldable pub notLoading : Stage → Bool
 notLoading t = elim t [ Idle ↦ true | Loading i ↦ false | Complete ↦ true ]
 
@@ -81,6 +83,14 @@ module _ (H : List ℕ → List ℕ) where
   -- 14 for kind 3: the tree over the flash with the new block lacks the new root
   unfoldable pub lacksRoot : Manifest → List ℕ → Bool
   lacksRoot s flash = not (equal (treeOver H s flash) (s .root))
+
+  -- Kind 4, with the message's siblings. 15: the old block does not lead to the held root. 14: the new block does not lead to the new one.
+  unfoldable pub strays : Manifest → ℕ → (block m root : List ℕ) → Bool
+  strays s i block m root =
+      let n = countOf s in
+      let depth = leafDepth n (pred i) in
+      let k = blockLength (s .«block_len») (s .«image_len») i in
+      not (equal (pathHash (plain H) 0 (shape n) (pred i) block (hashesIn depth (pathIn k depth m))) root)
 
 -- "Order, first that applies": refusals in order, each with its test
 
@@ -119,20 +129,38 @@ ofBlock H d flash m i =
     ∷ (refusal.Mismatch, mismatch H d i m)
     ∷ []
 
+-- 10, 4, 5, 6, 7, 13, 8, 11: what an update of either kind meets first; s is the manifest that it carries, i its number
+unfoldable pub ofSuccessor : Device → List ℕ → Manifest → ℕ → List (Refusal × Bool)
+ofSuccessor d flash s i =
+    (refusal.Stage, notComplete (d .stage))
+    ∷ ofManifest d s
+    ++ ((refusal.Unlike, unlike s (d .manifest))
+    ∷ (refusal.Area, tooSmall s flash)
+    ∷ (refusal.Turn, outside (countOf s) i)
+    ∷ [])
+
 module _ (H : List ℕ → List ℕ) (valid : (key message signature : List ℕ) → Bool) where
   -- "Kind 3: 10, 4, 5, 6, 7, 13, 8, 11, 12, 9, 14"; s is the manifest that the message carries
   unfoldable pub ofUpdate : Device → (flash m : List ℕ) → Manifest → List (Refusal × Bool)
   ofUpdate d flash m s =
       let i = updateNumber m in
       let k = blockLength (s .«block_len») (s .«image_len») i in
-      (refusal.Stage, notComplete (d .stage))
-      ∷ ofManifest d s
-      ++ ((refusal.Unlike, unlike s (d .manifest))
-      ∷ (refusal.Area, tooSmall s flash)
-      ∷ (refusal.Turn, outside (countOf s) i)
-      ∷ (refusal.Length, ltb (length m) (leastUpdate (s .«block_len») (s .«image_len») i))
+      ofSuccessor d flash s i
+      ++ ((refusal.Length, ltb (length m) (leastUpdate (s .«block_len») (s .«image_len») i))
       ∷ (refusal.Unsigned, unsigned valid d (manifestBytes m) (updateSignature k m))
       ∷ (refusal.Mismatch, lacksRoot H s (updated s flash m))
+      ∷ [])
+
+  -- "All of kind 3's checks apply"; 15 "after 9 and before 14"
+  unfoldable pub ofPathUpdate : Device → (flash m : List ℕ) → Manifest → List (Refusal × Bool)
+  ofPathUpdate d flash m s =
+      let i = updateNumber m in
+      let k = blockLength (s .«block_len») (s .«image_len») i in
+      ofSuccessor d flash s i
+      ++ ((refusal.Length, ltb (length m) (leastPath (s .«block_len») (s .«image_len») i))
+      ∷ (refusal.Unsigned, unsigned valid d (manifestBytes m) (pathSignature k (leafDepth (countOf s) (pred i)) m))
+      ∷ (refusal.Path, strays H s i (blocksOf s flash (pred i)) m (d .manifest .root))
+      ∷ (refusal.Mismatch, strays H s i (updateBlock k m) m (s .root))
       ∷ [])
 
   unfoldable pub ofKind : Kind → Device → (flash m : List ℕ) → List (Refusal × Bool)
@@ -141,6 +169,7 @@ module _ (H : List ℕ → List ℕ) (valid : (key message signature : List ℕ)
         | kinds.Program ↦ ofProgram valid d flash m (manifestIn m)
         | kinds.Block ↦ ofBlock H d flash m (nextOf (d .stage))
         | kinds.Update ↦ ofUpdate d flash m (manifestIn m)
+        | kinds.PathUpdate ↦ ofPathUpdate d flash m (manifestIn m)
         | kinds.Unknown ↦ []
       ]
 

@@ -48,7 +48,7 @@ acceptBlock d flash m =
       flash = stored s i flash m;
     }
 
--- "Accepting kind 3 writes that one block and replaces the slip."
+-- "Accepting kind 3 writes that one block and replaces the slip." So does kind 4.
 unfoldable pub acceptUpdate : Device → (flash m : List ℕ) → Situation
 acceptUpdate d flash m =
     let s = manifestIn m in
@@ -60,6 +60,7 @@ accept k d flash m =
       | kinds.Program ↦ acceptProgram d flash m
       | kinds.Block ↦ acceptBlock d flash m
       | kinds.Update ↦ acceptUpdate d flash m
+      | kinds.PathUpdate ↦ acceptUpdate d flash m
       | kinds.Unknown ↦ record { device = d; flash = flash }
     ]
 

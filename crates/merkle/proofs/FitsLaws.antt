@@ -37,7 +37,7 @@ module _ (H : Hashing) where
   sent-same n i e = ap joined (siblings-same H 0 (shape n) i e)
 
   module _ (sized : (x : List ℕ) → length (H .function x) ≡ hashLength) where
-    sized-hashes : (f : ℕ → List ℕ) (ps : List Place) → Sized (hashes H f ps)
+    pub sized-hashes : (f : ℕ → List ℕ) (ps : List Place) → Sized (hashes H f ps)
     unfolding hashes
     sized-hashes f [] = none
     sized-hashes f (x ∷ ps) = more (length-hash H sized f (x .0) (x .1)) (sized-hashes f ps)

@@ -25,10 +25,10 @@ pub record Same (f : ℕ → List ℕ) (o : ℕ) (g : ℕ → List ℕ) (u : ℕ
   pub block : (j : ℕ) → j < size s → f (o + j) ≡ g (u + j)
 
 module _ {f : ℕ → List ℕ} {o : ℕ} {g : ℕ → List ℕ} {u : ℕ} {l r : Shape} (e : Same f o g u (node l r)) where
-  same-left : Same f o g u l
+  pub same-left : Same f o g u l
   same-left = record { block = λ j h. e .block j (omega (arith, size-node l r)) }
 
-  same-right : Same f (o + size l) g (u + size l) r
+  pub same-right : Same f (o + size l) g (u + size l) r
   same-right =
       record { block = λ j h. ap f (add-assoc o (size l) j) ∙ e .block (size l + j) (omega (arith, size-node l r)) ∙ ap g (sym (add-assoc u (size l) j)) }
 

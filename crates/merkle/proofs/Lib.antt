@@ -17,3 +17,6 @@ pub mod FitsLaws
 pub mod TreeLaws
 pub mod ClimbLaws
 pub mod SiblingLaws
+pub mod WayLaws
+pub mod WritingLaws
+pub mod PathWritingLaws

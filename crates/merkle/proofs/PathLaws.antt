@@ -50,7 +50,7 @@ down-left o l r i h =
       apart = λ j g e. omega arith;
     }
 
-down-right : (o : ℕ) (l r : Shape) (i : ℕ) → size l ≤ i → i < size (node l r) → Down o l r i
+unfoldable pub down-right : (o : ℕ) (l r : Shape) (i : ℕ) → size l ≤ i → i < size (node l r) → Down o l r i
 unfolding way pathSiblings input besideInput
 down-right o l r i h k =
     record {

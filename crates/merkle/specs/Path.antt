@@ -1,12 +1,14 @@
--- The way from a block up to the root, and the siblings beside it. No contract uses it yet: changes 1 and 11 of 02 will cite it.
+-- The way from a block up to the root, and the siblings beside it.
 use mathlib.Core.Path.{_≡_}
 use mathlib.Core.Logic.{_≢_}
 use mathlib.Core.Bool.{Bool, true, false, cond}
 use mathlib.Core.List.{List, [], _∷_, _++_, List·Memᴰ}
 use Prim.Native.Nat.{ℕ, _+_, _-_}
 use lib.Dec.{ltb}
-use Rattle.merkle.specs.Shape.{Shape, leaf, node, size, Place}
-use Rattle.merkle.specs.Hash.{Hashing, leafInput, nodeInput, leafHash, input}
+use lib.ListN.{length}
+use Rattle.merkle.specs.Shape.{Shape, leaf, node, size, Place, shape}
+use Rattle.octets.specs.Octets.{joined}
+use Rattle.merkle.specs.Hash.{Hashing, leafInput, nodeInput, leafHash, hashes, input}
 
 -- The siblings from a block's leaf to the root, lowest first. The block has i blocks of the tree before it.
 unfoldable pub pathSiblings : ℕ → Shape → ℕ → List Place
@@ -14,6 +16,10 @@ pathSiblings o leaf i = []
 pathSiblings o (node l r) i =
     cond (ltb i (size l)) (pathSiblings o l i ++ ((o + size l, r) ∷ []))
     (pathSiblings (o + size l) r (i - size l) ++ ((o, l) ∷ []))
+
+-- How many these are: the depth of the block's leaf, i blocks before it. For n = 3: 2, 2, 1.
+unfoldable pub leafDepth : (n i : ℕ) → ℕ
+leafDepth n i = length (pathSiblings 0 (shape n) i)
 
 -- The nodes above the block, lowest first, and for each whether the sibling below it stands on the right.
 unfoldable pub way : ℕ → Shape → ℕ → List (Place × Bool)
@@ -37,6 +43,10 @@ module _ (H : Hashing) where
   ascendInputs x [] ys = []
   ascendInputs x (w ∷ ws) [] = []
   ascendInputs x (w ∷ ws) (y ∷ ys) = (w .0, besideInput x (w .1) y) ∷ ascendInputs (H .function (besideInput x (w .1) y)) ws ys
+
+  -- The siblings that the sender puts into the message of the block with i blocks before it.
+  unfoldable pub sentPath : (n : ℕ) (blocks : ℕ → List ℕ) (i : ℕ) → List ℕ
+  sentPath n blocks i = joined (hashes H blocks (pathSiblings 0 (shape n) i))
 
   -- The root worked out from a block and its siblings from leaf to root, and the hash inputs at the places on the way.
   unfoldable pub pathHash : ℕ → Shape → ℕ → List ℕ → List (List ℕ) → List ℕ

@@ -5,6 +5,7 @@ mod limits;
 mod node;
 mod path;
 mod tree;
+mod way;
 
 pub use counting::count;
 pub use frontier::advance;
@@ -15,3 +16,6 @@ pub use limits::HELD_LEN;
 pub use limits::MAX_BLOCKS;
 pub use path::write_siblings;
 pub use tree::root_with;
+pub use way::leaf_depth;
+pub use way::path_hash;
+pub use way::write_path;

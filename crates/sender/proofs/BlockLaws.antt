@@ -15,10 +15,12 @@ use Rattle.merkle.specs.Blocks.{blockCount, cut, overlay}
 use Rattle.merkle.specs.Shape.{shape}
 use Rattle.merkle.specs.Hash.{plain, rootOver}
 use Rattle.merkle.specs.Frontier.{carriedCount}
+use Rattle.merkle.specs.Path.{sentPath}
 use Rattle.merkle.specs.Held.{sent}
 use Rattle.merkle.proofs.ShapeLaws.{lt-or-le, size-shape}
 use Rattle.merkle.proofs.HashLaws.{Same, hash-same}
 use Rattle.merkle.proofs.FitsLaws.{sent-same}
+use Rattle.merkle.proofs.PathWritingLaws.{sent-path-same}
 use Rattle.merkle.proofs.BlockLaws.{overlay-same, overlay-other}
 use Rattle.wire.specs.declared.kind.Kind.the-variants.{Block}
 use Rattle.wire.specs.Size.{wrongSize, outside}
@@ -85,6 +87,9 @@ module _ (L : ℕ) (image : List ℕ) (n : ℕ) (z : Sized L (length image)) (c 
   module _ (H : List ℕ → List ℕ) (b : List ℕ) (e : b ≡ imageBlocks L image (n - 1)) where
     pub same-root : rootOver (plain H) (overlay (cut L image) (n - 1) b) n ≡ rootOver (plain H) (imageBlocks L image) n
     same-root = hash-same (plain H) (shape n) (same-blocks b e)
+
+    pub same-path : (i : ℕ) → sentPath (plain H) n (overlay (cut L image) (n - 1) b) i ≡ sentPath (plain H) n (imageBlocks L image) i
+    same-path i = sent-path-same (plain H) n i (same-blocks b e)
 
     pub same-sent : (i : ℕ) → sent (plain H) n (overlay (cut L image) (n - 1) b) i ≡ sent (plain H) n (imageBlocks L image) i
     same-sent i = sent-same (plain H) n i (same-blocks b e)

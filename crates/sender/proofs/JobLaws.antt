@@ -11,18 +11,20 @@ use Rattle.merkle.specs.Blocks.{blockCount}
 use Rattle.merkle.specs.Shape.{shape}
 use Rattle.merkle.specs.Hash.{plain}
 use Rattle.merkle.specs.Frontier.{carriedCount}
+use Rattle.merkle.specs.Path.{sentPath}
 use Rattle.merkle.specs.Held.{sent}
 use Rattle.merkle.proofs.HashLaws.{length-hash}
 use Rattle.merkle.proofs.FitsLaws.{length-sent}
+use Rattle.merkle.proofs.PathWritingLaws.{length-sent-path}
 use Rattle.wire.specs.declared.kind.Kind.the-variants.{Program}
 use Rattle.wire.specs.Manifest.{manifestLength, written}
 use Rattle.wire.specs.Geometry.{blockLength}
-use Rattle.wire.specs.Message.{leastLength, dueLength, leastUpdate, blockMessage, updateMessage}
+use Rattle.wire.specs.Message.{leastLength, dueLength, leastUpdate, leastPath, blockMessage, updateMessage, pathMessage}
 use Rattle.wire.proofs.SizeLaws.{Sized, sized, inside}
 use Rattle.wire.proofs.ManifestLaws.{length-written}
 use Rattle.wire.proofs.ImageLaws as image
-use Rattle.wire.proofs.MessageLaws.{program-size, block-size, update-size}
-use Rattle.sender.specs.Job.{Image, Job, count, blocks, rootOf, manifestFor, programFor, blockFor, updateFor}
+use Rattle.wire.proofs.MessageLaws.{program-size, block-size, update-size, path-size}
+use Rattle.sender.specs.Job.{Image, Job, count, blocks, rootOf, manifestFor, programFor, blockFor, updateFor, pathFor}
 use Rattle.sender.specs.Claims.{AllLengths}
 
 -- an image of an allowed size, and block i of it
@@ -42,7 +44,7 @@ module _ (x : Image) (z : Sized (x .«block_len») (length (x .bytes))) (i : ℕ
       ∙ omega (arith, length-one, length-sent (plain digest) length-digest n (blocks x) (pred i), ap (carriedCount n) e)
 
 module _ (j : Job) where
-  length-root : length (manifestFor digest j .root) ≡ hashLength
+  pub length-root : length (manifestFor digest j .root) ≡ hashLength
   unfolding manifestFor rootOf
   length-root = length-hash (plain digest) length-digest (blocks (j .image)) 0 (shape (count (j .image)))
 
@@ -58,6 +60,13 @@ module _ (j : Job) where
     unfolding updateFor leastUpdate
     length-update signature =
         update-size (manifestFor digest j) length-root signature i (blocks (j .image) (pred i)) ∙ omega (arith, length-one (j .image) z i low high)
+
+    pub length-path : (signature : List ℕ) → length (pathFor digest j i signature) ≡ leastPath (j .image .«block_len») (length (j .image .bytes)) i + length signature
+    unfolding pathFor leastPath leastUpdate count
+    length-path signature =
+        let x = j .image in
+        path-size (manifestFor digest j) length-root signature i (blocks x (pred i)) (sentPath (plain digest) (count x) (blocks x) (pred i))
+        ∙ omega (arith, length-one x z i low high, length-sent-path (plain digest) length-digest (count x) (blocks x) (pred i))
 
 pub lengths : AllLengths
 lengths j =
@@ -79,3 +88,8 @@ pub update-is : (j : Job) (i : ℕ) (block signature : List ℕ) → block ≡ b
     → updateMessage (manifestFor digest j) i block signature ≡ updateFor digest j i signature
 unfolding updateFor
 update-is j i block signature f = let p : pred i ≡ i - 1 = omega arith in rw p (cc)
+
+pub path-is : (j : Job) (n i : ℕ) (block siblings signature : List ℕ) → n ≡ count (j .image) → block ≡ blocks (j .image) (i - 1)
+    → siblings ≡ sentPath (plain digest) n (blocks (j .image)) (i - 1) → pathMessage (manifestFor digest j) i block siblings signature ≡ pathFor digest j i signature
+unfolding pathFor
+path-is j n i block siblings signature e f g = let p : pred i ≡ i - 1 = omega arith in rw p (cc)

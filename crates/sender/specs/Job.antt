@@ -4,10 +4,11 @@ use Prim.Native.Nat.{ℕ, pred}
 use lib.ListN.{length}
 use Rattle.merkle.specs.Blocks.{blockCount}
 use Rattle.merkle.specs.Hash.{plain, rootOver}
+use Rattle.merkle.specs.Path.{sentPath}
 use Rattle.merkle.specs.Held.{sent}
 use Rattle.wire.specs.declared.manifest.Manifest.{Manifest}
 use Rattle.wire.specs.Image.{imageBlocks}
-use Rattle.wire.specs.Message.{programMessage, blockMessage, updateMessage}
+use Rattle.wire.specs.Message.{programMessage, blockMessage, updateMessage, pathMessage}
 
 -- an image and its L: all that a block message is made of
 pub record Image : Type 0 where
@@ -55,3 +56,7 @@ module _ (H : List ℕ → List ℕ) where
   -- the update to this image of block i, from 1
   unfoldable pub updateFor : Job → ℕ → List ℕ → List ℕ
   updateFor j i signature = updateMessage (manifestFor j) i (blocks (j .image) (pred i)) signature
+
+  -- the same by a path, kind 4
+  unfoldable pub pathFor : Job → ℕ → List ℕ → List ℕ
+  pathFor j i signature = let x = j .image in pathMessage (manifestFor j) i (blocks x (pred i)) (sentPath (plain H) (count x) (blocks x) (pred i)) signature

@@ -15,7 +15,7 @@ use Rattle.wire.specs.Manifest.{written}
 use Rattle.wire.specs.Message.{atStart}
 use Rattle.sender.specs.declared.send.Sent.{Sent}
 use Rattle.sender.specs.declared.send.Sent.the-variants.{Written, Refused}
-use Rattle.sender.specs.Job.{Image, Job, count, manifestFor, programFor, blockFor, updateFor}
+use Rattle.sender.specs.Job.{Image, Job, count, manifestFor, programFor, blockFor, updateFor, pathFor}
 
 pub record Result : Type 0 where
   pub answer : Sent
@@ -71,3 +71,6 @@ sendBlock x i buffer = numbered x i (blockFor digest x i) buffer
 
 unfoldable pub sendUpdate : Job → ℕ → (signature buffer : List ℕ) → Result
 sendUpdate j i signature buffer = numbered (j .image) i (updateFor digest j i signature) buffer
+
+unfoldable pub sendPath : Job → ℕ → (signature buffer : List ℕ) → Result
+sendPath j i signature buffer = numbered (j .image) i (pathFor digest j i signature) buffer

@@ -6,5 +6,6 @@ mod send;
 pub use send::Sent;
 pub use send::block;
 pub use send::manifest;
+pub use send::path_update;
 pub use send::program;
 pub use send::update;

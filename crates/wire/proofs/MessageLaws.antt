@@ -14,13 +14,13 @@ use Rattle.octets.proofs.NumberLaws.{length-bytes, part-bytes, number-back}
 use Rattle.merkle.specs.Limits.{maxBlocks, hashLength}
 use Rattle.merkle.specs.Blocks.{blockCount}
 use Rattle.merkle.specs.Frontier.{carriedCount}
-use Rattle.wire.specs.declared.kind.Kind.the-variants.{Program, Block, Update, Unknown}
+use Rattle.wire.specs.declared.kind.Kind.the-variants.{Program, Block, Update, PathUpdate, Unknown}
 use Rattle.wire.specs.declared.manifest.Manifest.{Manifest}
 use Rattle.wire.specs.Manifest.{manifestLength, written, read, Fits}
 use Rattle.wire.specs.Size.{wrongSize}
 use Rattle.wire.specs.Geometry.{blockLength}
-use Rattle.wire.specs.Message.{kind, kindLength, numberLength, leastLength, programMessage, blockMessage, updateMessage, manifestBytes, manifestIn, programSignature, numberIn, blockIn, hashesAfter, updateNumber, updateBlock, updateSignature, dueLength, messagesLength}
-use Rattle.wire.specs.Claims.{OfProgram, ProgramBack, OfBlock, BlockBack, OfUpdate, UpdateBack}
+use Rattle.wire.specs.Message.{kind, kindLength, numberLength, leastLength, programMessage, blockMessage, updateMessage, manifestBytes, manifestIn, programSignature, numberIn, blockIn, hashesAfter, updateNumber, updateBlock, updateSignature, successorHead, pathMessage, pathIn, pathSignature, dueLength, messagesLength}
+use Rattle.wire.specs.Claims.{OfProgram, ProgramBack, OfBlock, BlockBack, OfUpdate, UpdateBack, OfPath, PathBack}
 use Rattle.wire.proofs.SizeLaws.{sized}
 use Rattle.wire.proofs.GeometryLaws.{area-few}
 use Rattle.wire.proofs.ManifestLaws.{length-written, read-fits}
@@ -30,7 +30,7 @@ unfolding kind
 kind-none [] e = refl
 kind-none (x ∷ m) e = absurd (omega arith)
 
-pub kind-first : (m : List ℕ) → (length m ≡ 0 → ⊥) → kind m ≡ cond (eqb (getD m 0 0) 1) Program (cond (eqb (getD m 0 0) 2) Block (cond (eqb (getD m 0 0) 3) Update Unknown))
+pub kind-first : (m : List ℕ) → (length m ≡ 0 → ⊥) → kind m ≡ cond (eqb (getD m 0 0) 1) Program (cond (eqb (getD m 0 0) 2) Block (cond (eqb (getD m 0 0) 3) Update (cond (eqb (getD m 0 0) 4) PathUpdate Unknown)))
 unfolding kind
 kind-first [] n = absurd (n refl)
 kind-first (x ∷ m) n = refl
@@ -57,6 +57,10 @@ module _ (k : ℕ) (m : List ℕ) where
   pub length-hashes : length (hashesAfter k m) ≡ length m - (leastLength Block + k)
   unfolding hashesAfter
   length-hashes = length-drop (leastLength Block + k) m
+
+  pub length-path-in : (d : ℕ) → leastLength Update + k + hashLength * d ≤ length m → length (pathIn k d m) ≡ hashLength * d
+  unfolding pathIn
+  length-path-in d h = length-part m (leastLength Update + k) (hashLength * d) h
 
   pub length-update-block : leastLength Update + k ≤ length m → length (updateBlock k m) ≡ k
   unfolding updateBlock
@@ -120,6 +124,42 @@ module _ (s : Manifest) (root : length (s .root) ≡ hashLength) (signature : Li
           size = update-size;
         }
 
+    -- kind 4, with the siblings between block and signature
+    module _ (siblings : List ℕ) where
+      abbrev pathParts : List (List ℕ)
+      pathParts = (4 ∷ []) ∷ written s ∷ bytes numberLength i ∷ block ∷ siblings ∷ signature ∷ []
+
+      abbrev pathLengths : List ℕ
+      pathLengths = kindLength ∷ manifestLength ∷ numberLength ∷ length block ∷ length siblings ∷ length signature ∷ []
+
+      path-long : map length pathParts ≡ pathLengths
+      path-long = rw (length-written s root, length-bytes numberLength i)
+
+      pub path-size : length (pathMessage s i block siblings signature) ≡ leastLength Update + length block + length siblings + length signature
+      unfolding pathMessage
+      path-size = joined-length pathLengths pathParts path-long ∙ omega arith
+
+      pub of-path : (d : ℕ) → length siblings ≡ hashLength * d → i < 256 ^ numberLength → OfPath s i block siblings signature d (pathMessage s i block siblings signature)
+      unfolding kind joined pathMessage manifestBytes updateNumber updateBlock pathIn pathSignature
+      of-path d e few =
+          let at = stands pathLengths pathParts path-long in
+          let end : total (take 4 pathLengths) ≡ leastLength Update + length block = omega arith in
+          let last : total (take 5 pathLengths) ≡ leastLength Update + length block + hashLength * d = omega arith in
+          record {
+            is = refl;
+            manifest = at 1;
+            number = number-back numberLength i (at 2) few;
+            blocks = at 3;
+            path = rw (← e) (rw end at (at 4));
+            signed = ends (pathMessage s i block siblings signature) (leastLength Update + length block + hashLength * d) (length signature) (path-size ∙ omega arith) (rw last at (at 5));
+            size = path-size ∙ omega arith;
+          }
+
+pub successor-size : (k : ℕ) (s : Manifest) → length (s .root) ≡ hashLength → (i : ℕ) (block : List ℕ) → length (successorHead k s i block) ≡ leastLength Update + length block
+unfolding successorHead
+successor-size k s root i block =
+    joined-length (kindLength ∷ manifestLength ∷ numberLength ∷ length block ∷ []) ((k ∷ []) ∷ written s ∷ bytes numberLength i ∷ block ∷ []) (rw (length-written s root, length-bytes numberLength i)) ∙ omega arith
+
 module _ (i : ℕ) (block hashes : List ℕ) where
   abbrev blockParts : List (List ℕ)
   blockParts = (2 ∷ []) ∷ bytes numberLength i ∷ block ∷ hashes ∷ []
@@ -177,16 +217,25 @@ pub block-parts : (i : ℕ) (block : List ℕ) → (2 ∷ []) ++ bytes numberLen
 unfolding joined blockMessage
 block-parts i block = simp (append-assoc, append-nil)
 
-pub update-parts : (s : Manifest) (i : ℕ) (block signature : List ℕ) → (3 ∷ []) ++ written s ++ bytes numberLength i ++ block ++ signature ≡ updateMessage s i block signature
-unfolding joined updateMessage
-update-parts s i block signature = simp (append-assoc, append-nil)
+pub successor-parts : (k : ℕ) (s : Manifest) (i : ℕ) (block : List ℕ) → (k ∷ []) ++ written s ++ bytes numberLength i ++ block ≡ successorHead k s i block
+unfolding joined successorHead
+successor-parts k s i block = simp (append-assoc, append-nil)
+
+-- an update up to its block, and with what follows
+pub update-whole : (s : Manifest) (i : ℕ) (block signature : List ℕ) → successorHead 3 s i block ++ signature ≡ updateMessage s i block signature
+unfolding joined successorHead updateMessage
+update-whole s i block signature = simp (append-assoc, append-nil)
+
+pub path-whole : (s : Manifest) (i : ℕ) (block siblings signature : List ℕ) → (successorHead 4 s i block ++ siblings) ++ signature ≡ pathMessage s i block siblings signature
+unfolding joined successorHead pathMessage
+path-whole s i block siblings signature = simp (append-assoc, append-nil)
 
 -- a block message up to its hashes, and with them
 pub block-whole : (i : ℕ) (block hashes : List ℕ) → blockMessage i block [] ++ hashes ≡ blockMessage i block hashes
 unfolding joined blockMessage
 block-whole i block hashes = simp (append-assoc, append-nil)
 
--- what a reader is told of the three
+-- what a reader is told of the four
 pub program-back : ProgramBack
 program-back = of-program
 
@@ -195,3 +244,6 @@ block-back = of-block
 
 pub update-back : UpdateBack
 update-back s root signature i block = of-update s root signature i block
+
+pub path-back : PathBack
+path-back s root signature i block siblings d e = of-path s root signature i block siblings d e

@@ -46,3 +46,8 @@ module _ {d r p : List ℕ} {k : ℕ} (b : Put d r p k) where
       ap₂ {C = List ℕ} (λ (x y : List ℕ). x ++ (mid ++ y)) f o
       ∙ ap (λ (x : List ℕ). p ++ x) (append-nil mid ∙ e ∙ ap (λ (x : List ℕ). s ++ drop (length s) x) g ∙ ap (λ (x : List ℕ). s ++ x) (drop-drop (length s) k d))
       ∙ sym (append-assoc p s (drop (k + length s) d))
+
+  pub put-part-more : (s mid : List ℕ) (k′ : ℕ) → k′ ≡ k + length s → k′ ≤ length d
+      → mid ≡ s ++ drop (length s) (take (length r - k) (drop k r)) → Put d (putMid k (length r - k) r mid) (p ++ s) k′
+  put-part-more s mid k′ e h f =
+      record { is = put-part s mid (omega arith) f ∙ ap (λ (j : ℕ). (p ++ s) ++ drop j d) (sym e); size = length-append p s ∙ omega (arith, b .size) }

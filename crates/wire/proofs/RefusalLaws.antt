@@ -2,7 +2,7 @@
 use Prim.Native.Nat.{_<_}
 use native.Mathlib.Omega.{arith}
 use Rattle.wire.specs.declared.refusal.Refusal.{Refusal}
-use Rattle.wire.specs.declared.refusal.Refusal.the-variants.{State, Kind, Short, Version, Size, Model, Serial, Area, Unsigned, Stage, Turn, Length, Unlike, Mismatch}
+use Rattle.wire.specs.declared.refusal.Refusal.the-variants.{State, Kind, Short, Version, Size, Model, Serial, Area, Unsigned, Stage, Turn, Length, Unlike, Mismatch, Path}
 use Rattle.wire.specs.Refusal.{refusalNumber}
 
 -- no refusal has the number of an accepted message
@@ -21,3 +21,4 @@ above-zero Turn = omega arith
 above-zero Length = omega arith
 above-zero Unlike = omega arith
 above-zero Mismatch = omega arith
+above-zero Path = omega arith

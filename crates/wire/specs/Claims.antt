@@ -1,14 +1,14 @@
 -- What is shown of the definitions (in proofs/).
 use mathlib.Core.Path.{_≡_}
 use mathlib.Core.List.{List}
-use Prim.Native.Nat.{ℕ, _+_, _^_, _<_}
+use Prim.Native.Nat.{ℕ, _+_, _*_, _^_, _<_}
 use lib.ListN.{length}
 use Rattle.octets.specs.Octets.{Bytes}
 use Rattle.merkle.specs.Limits.{hashLength}
-use Rattle.wire.specs.declared.kind.Kind.the-variants.{Program, Block, Update}
+use Rattle.wire.specs.declared.kind.Kind.the-variants.{Program, Block, Update, PathUpdate}
 use Rattle.wire.specs.declared.manifest.Manifest.{Manifest}
 use Rattle.wire.specs.Manifest.{manifestLength, written, read, Fits}
-use Rattle.wire.specs.Message.{kind, numberLength, programMessage, blockMessage, updateMessage, leastLength, manifestBytes, programSignature, numberIn, blockIn, hashesAfter, updateNumber, updateBlock, updateSignature}
+use Rattle.wire.specs.Message.{kind, numberLength, programMessage, blockMessage, updateMessage, leastLength, manifestBytes, programSignature, numberIn, blockIn, hashesAfter, updateNumber, updateBlock, updateSignature, pathMessage, pathIn, pathSignature}
 
 -- A manifest's bytes give back the manifest, and the manifest read from bytes gives back the bytes.
 abbrev pub ManifestBack : Type 0
@@ -55,3 +55,18 @@ abbrev pub UpdateBack : Type 0
 UpdateBack =
     (s : Manifest) → length (s .root) ≡ hashLength → (signature : List ℕ) (i : ℕ) (block : List ℕ) → i < 256 ^ numberLength
     → OfUpdate s i block signature (updateMessage s i block signature)
+
+-- Kind 4: "kind, new slip, number, new block, the siblings from that block's leaf to the root (lowest first), signature"; d siblings
+pub record OfPath (s : Manifest) (i : ℕ) (block siblings signature : List ℕ) (d : ℕ) (m : List ℕ) : Type 0 where
+  pub is : kind m ≡ PathUpdate
+  pub manifest : manifestBytes m ≡ written s
+  pub number : updateNumber m ≡ i
+  pub blocks : updateBlock (length block) m ≡ block
+  pub path : pathIn (length block) d m ≡ siblings
+  pub signed : pathSignature (length block) d m ≡ signature
+  pub size : length m ≡ leastLength Update + length block + hashLength * d + length signature
+
+abbrev pub PathBack : Type 0
+PathBack =
+    (s : Manifest) → length (s .root) ≡ hashLength → (signature : List ℕ) (i : ℕ) (block siblings : List ℕ) (d : ℕ) → length siblings ≡ hashLength * d → i < 256 ^ numberLength
+    → OfPath s i block siblings signature d (pathMessage s i block siblings signature)

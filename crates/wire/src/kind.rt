@@ -6,6 +6,7 @@ pub enum Kind {
     Program,
     Block,
     Update,
+    PathUpdate,
     Unknown,
 }
 
@@ -21,6 +22,7 @@ pub fn kind_of(message: &[u8]) -> Kind
         1 => Kind::Program,
         2 => Kind::Block,
         3 => Kind::Update,
+        4 => Kind::PathUpdate,
         _ => Kind::Unknown,
     }
 }

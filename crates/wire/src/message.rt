@@ -8,12 +8,13 @@ use crate::sizes::block_count;
 use crate::sizes::block_length;
 ghost use mathlib.Core.Path.{_≡_};
 ghost use mathlib.Core.Bool.{false};
-ghost use Prim.Native.Nat.{_+_, _≤_, _<_};
+ghost use Prim.Native.Nat.{_+_, _*_, _≤_, _<_};
 ghost use lib.ListN.{length};
+ghost use Rattle.merkle.specs.Limits.{hashLength};
 ghost use Rattle.merkle.specs.Blocks.{blockCount};
 ghost use Rattle.wire.specs.declared.kind.Kind.the-variants.{Program, Block, Update};
 ghost use Rattle.wire.specs.Size.{wrongSize};
-ghost use Rattle.wire.specs.Message.{leastLength, manifestBytes, manifestIn, programSignature, numberIn, blockIn, hashesAfter, updateNumber, updateBlock, updateSignature, dueLength, messagesLength, leastUpdate};
+ghost use Rattle.wire.specs.Message.{leastLength, manifestBytes, manifestIn, programSignature, numberIn, blockIn, hashesAfter, updateNumber, updateBlock, updateSignature, pathIn, pathSignature, dueLength, messagesLength, leastUpdate, leastPath};
 ghost use Rattle.wire.specs.Message as spec;
 
 pub const KIND_LEN: usize = 1;
@@ -35,6 +36,7 @@ pub fn least_len(kind: Kind) -> usize
         Kind::Program => PROGRAM_LEAST,
         Kind::Block => BLOCK_LEAST,
         Kind::Update => UPDATE_LEAST,
+        Kind::PathUpdate => UPDATE_LEAST,
         Kind::Unknown => 0,
     }
 }
@@ -46,7 +48,7 @@ pub fn short(kind: Kind, message: &[u8]) -> bool
     message.len() < least_len(kind)
 }
 
-// Kinds 1 and 3: the manifest's bytes.
+// Kinds 1, 3 and 4: the manifest's bytes.
 pub fn manifest_bytes(message: &[u8]) -> &[u8]
     requires { ⌜ leastLength Program ≤ length (now message) ⌝ }
     ensures { λ r. ⌜ now r ≡ manifestBytes (now (message .entry)) ⌝ }
@@ -54,7 +56,7 @@ pub fn manifest_bytes(message: &[u8]) -> &[u8]
     &message[KIND_LEN..PROGRAM_LEAST]
 }
 
-// Kinds 1 and 3: the manifest.
+// Kinds 1, 3 and 4: the manifest.
 pub fn manifest_in(message: &[u8]) -> Manifest
     requires { ⌜ leastLength Program ≤ length (now message) ⌝ }
     ensures { λ r. ⌜ r ≡ manifestIn (now (message .entry)) ⌝ }
@@ -96,7 +98,7 @@ pub fn hashes_after(message: &[u8], len: usize) -> &[u8]
     &message[from..]
 }
 
-// Kind 3: the number.
+// Kinds 3 and 4: the number.
 pub fn update_number(message: &[u8]) -> u16
     requires { ⌜ leastLength Update ≤ length (now message) ⌝ }
     ensures { λ r. ⌜ r ≡ updateNumber (now (message .entry)) ⌝ }
@@ -104,7 +106,7 @@ pub fn update_number(message: &[u8]) -> u16
     octets::u16_at(message, PROGRAM_LEAST)
 }
 
-// Kind 3: the block, of `len` bytes.
+// Kinds 3 and 4: the block, of `len` bytes.
 pub fn update_block(message: &[u8], len: usize) -> &[u8]
     requires { ⌜ leastLength Update + len ≤ length (now message) ⌝ }
     ensures { λ r. ⌜ now r ≡ updateBlock len (now (message .entry)) ⌝ }
@@ -119,6 +121,25 @@ pub fn update_signature(message: &[u8], len: usize) -> &[u8]
     ensures { λ r. ⌜ now r ≡ updateSignature len (now (message .entry)) ⌝ }
 {
     let from = UPDATE_LEAST + len;
+    &message[from..]
+}
+
+// Kind 4: the siblings behind a block of `len` bytes, for a leaf of this depth.
+pub fn path_in(message: &[u8], len: usize, depth: usize) -> &[u8]
+    requires { ⌜ leastLength Update + len + hashLength * depth ≤ length (now message) ⌝ }
+    ensures { λ r. ⌜ now r ≡ pathIn len depth (now (message .entry)) ⌝ }
+{
+    let from = UPDATE_LEAST + len;
+    let end = from + merkle::HASH_LEN * depth;
+    &message[from..end]
+}
+
+// Kind 4: the signature behind these.
+pub fn path_signature(message: &[u8], len: usize, depth: usize) -> &[u8]
+    requires { ⌜ leastLength Update + len + hashLength * depth ≤ length (now message) ⌝ }
+    ensures { λ r. ⌜ now r ≡ pathSignature len depth (now (message .entry)) ⌝ }
+{
+    let from = UPDATE_LEAST + len + merkle::HASH_LEN * depth;
     &message[from..]
 }
 
@@ -146,4 +167,13 @@ pub fn least_update(block_len: usize, image_len: usize, number: usize) -> usize
     ensures { λ r. ⌜ r ≡ leastUpdate «block_len» «image_len» number ⌝ }
 {
     UPDATE_LEAST + block_length(block_len, image_len, number)
+}
+
+// Refusal 12, kind 4: the same with the siblings of its leaf.
+pub fn least_path(block_len: usize, image_len: usize, number: usize) -> usize
+    requires { ⌜ (wrongSize «block_len» «image_len» ≡ false) × (0 < number) × (number ≤ blockCount «block_len» «image_len») ⌝ }
+    ensures { λ r. ⌜ r ≡ leastPath «block_len» «image_len» number ⌝ }
+{
+    let depth = merkle::leaf_depth(block_count(block_len, image_len), number - 1);
+    least_update(block_len, image_len, number) + merkle::HASH_LEN * depth
 }

@@ -17,6 +17,7 @@ pub enum Refusal {
     Length,
     Unlike,
     Mismatch,
+    Path,
 }
 
 // 01's number.
@@ -38,5 +39,6 @@ pub fn refusal_number(refusal: Refusal) -> u8
         Refusal::Length => 12,
         Refusal::Unlike => 13,
         Refusal::Mismatch => 14,
+        Refusal::Path => 15,
     }
 }

@@ -13,7 +13,7 @@ ghost use Prim.Native.Nat.{_+_, _≤_};
 ghost use lib.ListN.{length};
 ghost use Rattle.wire.specs.declared.kind.Kind.the-variants.{Program, Block, Update};
 ghost use Rattle.wire.specs.Manifest.{manifestLength, written};
-ghost use Rattle.wire.specs.Message.{leastLength, programMessage, blockMessage, updateMessage, atStart};
+ghost use Rattle.wire.specs.Message.{leastLength, programMessage, blockMessage, successorHead, updateMessage, atStart};
 
 // The bare manifest.
 pub fn put_manifest(manifest: Manifest, out: &mut [u8])
@@ -48,17 +48,32 @@ pub fn put_block(number: u16, block: &[u8], out: &mut [u8]) -> usize
     BLOCK_LEAST + block.len()
 }
 
+// Kinds 3 and 4, up to the block; the answer is the index behind it.
+pub fn put_successor(
+    kind: u8,
+    manifest: Manifest,
+    number: u16,
+    block: &[u8],
+    out: &mut [u8],
+) -> usize
+    requires { ⌜ leastLength Update + length (now block) ≤ length (now out) ⌝ }
+    ensures { λ r. ⌜ (r ≡ leastLength Update + length (now (block .entry)))
+        × (now (out .exit) ≡ atStart (successorHead kind manifest number (now (block .entry))) (now (out .entry))) ⌝ }
+{
+    let bytes = to_bytes(manifest);
+    let digits = be16(number);
+    out[0] = kind;
+    copy(out, KIND_LEN, &bytes);
+    copy(out, PROGRAM_LEAST, &digits);
+    copy(out, UPDATE_LEAST, block);
+    UPDATE_LEAST + block.len()
+}
+
 // Kind 3.
 pub fn put_update(manifest: Manifest, number: u16, block: &[u8], signature: &[u8], out: &mut [u8])
     requires { ⌜ leastLength Update + length (now block) + length (now signature) ≤ length (now out) ⌝ }
     ensures { λ _. ⌜ now (out .exit) ≡ atStart (updateMessage manifest number (now (block .entry)) (now (signature .entry))) (now (out .entry)) ⌝ }
 {
-    let bytes = to_bytes(manifest);
-    let digits = be16(number);
-    out[0] = 3;
-    copy(out, KIND_LEN, &bytes);
-    copy(out, PROGRAM_LEAST, &digits);
-    copy(out, UPDATE_LEAST, block);
-    let from = UPDATE_LEAST + block.len();
+    let from = put_successor(3, manifest, number, block, out);
     copy(out, from, signature);
 }

@@ -2,34 +2,28 @@ use mathlib.Core.Path.{ap, _∙_}
 use Prim.Native.Nat.{_+_, _≤_, _<_}
 use native.Mathlib.Omega.{arith}
 use lib.ListN.{length}
-use Rattle.sha256.specs.Sha256.{digest}
-use Rattle.lms.specs.Lms.{valid}
 use Rattle.wire.specs.declared.kind.Kind.the-variants.{Update}
 use Rattle.wire.specs.Geometry.{countOf}
 use Rattle.wire.specs.Message.{leastLength, leastUpdate}
 use Rattle.wire.proofs.MessageLaws.{length-update-block}
-use Rattle.machine.proofs.RefusalLaws.{UpdatePassed, update-passed}
 use Rattle.device.proofs.ConditionLaws.{room}
 use Rattle.device.proofs.AcceptLaws.{update-is}
 use borrow.Author.Needs.{needs}
 use Rattle.device.proofs.accept.accept_update.Statement.{statement}
 use Rattle.device.proofs.accept.accept_update.Tie as tie
 
-accepted : (c : tie.Start) → UpdatePassed digest valid (c .args .device) (c .args .flash .now) (c .args .message .now)
-accepted c = update-passed digest valid _ _ _ (c .pre .0) (c .pre .1)
-
 -- the new block is there, as the code measures it
 long : (c : tie.After-block-len) → leastLength Update + c .block-len .result ≤ length (c .before .before .before .before .before .args .message .now)
 unfolding leastUpdate
-long c = rw (c .block-len .ensures, c .before .update-number .ensures, c .before .before .manifest-in .ensures) (accepted (c .before .before .before .before .before) .long)
+long c = rw (c .block-len .ensures, c .before .update-number .ensures, c .before .before .manifest-in .ensures) (c .before .before .before .before .before .pre .0)
 
 manifest-in-requires : tie.Need-manifest-in-requires
 unfolding leastUpdate
-manifest-in-requires c κs = let l = accepted (c .before .before) .long in omega arith
+manifest-in-requires c κs = let l = c .before .before .pre .0 in omega arith
 
 update-number-requires : tie.Need-update-number-requires
 unfolding leastUpdate
-update-number-requires c κs = let l = accepted (c .before .before .before) .long in omega arith
+update-number-requires c κs = let l = c .before .before .before .pre .0 in omega arith
 
 block-len-requires : tie.Need-block-len-requires
 block-len-requires c κs = search needs
@@ -46,10 +40,10 @@ write-block-requires c κs =
     let i = k .before .update-number .result in
     let s = k .before .before .manifest-in .result in
     let g = k .before .before .before .before .before .args in
-    let p = accepted (k .before .before .before .before .before) in
-    let turn : (0 < i) × (i ≤ countOf s) = rw (k .before .update-number .ensures, k .before .before .manifest-in .ensures) (p .turn) in
+    let p = k .before .before .before .before .before .pre in
+    let turn : (0 < i) × (i ≤ countOf s) = rw (k .before .update-number .ensures, k .before .before .manifest-in .ensures) (p .2, p .3) in
     let l = ap length (c .update-block .ensures) ∙ length-update-block _ (g .message .now) (long k) ∙ k .block-len .ensures in
-    (turn .0, omega (arith, l, room s (g .flash .now) i (rw (k .before .before .manifest-in .ensures) (p .room)) (turn .0) (turn .1)))
+    (turn .0, omega (arith, l, room s (g .flash .now) i (rw (k .before .before .manifest-in .ensures) (p .1)) (turn .0) (turn .1)))
 
 same-length : tie.Need-same-length
 same-length c = search needs

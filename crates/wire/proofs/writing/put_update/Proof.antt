@@ -1,88 +1,36 @@
-use mathlib.Core.Path.{refl, ap, _∙_}
-use mathlib.Core.List.{List, [], _∷_, _++_}
-use Prim.Native.Nat.{ℕ, _+_}
+use mathlib.Core.Path.{_≡_, refl, sym, ap, _∙_}
+use mathlib.Core.List.{List, _++_}
+use Prim.Native.Nat.{ℕ, _+_, _≤_}
 use native.Mathlib.Omega.{arith}
-use lib.ListN.{length, length-set}
-use Rattle.wire.specs.declared.kind.Kind.the-variants.{Program, Update}
-use Rattle.wire.specs.Message.{leastLength, atStart}
-use Rattle.wire.proofs.MessageLaws.{update-parts}
-use Rattle.wire.proofs.PutLaws.{Put, put-first, put-more, length-put, put-all}
+use lib.ListN.{length}
+use Rattle.merkle.specs.Limits.{hashLength}
+use Rattle.wire.specs.Message.{successorHead, atStart}
+use Rattle.wire.proofs.MessageLaws.{successor-size, update-whole}
+use Rattle.wire.proofs.PutLaws.{put-start, put-more, put-all}
 use borrow.Author.Needs.{needs}
 use Rattle.wire.proofs.writing.put_update.Statement.{statement}
 use Rattle.wire.proofs.writing.put_update.Tie as tie
 
--- The buffer after each copy: manifest, number, block, signature.
-put-1 : (c : tie.After-copy) → (let a = c .before .before .before .before .before .before .before .before .args in Put (a .out .now) (c .copy .last .0) (3 ∷ [] ++ c .before .before .before .before .to-bytes .result) (leastLength Program))
-put-1 c =
-    let a = c .before .before .before .before .before .before .before .before in
-    put-more (put-first (a .args .out .now) 3 (omega (arith, a .pre))) (c .before .before .before .before .to-bytes .result) (leastLength Program) (omega (arith, a .pre)) (omega arith) (c .copy .ensures)
-
-put-2 : (c : tie.After-copy2) → (let a = c .before .before .before .before .before .before .before .before .before .before .before .before .before .args in Put (a .out .now) (c .copy2 .last .0) (3 ∷ [] ++ c .before .before .before .before .before .before .before .before .before .to-bytes .result ++ c .before .before .before .before .before .before .before .before .be16 .result) (leastLength Update))
-put-2 c =
-    let a = c .before .before .before .before .before .before .before .before .before .before .before .before .before in
-    put-more (put-1 (c .before .before .before .before .before)) (c .before .before .before .before .before .before .before .before .be16 .result) (leastLength Update) (omega (arith, a .pre)) (omega arith) (c .copy2 .ensures)
-
-put-3 : (c : tie.After-copy3) → (let a = c .before .before .before .before .before .before .before .before .before .before .before .before .before .before .before .before .before .args in Put (a .out .now) (c .copy3 .last .0) (3 ∷ [] ++ c .before .before .before .before .before .before .before .before .before .before .before .before .before .to-bytes .result ++ c .before .before .before .before .before .before .before .before .before .before .before .before .be16 .result ++ a .block .now) (leastLength Update + length (a .block .now)))
-put-3 c =
-    let a = c .before .before .before .before .before .before .before .before .before .before .before .before .before .before .before .before .before in
-    put-more (put-2 (c .before .before .before .before)) (a .args .block .now) (leastLength Update + length (a .args .block .now)) (omega (arith, a .pre)) refl (c .copy3 .ensures)
-
-put-4 : (c : tie.After-copy4) → (let a = c .before .before .before .before .before .before .before .before .before .before .before .before .before .before .before .before .before .before .before .before .before .args in Put (a .out .now) (c .copy4 .last .0) (3 ∷ [] ++ c .before .before .before .before .before .before .before .before .before .before .before .before .before .before .before .before .before .to-bytes .result ++ c .before .before .before .before .before .before .before .before .before .before .before .before .before .before .before .before .be16 .result ++ a .block .now ++ a .signature .now) (leastLength Update + length (a .block .now) + length (a .signature .now)))
-put-4 c =
-    let a = c .before .before .before .before .before .before .before .before .before .before .before .before .before .before .before .before .before .before .before .before .before in
-    put-more (put-3 (c .before .before .before .before)) (a .args .signature .now) (leastLength Update + length (a .args .block .now) + length (a .args .signature .now)) (omega (arith, a .pre)) refl (c .copy4 .ensures)
-
-to-bytes-requires : tie.Need-to-bytes-requires
-to-bytes-requires c κs = search needs
-
-be16-requires : tie.Need-be16-requires
-be16-requires c κs = search needs
-
-slice-write-out : tie.Need-slice-write-out
-slice-write-out c = search needs
-
-slice-aggregate-copy : tie.Need-slice-aggregate-copy
-slice-aggregate-copy c = search needs
+put-successor-requires : tie.Need-put-successor-requires
+put-successor-requires c κs = search needs
 
 copy-requires : tie.Need-copy-requires
-copy-requires c κs = simp length-set (omega (arith, c .before .before .before .before .before .before .before .pre))
-
-slice-aggregate-copy-2 : tie.Need-slice-aggregate-copy-2
-slice-aggregate-copy-2 c = search needs
-
-copy-requires-2 : tie.Need-copy-requires-2
-copy-requires-2 c κs = let a = c .before .before .before .before .before .before .before .before .before .before .before .before in omega (arith, a .pre, length-put (put-1 (c .before .before .before .before)) (omega (arith, a .pre)))
-
-copy-requires-3 : tie.Need-copy-requires-3
-copy-requires-3 c κs = let a = c .before .before .before .before .before .before .before .before .before .before .before .before .before .before .before .before in omega (arith, a .pre, length-put (put-2 (c .before .before .before)) (omega (arith, a .pre)))
-
-add-from : tie.Need-add-from
-add-from c = search needs
-
-copy-requires-4 : tie.Need-copy-requires-4
-copy-requires-4 c κs = let a = c .before .before .before .before .before .before .before .before .before .before .before .before .before .before .before .before .before .before .before .before in omega (arith, a .pre, length-put (put-3 (c .before .before .before)) (omega (arith, a .pre)))
+copy-requires c κs = search needs
 
 same-length : tie.Need-same-length
-same-length c = length-put (put-4 (c .before .before)) (omega (arith, c .before .before .before .before .before .before .before .before .before .before .before .before .before .before .before .before .before .before .before .before .before .before .before .pre))
+same-length c = search needs
 
 returns : tie.Need-returns
 returns c =
-    let a = c .before .before .before .before .before .before .before .before .before .before .before .before .before .before .before .before .before .before .before .before .before .before .before .args in
-    (rw (c .before .before .before .before .before .before .before .before .before .before .before .before .before .before .before .before .before .before .before .to-bytes .ensures, c .before .before .before .before .before .before .before .before .before .before .before .before .before .before .before .before .before .before .be16 .ensures) at (put-all (put-4 (c .before .before)))) ∙ ap (λ (p : List ℕ). atStart p (a .out .now)) (update-parts (a .manifest) (a .number) (a .block .now) (a .signature .now))
+    let s = c .before .before .before .before .before .before .before .before .before .before .before in
+    let a = s .args in
+    let put = c .before .before .before .before .before .before .put-successor in
+    let root : length (a .manifest .root) ≡ hashLength = search needs in
+    let room : put .result + length (a .signature .now) ≤ length (a .out .now) = omega (arith, put .ensures .0, s .pre) in
+    let p = successorHead 3 (a .manifest) (a .number) (a .block .now) in
+    let begun = put-start {d = a .out .now} {p = p} (put .result) (successor-size 3 (a .manifest) root (a .number) (a .block .now) ∙ sym (put .ensures .0)) (put .ensures .1) in
+    put-all {d = a .out .now} {p = p ++ a .signature .now} (put-more {d = a .out .now} {p = p} begun (a .signature .now) (put .result + length (a .signature .now)) room refl (c .before .before .copy .ensures))
+    ∙ ap (λ (p : List ℕ). atStart p (a .out .now)) (update-whole (a .manifest) (a .number) (a .block .now) (a .signature .now))
 
 pub put-update-spec : {M : Type 1} → statement M
-put-update-spec =
-    tie.close
-    (tie.spec
-    to-bytes-requires
-    be16-requires
-    slice-write-out
-    slice-aggregate-copy
-    copy-requires
-    slice-aggregate-copy-2
-    copy-requires-2
-    copy-requires-3
-    add-from
-    copy-requires-4
-    same-length
-    returns)
+put-update-spec = tie.close (tie.spec put-successor-requires copy-requires same-length returns)

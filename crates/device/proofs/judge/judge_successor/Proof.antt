@@ -1,0 +1,113 @@
+use mathlib.Core.Path.{_≡_, sym, ap, _∙_}
+use mathlib.Core.Bool.{Bool}
+use mathlib.Core.List.{List}
+use Rattle.wire.specs.declared.refusal.Refusal.{Refusal}
+use Rattle.wire.specs.declared.refusal.Refusal.the-variants as refusal
+use Rattle.wire.specs.Size.{outside}
+use Rattle.machine.specs.Refusals.{ofManifest, ofSuccessor}
+use Rattle.machine.proofs.RefusalLaws.{Passes, start, _past_}
+use Rattle.device.proofs.JudgeLaws.{behind, refused, accepted, refused-in, past-all, size-passed}
+use borrow.Author.Needs.{needs}
+use Rattle.device.proofs.judge.judge_successor.Statement.{statement}
+use Rattle.device.proofs.judge.judge_successor.Tie as tie
+
+abbrev tests : tie.Start → List (Refusal × Bool)
+tests a = ofSuccessor (a .args .device) (a .args .flash .now) (a .args .manifest) (a .args .number)
+
+-- no test up to that of this refusal applies
+abbrev Past : Refusal → tie.Start → Type 0
+Past r a = Passes (tests a) (behind r (tests a))
+
+not-complete-requires : tie.Need-not-complete-requires
+not-complete-requires c κs = search needs
+
+returns : tie.Need-returns
+unfolding ofSuccessor
+returns c = refused (start _) (sym (c .before .not-complete .ensures) ∙ c .if1 .taken)
+
+judge-manifest-requires : tie.Need-judge-manifest-requires
+judge-manifest-requires c κs = search needs
+
+enum-told : tie.Need-enum-told
+enum-told c = search needs
+
+enum-told-2 : tie.Need-enum-told-2
+enum-told-2 c = search needs
+
+stage : (c : tie.Else1) → Past refusal.Stage (c .before .before .before)
+unfolding ofSuccessor behind
+stage c = start _ past (sym (c .before .not-complete .ensures) ∙ c .if1 .left)
+
+serial : (c : tie.After-enum-told) → Past refusal.Serial (c .before .before .before .before .before .before)
+unfolding ofSuccessor ofManifest behind
+serial c =
+    let j = c .before .before in
+    let a = j .before .before .before .before .args in
+    past-all (ofManifest (a .device) (a .manifest)) _ (stage (j .before)) (sym (c .enum-told .given .1) ∙ j .judge-manifest .ensures)
+
+unlike : (c : tie.Else2) → Past refusal.Unlike (c .before .before .before .before .before .before .before .before .before)
+unfolding ofSuccessor ofManifest behind
+unlike c = serial (c .before .before .before) past (sym (c .before .unlike .ensures) ∙ c .if2 .left)
+
+area : (c : tie.Else3) → Past refusal.Area (c .before .before .before .before .before .before .before .before .before .before .before)
+unfolding ofSuccessor ofManifest behind
+area c = unlike (c .before .before) past (sym (c .before .too-small .ensures) ∙ c .if3 .left)
+
+returns-2 : tie.Need-returns-2
+unfolding ofSuccessor behind
+returns-2 c =
+    let j = c .before .before in
+    let a = j .before .before .before .before .args in
+    let e = c .enum-told2 .given .1 in
+    e ∙ refused-in (ofManifest (a .device) (a .manifest)) _ (stage (j .before)) (sym e ∙ j .judge-manifest .ensures)
+
+unlike-requires : tie.Need-unlike-requires
+unlike-requires c κs = search needs
+
+returns-3 : tie.Need-returns-3
+unfolding ofSuccessor ofManifest behind
+returns-3 c = refused (serial (c .before .before .before)) (sym (c .before .unlike .ensures) ∙ c .if2 .taken)
+
+too-small-requires : tie.Need-too-small-requires
+too-small-requires c κs = let t = c .before .before .before in size-passed _ _ (t .before .before .judge-manifest .ensures) (t .enum-told .given .1)
+
+returns-4 : tie.Need-returns-4
+unfolding ofSuccessor ofManifest behind
+returns-4 c = refused (unlike (c .before .before)) (sym (c .before .too-small .ensures) ∙ c .if3 .taken)
+
+count-requires : tie.Need-count-requires
+count-requires c κs = let t = c .before .before .before .before .before in size-passed _ _ (t .before .before .judge-manifest .ensures) (t .enum-told .given .1)
+
+outside-requires : tie.Need-outside-requires
+outside-requires c κs = search needs
+
+returns-5 : tie.Need-returns-5
+unfolding ofSuccessor ofManifest behind
+returns-5 c =
+    let o = c .before in
+    refused (area (o .before .before)) (sym (o .outside .ensures ∙ ap (λ n. outside n (o .before .before .before .before .before .before .before .before .before .before .before .before .before .args .number)) (o .before .count .ensures)) ∙ c .if4 .taken)
+
+returns-6 : tie.Need-returns-6
+unfolding ofSuccessor ofManifest behind
+returns-6 c =
+    let o = c .before in
+    accepted (area (o .before .before) past (sym (o .outside .ensures ∙ ap (λ n. outside n (o .before .before .before .before .before .before .before .before .before .before .before .before .before .args .number)) (o .before .count .ensures)) ∙ c .if4 .left))
+
+pub judge-successor-spec : {M : Type 1} → statement M
+judge-successor-spec =
+    tie.close
+    (tie.spec
+    not-complete-requires
+    returns
+    judge-manifest-requires
+    enum-told
+    enum-told-2
+    returns-2
+    unlike-requires
+    returns-3
+    too-small-requires
+    returns-4
+    count-requires
+    outside-requires
+    returns-5
+    returns-6)

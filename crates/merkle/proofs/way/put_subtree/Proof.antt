@@ -1,0 +1,63 @@
+use mathlib.Core.Path.{_≡_, sym, ap₂, _∙_}
+use Prim.Native.Nat.{_+_, _*_}
+use native.Mathlib.Omega.{arith}
+use lib.ListN.{length}
+use lib.Seq.{paste}
+use borrow.Author.Needs.{needs}
+use Rattle.octets.proofs.CopyLaws.{part-from}
+use Rattle.merkle.specs.Limits.{hashLength}
+use Rattle.merkle.proofs.TreeLaws.{left-fits, right-fits}
+use Rattle.merkle.proofs.way.put_subtree.Statement.{statement}
+use Rattle.merkle.proofs.way.put_subtree.Tie as tie
+
+mul-from : tie.Need-mul-from
+mul-from c = let s = c .before .before .before in let a = s .args in omega (arith, left-fits (a .len) (length (a .flash .now)) (a .first + a .n) (a .first) (omega (arith, s .pre .0)) (s .pre .2))
+
+sub-subtree-hash : tie.Need-sub-subtree-hash
+sub-subtree-hash c = let s = c .before .before .before in let a = s .args in left-fits (a .len) (length (a .flash .now)) (a .first + a .n) (a .first) (omega (arith, s .pre .0)) (s .pre .2)
+
+part-subtree-hash-start : tie.Need-part-subtree-hash-start
+part-subtree-hash-start c = let s = c .before .before .before in let a = s .args in search (needs, left-fits (a .len) (length (a .flash .now)) (a .first + a .n) (a .first) (omega (arith, s .pre .0)) (s .pre .2))
+
+part-subtree-hash-end : tie.Need-part-subtree-hash-end
+part-subtree-hash-end c = search needs
+
+subtree-hash-requires : tie.Need-subtree-hash-requires
+subtree-hash-requires c κs =
+    let s = c .before .before .before .before in
+    let a = s .args in
+    (s .pre .0, s .pre .1, rw (part-from (a .flash .now) (a .first * a .len)) (right-fits (a .len) (a .first + a .n) (a .first) (a .n) (a .flash .now) (s .pre .0) (omega arith) (s .pre .2)))
+
+mul-copy : tie.Need-mul-copy
+mul-copy c = search needs
+
+slice-aggregate-copy : tie.Need-slice-aggregate-copy
+slice-aggregate-copy c = search needs
+
+copy-requires : tie.Need-copy-requires
+copy-requires c κs = search needs
+
+same-length : tie.Need-same-length
+same-length c = search needs
+
+returns : tie.Need-returns
+returns c =
+    let h = c .before .before .before .before .before .subtree-hash in
+    let s = c .before .before .before .before .before .before .before .before .before .before in
+    let l : length (h .result) ≡ hashLength = search needs in
+    c .before .before .copy .ensures ∙ ap₂ (paste (s .args .out .now) (hashLength * s .args .index)) (h .ensures (s .args .flash .now) (sym (part-from (s .args .flash .now) (s .args .first * s .args .len)))) l
+
+pub put-subtree-spec : {M : Type 1} → statement M
+put-subtree-spec =
+    tie.close
+    (tie.spec
+    mul-from
+    sub-subtree-hash
+    part-subtree-hash-start
+    part-subtree-hash-end
+    subtree-hash-requires
+    mul-copy
+    slice-aggregate-copy
+    copy-requires
+    same-length
+    returns)

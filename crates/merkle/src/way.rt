@@ -1,0 +1,110 @@
+// A block's whole way up to the root: how many siblings stand beside it, the root worked out from the block and these, and the sender's writing of them.
+use crate::limits::HASH_LEN;
+use crate::node::node;
+use crate::node::split;
+use crate::tree::subtree_hash;
+use octets::copy;
+use sha256::digest;
+ghost use mathlib.Core.Path.{_≡_};
+ghost use mathlib.Core.List.{_++_};
+ghost use Prim.Native.Nat.{_+_, _-_, _*_, _^_, _≤_, _<_};
+ghost use lib.ListN.{length, drop};
+ghost use lib.Seq.{paste};
+ghost use Rattle.sha256.specs.Sha256 as sha;
+ghost use Rattle.merkle.specs.Limits.{maxBlocks, hashLength};
+ghost use Rattle.merkle.specs.Blocks.{cut, overlay};
+ghost use Rattle.merkle.specs.Shape.{shape};
+ghost use Rattle.merkle.specs.Hash.{plain, hash};
+ghost use Rattle.merkle.specs.Path.{leafDepth, sentPath, pathHash};
+ghost use Rattle.merkle.specs.Held.{hashesIn};
+
+// The depth of the leaf that has `before` of the n blocks before it.
+pub fn leaf_depth(n: usize, before: usize) -> usize
+    requires { ⌜ before < n ⌝ }
+    ensures { λ r. ⌜ r ≡ leafDepth n before ⌝ }
+{
+    let mut m = n;
+    let mut i = before;
+    let mut depth: usize = 0;
+    while 1 < m {
+        let k = split(m);
+        depth += 1;
+        if i < k {
+            m = k;
+        } else {
+            m -= k;
+            i -= k;
+        }
+    }
+    depth
+}
+
+// The root over n blocks, worked out from the block that has `before` blocks before it and the siblings on its way up, lowest first.
+pub fn path_hash(n: usize, before: usize, block: &[u8], siblings: &[u8]) -> [u8; 32]
+    requires { ⌜ (before < n) × (length (now siblings) ≡ hashLength * leafDepth n before) ⌝ }
+    ensures { λ r. ⌜ r ≡ pathHash (plain sha.digest) 0 (shape n) before (now (block .entry)) (hashesIn (leafDepth n before) (now (siblings .entry))) ⌝ }
+{
+    if n == 1 {
+        return digest(block);
+    }
+    let k = split(n);
+    let below = siblings.len() - HASH_LEN;
+    let highest = &siblings[below..];
+    if before < k {
+        let left = path_hash(k, before, block, &siblings[..below]);
+        return node(&left, highest);
+    }
+    let right = path_hash(n - k, before - k, block, &siblings[..below]);
+    node(highest, &right)
+}
+
+// Puts the hash of a subtree over the same blocks as `root_with` to place `index` of the hashes in `out`.
+fn put_subtree(
+    out: &mut [u8],
+    index: usize,
+    flash: &[u8],
+    len: usize,
+    first: usize,
+    n: usize,
+    at: usize,
+    block: &[u8],
+)
+    requires { ⌜ (0 < n) × (first + n < 2 ^ 64) × ((first + n - 1) * len ≤ length (now flash)) × (hashLength * index + hashLength ≤ length (now out)) ⌝ }
+    ensures { λ _. ⌜ now (out .exit) ≡ paste (now (out .entry)) (hashLength * index) (hash (plain sha.digest) (overlay (cut len (now (flash .entry))) at (now (block .entry))) first (shape n)) hashLength ⌝ }
+{
+    let from = first * len;
+    let hash = subtree_hash(&flash[from..], len, first, n, at, block);
+    copy(out, HASH_LEN * index, &hash);
+}
+
+// Writes the siblings of the block after `before` of n, over the same blocks as `root_with`. The highest comes first, to its place at the end.
+pub fn write_path(
+    out: &mut [u8],
+    flash: &[u8],
+    len: usize,
+    n: usize,
+    before: usize,
+    at: usize,
+    block: &[u8],
+)
+    requires { ⌜ (before < n) × (n ≤ maxBlocks) × ((n - 1) * len ≤ length (now flash)) × (hashLength * leafDepth n before ≤ length (now out)) ⌝ }
+    ensures { λ _. ⌜ now (out .exit) ≡ sentPath (plain sha.digest) n (overlay (cut len (now (flash .entry))) at (now (block .entry))) before ++ drop (hashLength * leafDepth n before) (now (out .entry)) ⌝ }
+{
+    let mut first: usize = 0;
+    let mut m = n;
+    let mut i = before;
+    let mut depth = leaf_depth(n, before);
+    while 1 < m {
+        let k = split(m);
+        depth -= 1;
+        if i < k {
+            put_subtree(out, depth, flash, len, first + k, m - k, at, block);
+            m = k;
+        } else {
+            put_subtree(out, depth, flash, len, first, k, at, block);
+            first += k;
+            m -= k;
+            i -= k;
+        }
+    }
+}
