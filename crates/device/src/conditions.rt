@@ -1,18 +1,21 @@
-// When each refusal is given: a test for each, but for 2, 3 and the 12 of kinds 3 and 4, which stand in `judge`.
+// When each refusal is given: a test for each, but for 2 and 3, which stand in `judge`.
 use machine::Device;
 use machine::Stage;
 use wire::Manifest;
 ghost use mathlib.Core.Path.{_≡_};
 ghost use mathlib.Core.Bool.{false, _||_};
-ghost use Prim.Native.Nat.{_≤_, _<_};
+ghost use Prim.Native.Nat.{pred, _*_, _≤_, _<_};
+ghost use lib.Dec.{ltb};
 ghost use lib.ListN.{length};
 ghost use Rattle.sha256.specs.Sha256.{digest};
+ghost use Rattle.merkle.specs.Limits.{hashLength};
+ghost use Rattle.merkle.specs.Path.{leafDepth};
 ghost use Rattle.lms.specs.Lms.{valid};
 ghost use Rattle.wire.specs.declared.kind.Kind.the-variants as kinds;
 ghost use Rattle.wire.specs.Size.{wrongSize};
 ghost use Rattle.wire.specs.Size as size;
-ghost use Rattle.wire.specs.Geometry.{countOf, blockLength, programLength, withBlock};
-ghost use Rattle.wire.specs.Message.{leastLength, leastPath};
+ghost use Rattle.wire.specs.Geometry.{countOf, blockLength, programLength, blocksOf, withBlock};
+ghost use Rattle.wire.specs.Message.{leastLength, leastUpdate, leastPath};
 ghost use Rattle.machine.specs.declared.state.Stage.the-variants.{Loading};
 ghost use Rattle.machine.specs.Device.{serialOf, nextOf};
 ghost use Rattle.machine.specs.Refusals.{wrongVersion, otherModel, notNewer, tooSmall, notLoading, notComplete, notNext, wrongLength};
@@ -129,7 +132,7 @@ pub fn not_loading(stage: Stage) -> bool
     }
 }
 
-// 10, kind 3.
+// 10, kinds 3 and 4.
 pub fn not_complete(stage: Stage) -> bool
     ensures { λ r. ⌜ r ≡ notComplete stage ⌝ }
 {
@@ -183,6 +186,32 @@ pub fn wrong_length(manifest: Manifest, next: u16, message: &[u8]) -> bool
         )
 }
 
+// 12, kind 3.
+pub fn short_update(manifest: Manifest, number: u16, message: &[u8]) -> bool
+    requires { ⌜ wrongSize (manifest .«block_len») (manifest .«image_len») ≡ false ⌝ }
+    ensures { λ r. ⌜ r ≡ ltb (length (now (message .entry))) (leastUpdate (manifest .«block_len») (manifest .«image_len») number) ⌝ }
+{
+    message.len()
+        < wire::least_update(
+            manifest.block_len as usize,
+            manifest.image_len as usize,
+            number as usize,
+        )
+}
+
+// 12, kind 4.
+pub fn short_path(manifest: Manifest, number: u16, message: &[u8]) -> bool
+    requires { ⌜ (wrongSize (manifest .«block_len») (manifest .«image_len») ≡ false) × (size.outside (countOf manifest) number ≡ false) ⌝ }
+    ensures { λ r. ⌜ r ≡ ltb (length (now (message .entry))) (leastPath (manifest .«block_len») (manifest .«image_len») number) ⌝ }
+{
+    message.len()
+        < wire::least_path(
+            manifest.block_len as usize,
+            manifest.image_len as usize,
+            number as usize,
+        )
+}
+
 // 13.
 pub fn unlike(manifest: Manifest, old: Manifest) -> bool
     ensures { λ r. ⌜ r ≡ spec.unlike manifest old ⌝ }
@@ -226,15 +255,35 @@ pub fn lacks_root(manifest: Manifest, flash: &[u8], number: u16, block: &[u8]) -
     !octets::equal(&found, &root)
 }
 
-// 15 and 14, kind 4: the block with the message's siblings does not lead to the root.
-pub fn strays(manifest: Manifest, number: u16, block: &[u8], message: &[u8], root: &[u8]) -> bool
-    requires { ⌜ (wrongSize (manifest .«block_len») (manifest .«image_len») ≡ false) × (size.outside (countOf manifest) number ≡ false) × (leastPath (manifest .«block_len») (manifest .«image_len») number ≤ length (now message)) ⌝ }
-    ensures { λ r. ⌜ r ≡ spec.strays digest manifest number (now (block .entry)) (now (message .entry)) (now (root .entry)) ⌝ }
+// The depth of a block's leaf: so many siblings has a path update.
+pub fn leaf_depth(manifest: Manifest, number: u16) -> usize
+    requires { ⌜ (wrongSize (manifest .«block_len») (manifest .«image_len») ≡ false) × (size.outside (countOf manifest) number ≡ false) ⌝ }
+    ensures { λ r. ⌜ r ≡ leafDepth (countOf manifest) (pred number) ⌝ }
 {
-    let n = count(manifest);
-    let before = number as usize - 1;
-    let depth = merkle::leaf_depth(n, before);
-    let siblings = wire::path_in(message, block_len(manifest, number), depth);
-    let found = merkle::path_hash(n, before, block, siblings);
+    merkle::leaf_depth(count(manifest), number as usize - 1)
+}
+
+// The block as it stands in the flash.
+pub fn old_block(manifest: Manifest, flash: &[u8], number: u16) -> &[u8]
+    requires { ⌜ (tooSmall manifest (now flash) ≡ false) × (size.outside (countOf manifest) number ≡ false) ⌝ }
+    ensures { λ r. ⌜ now r ≡ blocksOf manifest (now (flash .entry)) (pred number) ⌝ }
+{
+    let from = (number as usize - 1) * manifest.block_len as usize;
+    let end = from + block_len(manifest, number);
+    &flash[from..end]
+}
+
+// 15 and 14, kind 4: the block with these siblings does not lead to the root.
+pub fn strays(
+    manifest: Manifest,
+    number: u16,
+    block: &[u8],
+    siblings: &[u8],
+    root: &[u8; 32],
+) -> bool
+    requires { ⌜ (wrongSize (manifest .«block_len») (manifest .«image_len») ≡ false) × (size.outside (countOf manifest) number ≡ false) × (length (now siblings) ≡ hashLength * leafDepth (countOf manifest) (pred number)) ⌝ }
+    ensures { λ r. ⌜ r ≡ spec.strays digest manifest number (now (block .entry)) (now (siblings .entry)) (now (root .entry)) ⌝ }
+{
+    let found = merkle::path_hash(count(manifest), number as usize - 1, block, siblings);
     !octets::equal(&found, root)
 }

@@ -3,14 +3,18 @@
 use crate::conditions::block_len;
 use crate::conditions::count;
 use crate::conditions::lacks_root;
+use crate::conditions::leaf_depth;
 use crate::conditions::mismatch;
 use crate::conditions::next_of;
 use crate::conditions::not_complete;
 use crate::conditions::not_loading;
 use crate::conditions::not_newer;
 use crate::conditions::not_next;
+use crate::conditions::old_block;
 use crate::conditions::other_model;
 use crate::conditions::senseless;
+use crate::conditions::short_path;
+use crate::conditions::short_update;
 use crate::conditions::strays;
 use crate::conditions::too_small;
 use crate::conditions::unlike;
@@ -31,7 +35,7 @@ ghost use Rattle.sha256.specs.Sha256.{digest};
 ghost use Rattle.lms.specs.Lms.{valid};
 ghost use Rattle.wire.specs.declared.kind.Kind.the-variants as kinds;
 ghost use Rattle.wire.specs.Refusal.{firstThatApplies};
-ghost use Rattle.wire.specs.Message.{leastLength, manifestIn};
+ghost use Rattle.wire.specs.Message.{leastLength, manifestIn, updateNumber};
 ghost use Rattle.machine.specs.Device.{nextOf};
 ghost use Rattle.machine.specs.Refusals.{ofManifest, ofProgram, ofBlock, ofSuccessor, ofUpdate, ofPathUpdate, refusals};
 ghost use Rattle.machine.specs.Refusals as spec;
@@ -152,7 +156,7 @@ fn judge_successor(device: Device, flash: &[u8], manifest: Manifest, number: u16
 // Kind 3: these, then 12, 9, 14.
 fn judge_update(device: Device, flash: &[u8], message: &[u8]) -> Answer
     requires { ⌜ leastLength kinds.Update ≤ length (now message) ⌝ }
-    ensures { λ r. ⌜ r ≡ answerOf (firstThatApplies (ofUpdate digest valid device (now (flash .entry)) (now (message .entry)) (manifestIn (now (message .entry))))) ⌝ }
+    ensures { λ r. ⌜ r ≡ answerOf (firstThatApplies (ofUpdate digest valid device (now (flash .entry)) (now (message .entry)) (manifestIn (now (message .entry))) (updateNumber (now (message .entry))))) ⌝ }
 {
     let manifest = wire::manifest_in(message);
     let number = wire::update_number(message);
@@ -160,13 +164,7 @@ fn judge_update(device: Device, flash: &[u8], message: &[u8]) -> Answer
     let Answer::Accepted = first else {
         return first;
     };
-    if message.len()
-        < wire::least_update(
-            manifest.block_len as usize,
-            manifest.image_len as usize,
-            number as usize,
-        )
-    {
+    if short_update(manifest, number, message) {
         return Answer::Refused(Refusal::Length);
     }
     let len = block_len(manifest, number);
@@ -186,7 +184,7 @@ fn judge_update(device: Device, flash: &[u8], message: &[u8]) -> Answer
 // Kind 4: the same, then 12, 9, 15, 14.
 fn judge_path_update(device: Device, flash: &[u8], message: &[u8]) -> Answer
     requires { ⌜ leastLength kinds.Update ≤ length (now message) ⌝ }
-    ensures { λ r. ⌜ r ≡ answerOf (firstThatApplies (ofPathUpdate digest valid device (now (flash .entry)) (now (message .entry)) (manifestIn (now (message .entry))))) ⌝ }
+    ensures { λ r. ⌜ r ≡ answerOf (firstThatApplies (ofPathUpdate digest valid device (now (flash .entry)) (now (message .entry)) (manifestIn (now (message .entry))) (updateNumber (now (message .entry))))) ⌝ }
 {
     let manifest = wire::manifest_in(message);
     let number = wire::update_number(message);
@@ -194,12 +192,11 @@ fn judge_path_update(device: Device, flash: &[u8], message: &[u8]) -> Answer
     let Answer::Accepted = first else {
         return first;
     };
-    let block_len = manifest.block_len as usize;
-    if message.len() < wire::least_path(block_len, manifest.image_len as usize, number as usize) {
+    if short_path(manifest, number, message) {
         return Answer::Refused(Refusal::Length);
     }
-    let len = crate::conditions::block_len(manifest, number);
-    let depth = merkle::leaf_depth(count(manifest), number as usize - 1);
+    let len = block_len(manifest, number);
+    let depth = leaf_depth(manifest, number);
     if unsigned(
         device,
         wire::manifest_bytes(message),
@@ -207,20 +204,15 @@ fn judge_path_update(device: Device, flash: &[u8], message: &[u8]) -> Answer
     ) {
         return Answer::Refused(Refusal::Unsigned);
     }
-    let from = (number as usize - 1) * block_len;
-    let end = from + len;
+    let siblings = wire::path_in(message, len, depth);
+    let old = old_block(manifest, flash, number);
     let held = device.manifest.root;
-    if strays(manifest, number, &flash[from..end], message, &held) {
+    if strays(manifest, number, old, siblings, &held) {
         return Answer::Refused(Refusal::Path);
     }
+    let new = wire::update_block(message, len);
     let root = manifest.root;
-    if strays(
-        manifest,
-        number,
-        wire::update_block(message, len),
-        message,
-        &root,
-    ) {
+    if strays(manifest, number, new, siblings, &root) {
         return Answer::Refused(Refusal::Mismatch);
     }
     Answer::Accepted

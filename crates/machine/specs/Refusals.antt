@@ -84,13 +84,11 @@ module _ (H : List ℕ → List ℕ) where
   unfoldable pub lacksRoot : Manifest → List ℕ → Bool
   lacksRoot s flash = not (equal (treeOver H s flash) (s .root))
 
-  -- Kind 4, with the message's siblings. 15: the old block does not lead to the held root. 14: the new block does not lead to the new one.
-  unfoldable pub strays : Manifest → ℕ → (block m root : List ℕ) → Bool
-  strays s i block m root =
+  -- 15 and 14 for kind 4: block i with these siblings does not lead to the root
+  unfoldable pub strays : Manifest → (i : ℕ) → (block siblings root : List ℕ) → Bool
+  strays s i block siblings root =
       let n = countOf s in
-      let depth = leafDepth n (pred i) in
-      let k = blockLength (s .«block_len») (s .«image_len») i in
-      not (equal (pathHash (plain H) 0 (shape n) (pred i) block (hashesIn depth (pathIn k depth m))) root)
+      not (equal (pathHash (plain H) 0 (shape n) (pred i) block (hashesIn (leafDepth n (pred i)) siblings)) root)
 
 -- "Order, first that applies": refusals in order, each with its test
 
@@ -140,10 +138,9 @@ ofSuccessor d flash s i =
     ∷ [])
 
 module _ (H : List ℕ → List ℕ) (valid : (key message signature : List ℕ) → Bool) where
-  -- "Kind 3: 10, 4, 5, 6, 7, 13, 8, 11, 12, 9, 14"; s is the manifest that the message carries
-  unfoldable pub ofUpdate : Device → (flash m : List ℕ) → Manifest → List (Refusal × Bool)
-  ofUpdate d flash m s =
-      let i = updateNumber m in
+  -- "Kind 3: 10, 4, 5, 6, 7, 13, 8, 11, 12, 9, 14"; s is the manifest that the message carries, i its number
+  unfoldable pub ofUpdate : Device → (flash m : List ℕ) → Manifest → ℕ → List (Refusal × Bool)
+  ofUpdate d flash m s i =
       let k = blockLength (s .«block_len») (s .«image_len») i in
       ofSuccessor d flash s i
       ++ ((refusal.Length, ltb (length m) (leastUpdate (s .«block_len») (s .«image_len») i))
@@ -151,16 +148,17 @@ module _ (H : List ℕ → List ℕ) (valid : (key message signature : List ℕ)
       ∷ (refusal.Mismatch, lacksRoot H s (updated s flash m))
       ∷ [])
 
-  -- "All of kind 3's checks apply"; 15 "after 9 and before 14"
-  unfoldable pub ofPathUpdate : Device → (flash m : List ℕ) → Manifest → List (Refusal × Bool)
-  ofPathUpdate d flash m s =
-      let i = updateNumber m in
+  -- "All of kind 3's checks apply"; 15 "if the old block doesn't lead to the held root, after 9 and before 14, here for the new root"
+  unfoldable pub ofPathUpdate : Device → (flash m : List ℕ) → Manifest → ℕ → List (Refusal × Bool)
+  ofPathUpdate d flash m s i =
       let k = blockLength (s .«block_len») (s .«image_len») i in
+      let depth = leafDepth (countOf s) (pred i) in
+      let siblings = pathIn k depth m in
       ofSuccessor d flash s i
       ++ ((refusal.Length, ltb (length m) (leastPath (s .«block_len») (s .«image_len») i))
-      ∷ (refusal.Unsigned, unsigned valid d (manifestBytes m) (pathSignature k (leafDepth (countOf s) (pred i)) m))
-      ∷ (refusal.Path, strays H s i (blocksOf s flash (pred i)) m (d .manifest .root))
-      ∷ (refusal.Mismatch, strays H s i (updateBlock k m) m (s .root))
+      ∷ (refusal.Unsigned, unsigned valid d (manifestBytes m) (pathSignature k depth m))
+      ∷ (refusal.Path, strays H s i (blocksOf s flash (pred i)) siblings (d .manifest .root))
+      ∷ (refusal.Mismatch, strays H s i (updateBlock k m) siblings (s .root))
       ∷ [])
 
   unfoldable pub ofKind : Kind → Device → (flash m : List ℕ) → List (Refusal × Bool)
@@ -168,8 +166,8 @@ module _ (H : List ℕ → List ℕ) (valid : (key message signature : List ℕ)
       elim k [
         | kinds.Program ↦ ofProgram valid d flash m (manifestIn m)
         | kinds.Block ↦ ofBlock H d flash m (nextOf (d .stage))
-        | kinds.Update ↦ ofUpdate d flash m (manifestIn m)
-        | kinds.PathUpdate ↦ ofPathUpdate d flash m (manifestIn m)
+        | kinds.Update ↦ ofUpdate d flash m (manifestIn m) (updateNumber m)
+        | kinds.PathUpdate ↦ ofPathUpdate d flash m (manifestIn m) (updateNumber m)
         | kinds.Unknown ↦ []
       ]
 

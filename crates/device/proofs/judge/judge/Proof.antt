@@ -66,6 +66,13 @@ judge-update-requires : tie.Need-judge-update-requires
 unfolding short
 judge-update-requires c κs = ltb-false _ _ (enough (c .before .before) (c .enum-told4 .given .1))
 
+enum-told-5 : tie.Need-enum-told-5
+enum-told-5 c = search needs
+
+judge-path-update-requires : tie.Need-judge-path-update-requires
+unfolding short
+judge-path-update-requires c κs = ltb-false _ _ (enough (c .before .before) (c .enum-told5 .given .1))
+
 returns-3 : tie.Need-returns-3
 unfolding noKind refusals always behind
 returns-3 c = rw (c .enum-told .given .1) (refused (sensible (c .before .before .before .before) kinds.Unknown) refl)
@@ -88,6 +95,12 @@ returns-6 c =
     let e = c .before .enum-told4 .given .1 in
     rw e (onward (sensible (c .before .before .before .before .before) kinds.Update past refl past enough (c .before .before .before) e) (c .judge-update .ensures))
 
+returns-7 : tie.Need-returns-7
+unfolding noKind ofKind refusals always behind
+returns-7 c =
+    let e = c .before .enum-told5 .given .1 in
+    rw e (onward (sensible (c .before .before .before .before .before) kinds.PathUpdate past refl past enough (c .before .before .before) e) (c .judge-path-update .ensures))
+
 pub judge-spec : {M : Type 1} → statement M
 judge-spec =
     tie.close
@@ -103,7 +116,10 @@ judge-spec =
     judge-block-requires
     enum-told-4
     judge-update-requires
+    enum-told-5
+    judge-path-update-requires
     returns-3
     returns-4
     returns-5
-    returns-6)
+    returns-6
+    returns-7)

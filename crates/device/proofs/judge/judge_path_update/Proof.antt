@@ -1,0 +1,215 @@
+use mathlib.Core.Path.{_≡_, sym, ap, ap₂, _∙_}
+use mathlib.Core.Bool.{Bool, false}
+use mathlib.Core.List.{List}
+use Prim.Native.Nat.{ℕ, pred, _+_, _*_, _≤_}
+use native.Mathlib.Omega.{arith}
+use lib.ListN.{length}
+use borrow.Author.Tests.{ltb-false}
+use Rattle.sha256.specs.Sha256.{digest}
+use Rattle.merkle.specs.Limits.{hashLength}
+use Rattle.merkle.specs.Path.{leafDepth}
+use Rattle.lms.specs.Lms.{valid}
+use Rattle.wire.specs.declared.kind.Kind.the-variants.{Update}
+use Rattle.wire.specs.declared.manifest.Manifest.{Manifest}
+use Rattle.wire.specs.declared.refusal.Refusal.{Refusal}
+use Rattle.wire.specs.declared.refusal.Refusal.the-variants as refusal
+use Rattle.wire.specs.Size.{wrongSize, outside}
+use Rattle.wire.specs.Geometry.{countOf, blockLength, blocksOf}
+use Rattle.wire.specs.Message.{leastLength, manifestBytes, manifestIn, updateNumber, updateBlock, pathIn, pathSignature, leastUpdate, leastPath}
+use Rattle.wire.proofs.MessageLaws.{length-path-in}
+use Rattle.machine.specs.Refusals.{tooSmall, strays, unsigned, ofManifest, ofSuccessor, ofPathUpdate}
+use Rattle.machine.proofs.RefusalLaws.{Passes, _past_}
+use Rattle.device.proofs.JudgeLaws.{behind, retold, refused, accepted, refused-in, past-all, successor-passed}
+use borrow.Author.Needs.{needs}
+use Rattle.device.proofs.judge.judge_path_update.Statement.{statement}
+use Rattle.device.proofs.judge.judge_path_update.Tie as tie
+
+abbrev start-of : tie.After-judge-successor → tie.Start
+start-of j = j .before .before .before .before .before
+
+abbrev message : tie.After-judge-successor → List ℕ
+message j = start-of j .args .message .now
+
+-- manifest and number, as they were read
+abbrev manifest : tie.After-judge-successor → Manifest
+manifest j = j .before .before .manifest-in .result
+
+abbrev number : tie.After-judge-successor → ℕ
+number j = j .before .update-number .result
+
+abbrev tests : tie.After-judge-successor → Manifest → ℕ → List (Refusal × Bool)
+tests j s i = ofPathUpdate digest valid (start-of j .args .device) (start-of j .args .flash .now) (message j) s i
+
+-- no test up to that of this refusal applies
+abbrev Past : Refusal → tie.After-judge-successor → Type 0
+Past r j = Passes (tests j (manifestIn (message j)) (updateNumber (message j))) (behind r (tests j (manifest j) (number j)))
+
+-- the tests, by what was read
+told : (j : tie.After-judge-successor) → Passes (tests j (manifestIn (message j)) (updateNumber (message j))) (tests j (manifest j) (number j))
+told j = retold (ap₂ (tests j) (j .before .before .manifest-in .ensures) (j .before .update-number .ensures))
+
+-- length of the new block, depth of its leaf, and the siblings in the message
+abbrev size : tie.After-judge-successor → ℕ
+size j = let s = manifest j in blockLength (s .«block_len») (s .«image_len») (number j)
+
+abbrev depth : tie.After-judge-successor → ℕ
+depth j = leafDepth (countOf (manifest j)) (pred (number j))
+
+abbrev siblings : tie.After-judge-successor → List ℕ
+siblings j = pathIn (size j) (depth j) (message j)
+
+turn : (c : tie.After-enum-told) → Past refusal.Turn (c .before .before)
+unfolding ofPathUpdate ofSuccessor ofManifest behind
+turn c =
+    let j = c .before .before in
+    past-all (ofSuccessor (start-of j .args .device) (start-of j .args .flash .now) (manifest j) (number j)) _ (told j) (sym (c .enum-told .given .1) ∙ j .judge-successor .ensures)
+
+long : (c : tie.Else1) → Past refusal.Length (c .before .before .before .before)
+unfolding ofPathUpdate ofSuccessor ofManifest behind
+long c = turn (c .before .before) past (sym (c .before .short-path .ensures) ∙ c .if1 .left)
+
+-- the message has the block and its siblings whole
+enough : (c : tie.After-leaf-depth) → leastLength Update + c .before .block-len .result + hashLength * c .leaf-depth .result ≤ length (message (c .before .before .before .before .before .before))
+unfolding leastUpdate leastPath countOf
+enough c = rw (c .before .block-len .ensures, c .leaf-depth .ensures) (ltb-false _ _ (sym (c .before .before .before .short-path .ensures) ∙ c .before .before .if1 .left))
+
+-- the verdict on manifest and signature, as they stand in the message
+verdict : (c : tie.After-unsigned) → let j = c .before .before .before .before .before .before .before .before .before in c .unsigned .result ≡ unsigned valid (start-of j .args .device) (manifestBytes (message j)) (pathSignature (size j) (depth j) (message j))
+verdict c =
+    let j = c .before .before .before .before .before .before .before .before .before in
+    let d = c .before .before .before in
+    c .unsigned .ensures ∙ ap₂ (unsigned valid _) (c .before .before .manifest-bytes .ensures) (c .before .path-signature .ensures ∙ ap₂ (λ k d. pathSignature k d (message j)) (d .before .block-len .ensures) (d .leaf-depth .ensures))
+
+signed : (c : tie.Else2) → Past refusal.Unsigned (c .before .before .before .before .before .before .before .before .before .before)
+unfolding ofPathUpdate ofSuccessor ofManifest behind
+signed c = long (c .before .before .before .before .before .before) past (sym (verdict (c .before)) ∙ c .if2 .left)
+
+siblings-are : (c : tie.After-path-in) → c .path-in .result .now ≡ siblings (c .before .before .before .before .before .before .before .before .before .before .before)
+siblings-are c = let d = c .before .before .before .before .before in c .path-in .ensures ∙ ap₂ (λ k d. pathIn k d (message (c .before .before .before .before .before .before .before .before .before .before .before))) (d .before .block-len .ensures) (d .leaf-depth .ensures)
+
+-- the old block and the new one, each with the siblings
+from : (c : tie.After-strays) → let j = c .before .before .before .before .before .before .before .before .before .before .before .before .before .before .before in c .strays .result ≡ strays digest (manifest j) (number j) (blocksOf (manifest j) (start-of j .args .flash .now) (pred (number j))) (siblings j) (start-of j .args .device .manifest .root)
+from c = let j = c .before .before .before .before .before .before .before .before .before .before .before .before .before .before .before in c .strays .ensures ∙ ap₂ (λ b y. strays digest (manifest j) (number j) b y (start-of j .args .device .manifest .root)) (c .before .before .before .old-block .ensures) (siblings-are (c .before .before .before .before))
+
+rooted : (c : tie.Else3) → Past refusal.Path (c .before .before .before .before .before .before .before .before .before .before .before .before .before .before .before .before)
+unfolding ofPathUpdate ofSuccessor ofManifest behind
+rooted c = signed (c .before .before .before .before .before .before) past (sym (from (c .before)) ∙ c .if3 .left)
+
+to : (c : tie.After-strays2) → let j = c .before .before .before .before .before .before .before .before .before .before .before .before .before .before .before .before .before .before .before .before in c .strays2 .result ≡ strays digest (manifest j) (number j) (updateBlock (size j) (message j)) (siblings j) (manifest j .root)
+to c =
+    let j = c .before .before .before .before .before .before .before .before .before .before .before .before .before .before .before .before .before .before .before .before in
+    c .strays2 .ensures ∙ ap₂ (λ b y. strays digest (manifest j) (number j) b y (manifest j .root)) (c .before .before .before .update-block .ensures ∙ ap (λ k. updateBlock k (message j)) (c .before .before .before .before .before .before .before .before .before .before .before .before .before .before .before .block-len .ensures)) (siblings-are (c .before .before .before .before .before .before .before .before .before))
+
+-- what the first tests have shown
+known : (c : tie.After-enum-told) → let j = c .before .before in
+    (wrongSize (manifest j .«block_len») (manifest j .«image_len») ≡ false) × (tooSmall (manifest j) (start-of j .args .flash .now) ≡ false) × (outside (countOf (manifest j)) (number j) ≡ false)
+known c = successor-passed _ _ _ _ (c .before .before .judge-successor .ensures) (c .enum-told .given .1)
+
+strays-needs : (c : tie.After-path-in) → let j = c .before .before .before .before .before .before .before .before .before .before .before in
+    (wrongSize (manifest j .«block_len») (manifest j .«image_len») ≡ false) × (outside (countOf (manifest j)) (number j) ≡ false) × (length (c .path-in .result .now) ≡ hashLength * depth j)
+strays-needs c =
+    let d = c .before .before .before .before .before in
+    let p = known (c .before .before .before .before .before .before .before .before .before) in
+    (p .0, p .2, ap length (c .path-in .ensures) ∙ length-path-in _ (message (c .before .before .before .before .before .before .before .before .before .before .before)) _ (enough d) ∙ ap (λ k. hashLength * k) (d .leaf-depth .ensures))
+
+manifest-in-requires : tie.Need-manifest-in-requires
+manifest-in-requires c κs = search needs
+
+update-number-requires : tie.Need-update-number-requires
+update-number-requires c κs = search needs
+
+judge-successor-requires : tie.Need-judge-successor-requires
+judge-successor-requires c κs = search needs
+
+enum-told : tie.Need-enum-told
+enum-told c = search needs
+
+enum-told-2 : tie.Need-enum-told-2
+enum-told-2 c = search needs
+
+returns : tie.Need-returns
+unfolding ofPathUpdate
+returns c =
+    let j = c .before .before in
+    let e = c .enum-told2 .given .1 in
+    e ∙ refused-in (ofSuccessor (start-of j .args .device) (start-of j .args .flash .now) (manifest j) (number j)) _ (told j) (sym e ∙ j .judge-successor .ensures)
+
+short-path-requires : tie.Need-short-path-requires
+short-path-requires c κs = let p = known c in (p .0, p .2)
+
+returns-2 : tie.Need-returns-2
+unfolding ofPathUpdate ofSuccessor ofManifest behind
+returns-2 c = refused (turn (c .before .before)) (sym (c .before .short-path .ensures) ∙ c .if1 .taken)
+
+block-len-requires : tie.Need-block-len-requires
+block-len-requires c κs = search needs
+
+leaf-depth-requires : tie.Need-leaf-depth-requires
+leaf-depth-requires c κs = let p = known (c .before .before .before) in (p .0, p .2)
+
+manifest-bytes-requires : tie.Need-manifest-bytes-requires
+manifest-bytes-requires c κs = search needs
+
+path-signature-requires : tie.Need-path-signature-requires
+path-signature-requires c κs = enough (c .before)
+
+unsigned-requires : tie.Need-unsigned-requires
+unsigned-requires c κs = search needs
+
+returns-3 : tie.Need-returns-3
+unfolding ofPathUpdate ofSuccessor ofManifest behind
+returns-3 c = refused (long (c .before .before .before .before .before .before)) (sym (verdict (c .before)) ∙ c .if2 .taken)
+
+path-in-requires : tie.Need-path-in-requires
+path-in-requires c κs = enough (c .before .before .before .before)
+
+old-block-requires : tie.Need-old-block-requires
+old-block-requires c κs = let p = known (c .before .before .before .before .before .before .before .before .before) in (p .1, p .2)
+
+strays-requires : tie.Need-strays-requires
+strays-requires c κs = strays-needs (c .before .before .before)
+
+returns-4 : tie.Need-returns-4
+unfolding ofPathUpdate ofSuccessor ofManifest behind
+returns-4 c = refused (signed (c .before .before .before .before .before .before)) (sym (from (c .before)) ∙ c .if3 .taken)
+
+update-block-requires : tie.Need-update-block-requires
+update-block-requires c κs = omega (arith, enough (c .before .before .before .before .before .before .before .before .before .before))
+
+strays-requires-2 : tie.Need-strays-requires-2
+strays-requires-2 c κs = strays-needs (c .before .before .before .before .before .before .before .before)
+
+returns-5 : tie.Need-returns-5
+unfolding ofPathUpdate ofSuccessor ofManifest behind
+returns-5 c = refused (rooted (c .before .before .before .before .before)) (sym (to (c .before)) ∙ c .if4 .taken)
+
+returns-6 : tie.Need-returns-6
+unfolding ofPathUpdate ofSuccessor ofManifest behind
+returns-6 c = accepted (rooted (c .before .before .before .before .before) past (sym (to (c .before)) ∙ c .if4 .left))
+
+pub judge-path-update-spec : {M : Type 1} → statement M
+judge-path-update-spec =
+    tie.close
+    (tie.spec
+    manifest-in-requires
+    update-number-requires
+    judge-successor-requires
+    enum-told
+    enum-told-2
+    returns
+    short-path-requires
+    returns-2
+    block-len-requires
+    leaf-depth-requires
+    manifest-bytes-requires
+    path-signature-requires
+    unsigned-requires
+    returns-3
+    path-in-requires
+    old-block-requires
+    strays-requires
+    returns-4
+    update-block-requires
+    strays-requires-2
+    returns-5
+    returns-6)
