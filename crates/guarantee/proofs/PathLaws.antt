@@ -80,13 +80,13 @@ module _ (H : List ℕ → List ℕ) (hash-long : (x : List ℕ) → length (H x
       ∙ hash-same (plain H) {o = 0} {u = 0} (shape n) (record { block = λ j h. with-blocks s i flash below (p .successor .room) x long (0 + j) })
       ∙ hash-replaced (plain H) f (shape n) i x within
 
-  pub path-tree : treeOver H (d .manifest) flash ≡ d .manifest .root → (treeOver H s (updated s flash m) ≡ s .root) ⊎ Clash H (record { flash = flash; message = m })
+  pub path-tree : treeOver H (d .manifest) flash ≡ d .manifest .root → (treeOver H s (updated s flash m) ≡ s .root) ⊎ Clash H flash m
   unfolding treeOver
   path-tree e =
       let lead : pathHash (plain H) 0 (shape n) i (f i) ys ≡ hash (plain H) f 0 (shape n) = p .old ∙ sym e ∙ sym (alike-tree H s (d .manifest) flash (p .successor .alike)) in
       let count : length (way 0 (shape n) i) ≡ length ys = length-way 0 (shape n) i within ∙ depth-at 0 n i ∙ sym (length-hashesIn (leafDepth n i) _) in
       go (binding.path-binding (plain H) hash-long f (f i) 0 (shape n) i within ys count lead)
     where
-      go : binding.Bound (plain H) hash-long f (f i) ys 0 (shape n) i → (treeOver H s (updated s flash m) ≡ s .root) ⊎ Clash H (record { flash = flash; message = m })
+      go : binding.Bound (plain H) hash-long f (f i) ys 0 (shape n) i → (treeOver H s (updated s flash m) ≡ s .root) ⊎ Clash H flash m
       go (inl b) = inl (replaced ∙ ap (pathHash (plain H) 0 (shape n) i x) (sym (b .1)) ∙ p .new)
       go (inr c) = inr c

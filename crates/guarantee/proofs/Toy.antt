@@ -33,8 +33,8 @@ use Rattle.machine.specs.Device.{Fresh, serialOf, nextOf, heldBy, Outcome}
 use Rattle.machine.specs.Flash.{stored, updated}
 use Rattle.machine.specs.Refusals.{wrongVersion, senseless, noKind, otherModel, notNewer, tooSmall, notLoading, notComplete, notNext, wrongLength, unlike, mismatch, lacksRoot, unsigned, strays, ofManifest, always, ofProgram, ofBlock, ofSuccessor, ofUpdate, ofPathUpdate, ofKind, refusals}
 use Rattle.machine.specs.Step.{acceptProgram, stageAfter, acceptBlock, acceptUpdate, accept, answerOf, outcome, refusalOf, step}
-use Rattle.guarantee.specs.Run.{Messages, empty, _▷_, after, answerTo, accepted, history, lastProgram, blocksSince, lastCarrier, signatureIn}
-use Rattle.guarantee.specs.Demand3.{Misled, thenBlocks, Demand3}
+use Rattle.guarantee.specs.Run.{Messages, empty, _▷_, after, answerTo, accepted, lastProgram, blocksSince, pathsSince, lastCarrier, signatureIn}
+use Rattle.guarantee.specs.Demand3.{thenBlocks, Demand3}
 use Rattle.guarantee.proofs.Demand3Holds.{demand3-for}
 
 abbrev pub Step : Type 0
@@ -118,7 +118,7 @@ unfolding serialOf nextOf heldBy wrongVersion senseless noKind otherModel notNew
 refusals-compute = 0
 
 unfoldable pub run-computes : ℕ
-unfolding stored updated acceptProgram stageAfter acceptBlock acceptUpdate accept outcome step after answerTo accepted history Misled lastProgram blocksSince lastCarrier signatureIn answerOf thenBlocks
+unfolding stored updated acceptProgram stageAfter acceptBlock acceptUpdate accept outcome step after answerTo accepted lastProgram blocksSince pathsSince lastCarrier signatureIn answerOf thenBlocks
 run-computes = 0
 
 unfoldable pub computing : ℕ

@@ -1,7 +1,6 @@
 -- Wrong devices that break the first half. Where the comment says 'alone', all other clauses of demand 3 hold of the device, by reading.
 use mathlib.Core.Path.{_≡_, refl, sym, ap, _∙_}
-use mathlib.Core.Logic.{⊎-elim}
-use mathlib.Core.Bool.{true, false, cond, _&&_, true≢false, false≢true}
+use mathlib.Core.Bool.{false, cond, _&&_, true≢false, false≢true}
 use mathlib.Core.List.{List, [], _∷_, _++_}
 use mathlib.Core.Option.{some}
 use Prim.Native.Nat.{ℕ, _-_}
@@ -17,18 +16,18 @@ use Rattle.sender.specs.Job.{manifestFor, programFor, blockFor, updateFor}
 use Rattle.machine.specs.declared.state.Stage.the-variants.{Idle, Loading, Complete}
 use Rattle.machine.specs.declared.state.Device.{Device}
 use Rattle.machine.specs.Device.{nextOf}
-use Rattle.guarantee.specs.Run.{Messages, empty, _▷_, after, accepted, history, lastProgram, blocksSince, lastCarrier, Completed}
-use Rattle.guarantee.specs.Demand3.{Misled, Intact, FirstHalf}
+use Rattle.guarantee.specs.Run.{Messages, empty, _▷_, after, accepted, lastProgram, blocksSince, pathsSince, lastCarrier, Completed}
+use Rattle.guarantee.specs.Demand3.{FirstHalf}
+use Rattle.guarantee.proofs.MisledLaws.{stays-intact}
 use Rattle.guarantee.proofs.Toy.{Step, toy, any, nobody, job, newer, unfilled, fresh, flash, program, nobodys, noImage, right, taking, but, butFlash, byKind, computing, loaded, at}
 
 -- A complete device whose tree lacks its manifest's root, and that no path update misled.
-unrooted : (wrong : Step) (ms : Messages) → Completed (accepted wrong fresh flash ms)
+unrooted : (wrong : Step) (ms : Messages) → Completed (accepted wrong fresh flash ms) → pathsSince (accepted wrong fresh flash ms) ≡ 0
     → equal (treeOver toy (after wrong fresh flash ms .device .manifest) (after wrong fresh flash ms .flash)) (after wrong fresh flash ms .device .manifest .root) ≡ false
-    → (Misled toy (history wrong fresh flash ms) → ⊥) → FirstHalf toy any wrong fresh flash ms → ⊥
-unrooted wrong ms c e n h =
-    ⊎-elim (λ (t : Intact toy any wrong fresh flash (after wrong fresh flash ms .device .manifest) (after wrong fresh flash ms .flash)).
-    true≢false (sym (equal-self (after wrong fresh flash ms .device .manifest .root)) ∙ ap (λ x. equal x (after wrong fresh flash ms .device .manifest .root)) (sym (t .rooted)) ∙ e)) n
-    (h .bound c .tree)
+    → FirstHalf toy any wrong fresh flash ms → ⊥
+unrooted wrong ms c n e h =
+    let r = stays-intact toy any wrong fresh flash ms h c n .rooted in
+    true≢false (sym (equal-self (after wrong fresh flash ms .device .manifest .root)) ∙ ap (λ x. equal x (after wrong fresh flash ms .device .manifest .root)) (sym r) ∙ e)
 
 -- It checks block 1 and merely steps on for later ones.
 pub careless : Step
@@ -39,7 +38,7 @@ careless-list = empty ▷ program ▷ blockFor toy (job .image) 1 ▷ blockFor t
 
 pub careless-caught : FirstHalf toy any careless fresh flash careless-list → ⊥
 unfolding computing careless careless-list
-careless-caught = unrooted careless careless-list (record { manifest = manifestFor toy job; last = refl; all = refl }) refl (λ c. c)
+careless-caught = unrooted careless careless-list (record { manifest = manifestFor toy job; last = refl; all = refl }) refl refl
 
 -- It does not compare an update's root.
 pub blind : Step
@@ -47,7 +46,7 @@ blind = byKind right right taking
 
 pub blind-caught : FirstHalf toy any blind fresh flash (loaded ▷ updateFor toy newer 1 []) → ⊥
 unfolding computing blind
-blind-caught = unrooted blind (loaded ▷ updateFor toy newer 1 []) (record { manifest = manifestFor toy job; last = refl; all = refl }) refl (λ c. c)
+blind-caught = unrooted blind (loaded ▷ updateFor toy newer 1 []) (record { manifest = manifestFor toy job; last = refl; all = refl }) refl refl
 
 -- Its manifest is not the last accepted message's.
 other-serial : (wrong : Step) (ms : Messages) (m : List ℕ) → lastCarrier (accepted wrong fresh flash ms) ≡ some m
@@ -135,7 +134,7 @@ unwritten = byKind right right (λ d f m. butFlash (right d f m) f)
 
 pub unwritten-caught : FirstHalf toy any unwritten fresh flash (loaded ▷ updateFor toy newer 2 []) → ⊥
 unfolding computing unwritten
-unwritten-caught = unrooted unwritten (loaded ▷ updateFor toy newer 2 []) (record { manifest = manifestFor toy job; last = refl; all = refl }) refl (λ c. c)
+unwritten-caught = unrooted unwritten (loaded ▷ updateFor toy newer 2 []) (record { manifest = manifestFor toy job; last = refl; all = refl }) refl refl
 
 -- It accepts everything.
 pub taking-caught : FirstHalf toy nobody taking fresh flash loaded → ⊥
