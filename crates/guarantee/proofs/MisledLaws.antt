@@ -1,6 +1,6 @@
 -- Path updates that misled a device, of any step.
 use mathlib.Core.Path.{_≡_, refl}
-use mathlib.Core.Logic.{⊎-elim}
+use mathlib.Core.Logic.{_⊎_, inl, inr, ⊎-elim}
 use mathlib.Core.Bool.{Bool, true}
 use mathlib.Core.List.{List}
 use Prim.Native.Nat.{ℕ, suc, _≤_, _<_}
@@ -12,8 +12,8 @@ use Rattle.machine.specs.declared.state.Device.{Device}
 use Rattle.machine.specs.declared.state.Answer.{Answer}
 use Rattle.machine.specs.declared.state.Answer.the-variants.{Accepted, Refused}
 use Rattle.machine.specs.Device.{Outcome}
-use Rattle.guarantee.specs.Run.{Messages, _▷_, answerTo, accepted, pathsSince}
-use Rattle.guarantee.specs.Demand3.{Since, here, later, Misled}
+use Rattle.guarantee.specs.Run.{Messages, _▷_, after, answerTo, accepted, pathsSince}
+use Rattle.guarantee.specs.Demand3.{Clash, Since, here, later, Misled}
 use Rattle.guarantee.specs.Claims.{Unmisled, StaysIntact}
 
 -- a message that carries no manifest, or is of kind 4, takes no path update away
@@ -47,3 +47,15 @@ module _ (H : List ℕ → List ℕ) (valid : (key message signature : List ℕ)
 
   pub stays-intact : StaysIntact H valid any
   stays-intact d flash ms h c e = ⊎-elim (λ t. t) (λ w. absurd (unmisled d flash ms e w)) (h .bound c .tree)
+
+  newest : (d : Device) (flash : List ℕ) {before ms : Messages} {x m : List ℕ} → Since H valid any d flash (before ▷ x) (ms ▷ m) → Clash H (after any d flash before .flash) x
+      → Clash H (after any d flash ms .flash) m ⊎ Since H valid any d flash (before ▷ x) ms
+  newest d flash here c = inl c
+  newest d flash (later s e) c = inr s
+
+  -- Nor did the first path update since then, where its path does not clash.
+  pub first-path : (d : Device) (flash : List ℕ) (ms : Messages) (m : List ℕ) → pathsSince (accepted any d flash ms) ≡ 0 → (Clash H (after any d flash ms .flash) m → ⊥)
+      → Misled H valid any d flash (ms ▷ m) → ⊥
+  first-path d flash ms m e n w =
+      ⊎-elim n (λ s. unmisled d flash ms e (record { before = w .before; message = w .message; path = w .path; taken = w .taken; since = s; clash = w .clash }))
+      (newest d flash (w .since) (w .clash))
