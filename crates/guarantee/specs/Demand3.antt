@@ -9,8 +9,7 @@ use lib.ListN.{length, take, drop}
 use Rattle.merkle.specs.Shape.{shape, depth}
 use Rattle.merkle.specs.Hash.{plain, hashes, Collision}
 use Rattle.merkle.specs.Frontier.{frontier}
-use Rattle.merkle.specs.Path.{leafDepth, PathCollision}
-use Rattle.merkle.specs.Held.{hashesIn}
+use Rattle.merkle.specs.Path.{PathCollision}
 use Rattle.wire.specs.declared.kind.Kind.the-variants.{Program, PathUpdate}
 use Rattle.wire.specs.declared.manifest.Manifest.{Manifest}
 use Rattle.wire.specs.declared.refusal.Refusal.{Refusal}
@@ -18,8 +17,8 @@ use Rattle.wire.specs.Refusal.{refusalNumber}
 use Rattle.wire.specs.Size.{wrongSize}
 use Rattle.wire.specs.Manifest.{written}
 use Rattle.wire.specs.Image.{filled, imageBlocks}
-use Rattle.wire.specs.Geometry.{countOf, blockLength, programLength, blocksOf, treeOver}
-use Rattle.wire.specs.Message.{kind, carries, manifestBytes, manifestIn, updateNumber, pathIn, atStart}
+use Rattle.wire.specs.Geometry.{countOf, programLength, blocksOf, treeOver}
+use Rattle.wire.specs.Message.{kind, carries, manifestBytes, manifestIn, updateNumber, atStart}
 use Rattle.sender.specs.Job.{Image, Job, count, blocks, manifestFor, blockFor}
 use Rattle.machine.specs.declared.state.Stage.the-variants.{Idle, Loading, Complete}
 use Rattle.machine.specs.declared.state.Device.{Device}
@@ -28,7 +27,7 @@ use Rattle.machine.specs.declared.state.Answer.the-variants.{Accepted, Refused}
 use Rattle.machine.specs.Device.{Fresh, heldBy, Outcome}
 use Rattle.machine.specs.Readers.{numberOf}
 use Rattle.machine.specs.Step.{answerOf, refusalOf}
-use Rattle.guarantee.specs.Run.{Messages, _▷_, after, answerTo, accepted, lastProgram, blocksSince, lastCarrier, signatureIn, Completed}
+use Rattle.guarantee.specs.Run.{Messages, _▷_, after, answerTo, accepted, lastProgram, blocksSince, lastCarrier, signatureIn, siblingsIn, Completed}
 
 -- The sender writes a manifest for the job: it does not refuse 5, and model and serial have four bytes.
 pub record Sendable (job : Job) : Type 0 where
@@ -47,11 +46,9 @@ module _ (H : List ℕ → List ℕ) where
   abbrev pub Clash : (flash m : List ℕ) → Type 0
   Clash flash m =
       let s = manifestIn m in
-      let n = countOf s in
       let i = pred (updateNumber m) in
-      let k = blockLength (s .«block_len») (s .«image_len») (updateNumber m) in
       let blocks = blocksOf s flash in
-      PathCollision (plain H) blocks 0 (shape n) i (blocks i) (hashesIn (leafDepth n i) (pathIn k (leafDepth n i) m))
+      PathCollision (plain H) blocks 0 (shape (countOf s)) i (blocks i) (siblingsIn m)
 
   -- The flash f has the manifest's tree.
   pub record Intact (s : Manifest) (f : List ℕ) : Type 0 where

@@ -5,10 +5,11 @@ use mathlib.Core.List.{List, []}
 use mathlib.Core.Option.{Option, none, some}
 use Prim.Native.Nat.{ℕ, suc, pred}
 use Rattle.merkle.specs.Path.{leafDepth}
+use Rattle.merkle.specs.Held.{hashesIn}
 use Rattle.wire.specs.declared.kind.Kind.the-variants.{Program, Block, Update, PathUpdate, Unknown}
 use Rattle.wire.specs.declared.manifest.Manifest.{Manifest}
 use Rattle.wire.specs.Geometry.{countOf, blockLength}
-use Rattle.wire.specs.Message.{kind, carries, manifestIn, programSignature, updateNumber, updateSignature, pathSignature}
+use Rattle.wire.specs.Message.{kind, carries, manifestIn, programSignature, updateNumber, updateSignature, pathIn, pathSignature}
 use Rattle.machine.specs.declared.state.Device.{Device}
 use Rattle.machine.specs.declared.state.Answer.{Answer}
 use Rattle.machine.specs.declared.state.Answer.the-variants.{Accepted, Refused}
@@ -67,6 +68,13 @@ signatureIn m =
       | PathUpdate ↦ pathSignature k (leafDepth (countOf s) (pred (updateNumber m))) m
       | Unknown ↦ []
     ]
+
+-- the siblings of a kind 4 message
+abbrev pub siblingsIn : List ℕ → List (List ℕ)
+siblingsIn m =
+    let s = manifestIn m in
+    let depth = leafDepth (countOf s) (pred (updateNumber m)) in
+    hashesIn depth (pathIn (blockLength (s .«block_len») (s .«image_len») (updateNumber m)) depth m)
 
 -- "Complete: the list has an accepted kind 1, and since the last of these as many kind 2 messages were accepted as its slip has blocks."
 pub record Completed (taken : Messages) : Type 0 where
