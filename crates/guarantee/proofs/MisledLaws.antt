@@ -14,7 +14,7 @@ use Rattle.machine.specs.declared.state.Answer.the-variants.{Accepted, Refused}
 use Rattle.machine.specs.Device.{Outcome}
 use Rattle.guarantee.specs.Run.{Messages, _▷_, after, answerTo, accepted, pathsSince}
 use Rattle.guarantee.specs.Demand3.{Clash, Since, here, later, Misled}
-use Rattle.guarantee.specs.Claims.{Unmisled, StaysIntact}
+use Rattle.guarantee.specs.Claims.{Unmisled, WithoutPaths}
 
 -- a message that carries no manifest, or is of kind 4, takes no path update away
 none-less : (k : Kind) (n : ℕ) → (carries k ≡ true → k ≡ PathUpdate) → n ≤ elim k [ Program ↦ 0 | Block ↦ n | Update ↦ 0 | PathUpdate ↦ suc n | Unknown ↦ n ]
@@ -45,15 +45,15 @@ module _ (H : List ℕ → List ℕ) (valid : (key message signature : List ℕ)
       let t : 0 < pathsSince (accepted any d flash (w .before ▷ w .message)) = rw (w .taken, accepted, w .path, pathsSince) (omega arith) in
       omega (arith, still-counted d flash (w .since) t)
 
-  pub stays-intact : StaysIntact H valid any
-  stays-intact d flash ms h c e = ⊎-elim (λ t. t) (λ w. absurd (unmisled d flash ms e w)) (h .bound c .tree)
+  pub without-paths : WithoutPaths H valid any
+  without-paths d flash ms h c e = ⊎-elim (λ t. t) (λ w. absurd (unmisled d flash ms e w)) (h .bound c .tree)
 
   newest : (d : Device) (flash : List ℕ) {before ms : Messages} {x m : List ℕ} → Since H valid any d flash (before ▷ x) (ms ▷ m) → Clash H (after any d flash before .flash) x
       → Clash H (after any d flash ms .flash) m ⊎ Since H valid any d flash (before ▷ x) ms
   newest d flash here c = inl c
   newest d flash (later s e) c = inr s
 
-  -- Nor did the first path update since then, where its path does not clash.
+  -- Nor did the first one since then, where its path does not clash.
   pub first-path : (d : Device) (flash : List ℕ) (ms : Messages) (m : List ℕ) → pathsSince (accepted any d flash ms) ≡ 0 → (Clash H (after any d flash ms .flash) m → ⊥)
       → Misled H valid any d flash (ms ▷ m) → ⊥
   first-path d flash ms m e n w =

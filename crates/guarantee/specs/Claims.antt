@@ -31,7 +31,7 @@ module _ (H : List ℕ → List ℕ) (valid : (key message signature : List ℕ)
   abbrev pub Unmisled : Type 0
   Unmisled = (d : Device) (flash : List ℕ) (ms : Messages) → pathsSince (accepted step d flash ms) ≡ 0 → Misled H valid step d flash ms → ⊥
 
-  abbrev pub StaysIntact : Type 0
-  StaysIntact =
+  abbrev pub WithoutPaths : Type 0
+  WithoutPaths =
       (d : Device) (flash : List ℕ) (ms : Messages) → FirstHalf H valid step d flash ms → Completed (accepted step d flash ms) → pathsSince (accepted step d flash ms) ≡ 0
       → Intact H (after step d flash ms .device .manifest) (after step d flash ms .flash)
