@@ -44,7 +44,7 @@ unaware-caught h =
     let z : _≡_ {A = ℕ} 0 1 = cc in
     omega arith
 
--- It writes an updated block before its root agrees, or a path update's before it compares.
+-- It writes an updated block before its root agrees, or a path update's before its paths do.
 writing : Step
 writing d f m = let o = right d f m in record { answer = o .answer; device = o .device; flash = updated (manifestIn m) f m }
 

@@ -153,8 +153,8 @@ endless-caught h =
     let z : _≡_ {A = ℕ} 0 1 = cc in
     omega arith
 
--- It takes an update's manifest and leaves the block as it was, or one by a path: each alone, but for the image, which follows from the root. The sender's path has
--- the tree's hash inputs, so it misleads no device.
+-- It takes an update's manifest, or a path update's, and leaves the block as it was: each alone, but for the image, which follows from the root. The sender's path
+-- has the tree's hash inputs, so it misleads no device.
 unchanged : Step
 unchanged d f m = butFlash (right d f m) f
 
@@ -172,6 +172,8 @@ pub untouched-caught : FirstHalf toy any untouched fresh flash (loaded ▷ pathF
 unfolding computing untouched unchanged
 untouched-caught = by-path untouched (pathFor toy newer 2 []) refl (none-collides (refl, (refl, tt))) (record { manifest = manifestFor toy job; last = refl; all = refl }) refl
 
+-- Three devices that take path updates which the right one refuses, so that their answers fail too: shown where it does harm, at the tree.
+
 -- It takes a path update as if the held root were another.
 holding : List ℕ → Step
 holding root d f m = let o = right (withManifest (d .manifest .serial) root d) f m in elim (o .answer) [ Accepted ↦ o | Refused r ↦ record { answer = Refused r; device = d; flash = f } ]
@@ -184,7 +186,7 @@ pub trusting-caught : FirstHalf toy any trusting fresh flash (loaded ▷ pathFor
 unfolding computing trusting holding withManifest
 trusting-caught = by-path trusting (pathFor toy newer 1 []) refl (none-collides (refl, (refl, tt))) (record { manifest = manifestFor toy job; last = refl; all = refl }) refl
 
--- It compares the new root where the old one is due, and so both times.
+-- It compares the old block, too, with the new root.
 pub doubling : Step
 doubling = byKind right right right (λ d f m. holding (manifestIn m .root) d f m)
 
