@@ -17,23 +17,26 @@ use Rattle.merkle.proofs.ShapeLaws.{size-shape}
 use Rattle.merkle.proofs.HashLaws.{Same}
 use Rattle.merkle.proofs.BindingLaws.{binding}
 use Rattle.merkle.proofs.BlockLaws.{blocks-equal}
+use Rattle.wire.specs.declared.kind.Kind.the-variants.{PathUpdate}
 use Rattle.wire.specs.declared.manifest.Manifest.{Manifest}
 use Rattle.wire.specs.Geometry.{countOf, areaLength, blocksOf, treeOver}
 use Rattle.wire.specs.Image.{filled, imageBlocks}
-use Rattle.wire.specs.Message.{manifestIn}
+use Rattle.wire.specs.Message.{kind, manifestIn}
 use Rattle.wire.proofs.SizeLaws.{Sized}
 use Rattle.wire.proofs.ImageLaws.{length-filled}
 use Rattle.machine.specs.declared.state.Stage.{Stage}
 use Rattle.machine.specs.declared.state.Stage.the-variants.{Idle, Loading, Complete}
 use Rattle.machine.specs.declared.state.Device.{Device}
+use Rattle.machine.specs.declared.state.Answer.the-variants.{Refused}
 use Rattle.machine.specs.Device.{Fresh, Situation}
-use Rattle.machine.specs.Step.{step}
-use Rattle.guarantee.specs.Run.{Messages, Taken, lastProgram, blocksSince, lastCarrier, Completed}
-use Rattle.guarantee.specs.Demand3.{Bound, FirstHalf}
+use Rattle.machine.specs.Step.{answerOf, step}
+use Rattle.guarantee.specs.Run.{Messages, _▷_, answerTo, lastProgram, blocksSince, lastCarrier, Completed}
+use Rattle.guarantee.specs.Demand3.{Clash, here, Misled, Bound, FirstHalf}
 use Rattle.machine.proofs.RefusalLaws.{passed}
 use Rattle.guarantee.proofs.InvariantLaws.{Carried, InComplete, Holds, Invariant, kept}
+use Rattle.guarantee.proofs.MisledLaws.{still-misled}
 use Rattle.guarantee.proofs.BeyondLaws.{beyond}
-use Rattle.guarantee.proofs.RunLaws.{now, taken, story, every-list}
+use Rattle.guarantee.proofs.RunLaws.{now, taken, refusalAt, answered, every-list}
 
 module _ (H : List ℕ → List ℕ) (hash-long : (x : List ℕ) → length (H x) ≡ hashLength) where
   -- an image of the flash's length with its root is the start of the flash, or there is a collision
@@ -63,30 +66,30 @@ module _ (H : List ℕ → List ℕ) (hash-long : (x : List ℕ) → length (H x
 
 module _ (H : List ℕ → List ℕ) (valid : (key message signature : List ℕ) → Bool) (d : Device) where
   -- the stage of a list that is complete
-  stage-complete : (t : Stage) (s : Manifest) (array f : List ℕ) (ms : Messages) (ts : List Taken) → Holds H valid (d .key) t s array f ms ts → Completed ms → t ≡ Complete
-  stage-complete Idle s array f ms ts w c = absurd (let l = c .last in let n = w .0 in let z : _≡_ {A = ℕ} 0 1 = cc in omega arith)
-  stage-complete (Loading zero) s array f ms ts w c = absurd w
-  stage-complete (Loading (suc k)) s array f ms ts w c =
+  stage-complete : (t : Stage) (s : Manifest) (array f : List ℕ) (ms : Messages) → Holds H valid (d .key) t s array f ms → Completed ms → t ≡ Complete
+  stage-complete Idle s array f ms w c = absurd (let l = c .last in let n = w .0 in let z : _≡_ {A = ℕ} 0 1 = cc in omega arith)
+  stage-complete (Loading zero) s array f ms w c = absurd w
+  stage-complete (Loading (suc k)) s array f ms w c =
       let q : s ≡ c .manifest = let l = c .last in let h = w .last in cc in
       let b = w .below in
       let e = w .since in
       let a = c .all in
       absurd (omega (arith, ap countOf q))
-  stage-complete Complete s array f ms ts w c = refl
+  stage-complete Complete s array f ms w c = refl
 
   -- .. of one without a program message, and of one with blocks to come
-  stage-idle : (t : Stage) (s : Manifest) (array f : List ℕ) (ms : Messages) (ts : List Taken) → Holds H valid (d .key) t s array f ms ts → lastProgram ms ≡ none → t ≡ Idle
-  stage-idle Idle s array f ms ts w e = refl
-  stage-idle (Loading zero) s array f ms ts w e = absurd w
-  stage-idle (Loading (suc k)) s array f ms ts w e = absurd (let l = w .last in let z : _≡_ {A = ℕ} 0 1 = cc in omega arith)
-  stage-idle Complete s array f ms ts w e = absurd (let l = w .last in let z : _≡_ {A = ℕ} 0 1 = cc in omega arith)
+  stage-idle : (t : Stage) (s : Manifest) (array f : List ℕ) (ms : Messages) → Holds H valid (d .key) t s array f ms → lastProgram ms ≡ none → t ≡ Idle
+  stage-idle Idle s array f ms w e = refl
+  stage-idle (Loading zero) s array f ms w e = absurd w
+  stage-idle (Loading (suc k)) s array f ms w e = absurd (let l = w .last in let z : _≡_ {A = ℕ} 0 1 = cc in omega arith)
+  stage-idle Complete s array f ms w e = absurd (let l = w .last in let z : _≡_ {A = ℕ} 0 1 = cc in omega arith)
 
-  stage-loading : (t : Stage) (s : Manifest) (array f : List ℕ) (ms : Messages) (ts : List Taken) → Holds H valid (d .key) t s array f ms ts
+  stage-loading : (t : Stage) (s : Manifest) (array f : List ℕ) (ms : Messages) → Holds H valid (d .key) t s array f ms
       → (p : Manifest) → lastProgram ms ≡ some p → blocksSince ms < countOf p → t ≡ Loading (suc (blocksSince ms))
-  stage-loading Idle s array f ms ts w p e h = absurd (let n = w .0 in let z : _≡_ {A = ℕ} 0 1 = cc in omega arith)
-  stage-loading (Loading zero) s array f ms ts w p e h = absurd w
-  stage-loading (Loading (suc k)) s array f ms ts w p e h = ap (λ (x : ℕ). Loading (suc x)) (sym (w .since))
-  stage-loading Complete s array f ms ts w p e h =
+  stage-loading Idle s array f ms w p e h = absurd (let n = w .0 in let z : _≡_ {A = ℕ} 0 1 = cc in omega arith)
+  stage-loading (Loading zero) s array f ms w p e h = absurd w
+  stage-loading (Loading (suc k)) s array f ms w p e h = ap (λ (x : ℕ). Loading (suc x)) (sym (w .since))
+  stage-loading Complete s array f ms w p e h =
       let q : w .first ≡ p = let l = w .last in cc in
       absurd (omega (arith, w .all, ap countOf q))
 
@@ -94,22 +97,34 @@ module _ (H : List ℕ → List ℕ) (valid : (key message signature : List ℕ)
   carried-is ms s c m e = let l = c .last in let q : c .carrier ≡ m = cc in c .manifest ∙ ap manifestIn q
 
   -- the manifest of the last carrier
-  manifest-carried : (t : Stage) (s : Manifest) (array f : List ℕ) (ms : Messages) (ts : List Taken) → Holds H valid (d .key) t s array f ms ts → (m : List ℕ) → lastCarrier ms ≡ some m → s ≡ manifestIn m
-  manifest-carried Idle s array f ms ts w m e = absurd (let n = w .1 in let z : _≡_ {A = ℕ} 0 1 = cc in omega arith)
-  manifest-carried (Loading zero) s array f ms ts w m e = absurd w
-  manifest-carried (Loading (suc k)) s array f ms ts w m e = carried-is ms s (w .carries) m e
-  manifest-carried Complete s array f ms ts w m e = carried-is ms s (w .carries) m e
+  manifest-carried : (t : Stage) (s : Manifest) (array f : List ℕ) (ms : Messages) → Holds H valid (d .key) t s array f ms → (m : List ℕ) → lastCarrier ms ≡ some m → s ≡ manifestIn m
+  manifest-carried Idle s array f ms w m e = absurd (let n = w .1 in let z : _≡_ {A = ℕ} 0 1 = cc in omega arith)
+  manifest-carried (Loading zero) s array f ms w m e = absurd w
+  manifest-carried (Loading (suc k)) s array f ms w m e = carried-is ms s (w .carries) m e
+  manifest-carried Complete s array f ms w m e = carried-is ms s (w .carries) m e
 
 module _ (H : List ℕ → List ℕ) (hash-long : (x : List ℕ) → length (H x) ≡ hashLength) (valid : (key message signature : List ℕ) → Bool) (d : Device) (flash : List ℕ) where
+  abbrev Misleads : Messages → Type 0
+  Misleads ms = Misled H valid (step H valid) d flash ms
+
+  after-path : (ms : Messages) (m : List ℕ) → refusalAt H valid d flash ms m ≡ none → kind m ≡ PathUpdate → Clash H (now H valid d flash ms .flash) m ⊎ Misleads ms → Misleads (ms ▷ m)
+  unfolding answerOf
+  after-path ms m e q (inl c) = record { before = ms; message = m; path = q; taken = answered H valid d flash ms m ∙ ap answerOf e; since = here; clash = c }
+  after-path ms m e q (inr w) = still-misled H valid (step H valid) d flash ms m (λ t c. q) w
+
   invariant : Fresh d → (ms : Messages)
-      → Invariant H valid (d .key) (length flash) (now H valid d flash ms .device) (now H valid d flash ms .flash) (taken H valid d flash ms) (story H valid d flash ms)
-  unfolding lastProgram lastCarrier
+      → Invariant H valid (d .key) (length flash) (now H valid d flash ms .device) (now H valid d flash ms .flash) (taken H valid d flash ms) (Misleads ms)
+  unfolding lastProgram lastCarrier answerOf
   invariant fresh ms =
-      every-list H valid d flash (λ s taken story. Invariant H valid (d .key) (length flash) (s .device) (s .flash) taken story)
+      every-list H valid d flash (λ s taken ms. Invariant H valid (d .key) (length flash) (s .device) (s .flash) taken (Misleads ms))
       (λ ms m v e.
       let s : Situation = now H valid d flash ms in
-      kept H valid (d .key) hash-long (length flash) (s .device) (s .flash) m (taken H valid d flash ms) (story H valid d flash ms) v (passed H valid (s .device) (s .flash) m e))
-      (record { same = refl; long = refl; holds = rw (fresh .idle) (refl, refl) }) ms
+      kept H valid (d .key) hash-long (length flash) (s .device) (s .flash) m (taken H valid d flash ms) (Misleads ms) v (Misleads (ms ▷ m)) (after-path ms m e) (passed H valid (s .device) (s .flash) m e))
+      (λ ms m r v e.
+      let refused : answerTo (step H valid) d flash ms m ≡ Refused r = answered H valid d flash ms m ∙ ap answerOf e in
+      let stays = still-misled H valid (step H valid) d flash ms m (λ t c. absurd (let z : _≡_ {A = ℕ} 0 1 = cc in omega arith)) in
+      record { same = v .same; long = v .long; holds = v .holds; tree = λ c. ⊎-elim (λ r. inl r) (λ w. inr (stays w)) (v .tree c) })
+      (record { same = refl; long = refl; holds = rw (fresh .idle) (refl, refl); tree = λ c. absurd (let f = fresh .idle in let z : _≡_ {A = ℕ} 0 1 = cc in omega arith) }) ms
 
 module _ (H : List ℕ → List ℕ) (hash-long : (x : List ℕ) → length (H x) ≡ hashLength) (valid : (key message signature : List ℕ) → Bool) (d : Device) (fresh : Fresh d)
     (flash : List ℕ) (ms : Messages) where
@@ -119,19 +134,16 @@ module _ (H : List ℕ → List ℕ) (hash-long : (x : List ℕ) → length (H x
   abbrev list : Messages
   list = taken H valid d flash ms
 
-  abbrev told : List Taken
-  told = story H valid d flash ms
-
-  holds : Holds H valid (d .key) (at .device .stage) (at .device .manifest) (at .device .hashes) (at .flash) list told
+  holds : Holds H valid (d .key) (at .device .stage) (at .device .manifest) (at .device .hashes) (at .flash) list
   holds = invariant H hash-long valid d flash fresh ms .holds
 
-  in-complete : at .device .stage ≡ Complete → InComplete H valid (d .key) (at .device .manifest) (at .flash) list told
-  in-complete e = subst (λ t. Holds H valid (d .key) t (at .device .manifest) (at .device .hashes) (at .flash) list told) e holds
+  in-complete : at .device .stage ≡ Complete → InComplete H valid (d .key) (at .device .manifest) (at .flash) list
+  in-complete e = subst (λ t. Holds H valid (d .key) t (at .device .manifest) (at .device .hashes) (at .flash) list) e holds
 
   stage-is : Completed list → at .device .stage ≡ Complete
-  stage-is c = stage-complete H valid d (at .device .stage) (at .device .manifest) (at .device .hashes) (at .flash) list told holds c
+  stage-is c = stage-complete H valid d (at .device .stage) (at .device .manifest) (at .device .hashes) (at .flash) list holds c
 
-  bound : Completed list → Bound H valid (step H valid) d flash list told (at .device .manifest) (at .flash)
+  bound : Completed list → Bound H valid (step H valid) d flash ms (at .device .manifest) (at .flash)
   bound c =
       let w = in-complete (stage-is c) in
       record {
@@ -139,16 +151,17 @@ module _ (H : List ℕ → List ℕ) (hash-long : (x : List ℕ) → length (H x
         last = w .carries .last;
         signed = w .carries .signed;
         room = w .room;
-        tree = ⊎-elim (λ r. inl (record { rooted = r; image = λ x lx e. bound-image H hash-long (at .device .manifest) (at .flash) x (w .size) r lx e })) (λ c. inr c) (w .tree);
+        tree = ⊎-elim (λ r. inl (record { rooted = r; image = λ x lx e. bound-image H hash-long (at .device .manifest) (at .flash) x (w .size) r lx e })) (λ c. inr c)
+            (invariant H hash-long valid d flash fresh ms .tree (stage-is c));
       }
 
   pub first-half : FirstHalf H valid (step H valid) d flash ms
   first-half =
       record {
-        manifest = manifest-carried H valid d (at .device .stage) (at .device .manifest) (at .device .hashes) (at .flash) list told holds;
+        manifest = manifest-carried H valid d (at .device .stage) (at .device .manifest) (at .device .hashes) (at .flash) list holds;
         exactly = (λ e. let w = in-complete e in record { manifest = w .first; last = w .last; all = w .all }, stage-is);
-        idle = stage-idle H valid d (at .device .stage) (at .device .manifest) (at .device .hashes) (at .flash) list told holds;
-        loading = stage-loading H valid d (at .device .stage) (at .device .manifest) (at .device .hashes) (at .flash) list told holds;
+        idle = stage-idle H valid d (at .device .stage) (at .device .manifest) (at .device .hashes) (at .flash) list holds;
+        loading = stage-loading H valid d (at .device .stage) (at .device .manifest) (at .device .hashes) (at .flash) list holds;
         one = invariant H hash-long valid d flash fresh ms .long;
         beyond = beyond H valid d flash ms;
         bound = bound;

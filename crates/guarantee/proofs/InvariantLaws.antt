@@ -2,7 +2,7 @@
 use mathlib.Core.Path.{_≡_, refl, sym, ap, _∙_, subst}
 use mathlib.Core.Logic.{_⊎_, inl, inr, ⊎-elim}
 use mathlib.Core.Bool.{Bool, true, false, cond, true≢false}
-use mathlib.Core.List.{List, _∷_}
+use mathlib.Core.List.{List}
 use mathlib.Core.Option.{none, some}
 use Prim.Native.Nat.{ℕ, zero, suc, pred, _*_, _≤_, _<_}
 use native.Mathlib.Omega.{arith}
@@ -33,10 +33,10 @@ use Rattle.machine.specs.Device.{nextOf, Situation}
 use Rattle.machine.specs.Flash.{stored, updated}
 use Rattle.machine.specs.Refusals.{notLoading, notComplete, mismatch}
 use Rattle.machine.specs.Step.{acceptProgram, stageAfter, acceptBlock, acceptUpdate, accept}
-use Rattle.guarantee.specs.Run.{Messages, _▷_, Taken, lastProgram, blocksSince, lastCarrier, signatureIn}
+use Rattle.guarantee.specs.Run.{Messages, _▷_, lastProgram, blocksSince, lastCarrier, signatureIn}
 use Rattle.machine.proofs.RefusalLaws.{ProgramPassed, BlockPassed, Successor, PathPassed, path-block, Passed, took-program, took-block, took-update, took-path}
 use Rattle.machine.proofs.HeldLaws.{mismatch-is}
-use Rattle.guarantee.specs.Demand3.{Clash, Misled}
+use Rattle.guarantee.specs.Demand3.{Clash}
 use Rattle.guarantee.proofs.PathLaws.{path-tree}
 
 -- what an accepted message of each kind adds to the list of those accepted
@@ -80,31 +80,32 @@ module _ (H : List ℕ → List ℕ) (valid : (key message signature : List ℕ)
     pub loaded : Loaded (plain H) (shape (countOf s)) (s .root) k (blocksOf s flash) (heldIn (countOf s) k array)
 
   -- complete; first is the manifest of the last program message, before any update
-  pub record InComplete (s : Manifest) (flash : List ℕ) (taken : Messages) (story : List Taken) : Type 0 where
+  pub record InComplete (s : Manifest) (flash : List ℕ) (taken : Messages) : Type 0 where
     pub size : Sized (s .«block_len») (s .«image_len»)
     pub room : programLength s ≤ length flash
     pub carries : Carried taken s
     pub first : Manifest
     pub last : lastProgram taken ≡ some first
     pub all : blocksSince taken ≡ countOf first
-    pub tree : (treeOver H s flash ≡ s .root) ⊎ Misled H story
 
-  abbrev pub Holds : Stage → Manifest → List ℕ → List ℕ → Messages → List Taken → Type 0
-  Holds Idle s array flash taken story = (lastProgram taken ≡ none) × (lastCarrier taken ≡ none)
-  Holds (Loading zero) s array flash taken story = ⊥
-  Holds (Loading (suc k)) s array flash taken story = InLoading k s array flash taken
-  Holds Complete s array flash taken story = InComplete s flash taken story
+  abbrev pub Holds : Stage → Manifest → List ℕ → List ℕ → Messages → Type 0
+  Holds Idle s array flash taken = (lastProgram taken ≡ none) × (lastCarrier taken ≡ none)
+  Holds (Loading zero) s array flash taken = ⊥
+  Holds (Loading (suc k)) s array flash taken = InLoading k s array flash taken
+  Holds Complete s array flash taken = InComplete s flash taken
 
-  -- total is the length of the flash
-  pub record Invariant (total : ℕ) (d : Device) (flash : List ℕ) (taken : Messages) (story : List Taken) : Type 0 where
+  -- total is the length of the flash; M says that a path update misled the device
+  pub record Invariant (total : ℕ) (d : Device) (flash : List ℕ) (taken : Messages) (M : Type 0) : Type 0 where
     pub same : d .key ≡ key
     pub long : length flash ≡ total
-    pub holds : Holds (d .stage) (d .manifest) (d .hashes) flash taken story
+    pub holds : Holds (d .stage) (d .manifest) (d .hashes) flash taken
+    pub tree : d .stage ≡ Complete → (treeOver H (d .manifest) flash ≡ d .manifest .root) ⊎ M
 
-  module _ (hash-long : (x : List ℕ) → length (H x) ≡ hashLength) (total : ℕ) (d : Device) (flash m : List ℕ) (taken : Messages) (story : List Taken) (v : Invariant total d flash taken story) where
-    -- after the message
+  module _ (hash-long : (x : List ℕ) → length (H x) ≡ hashLength) (total : ℕ) (d : Device) (flash m : List ℕ) (taken : Messages) (M : Type 0)
+      (v : Invariant total d flash taken M) (N : Type 0) (misled : kind m ≡ PathUpdate → Clash H flash m ⊎ M → N) where
+    -- after the message, N for M
     abbrev Kept : Situation → Type 0
-    Kept s = Invariant total (s .device) (s .flash) (taken ▷ m) (record { flash = flash; message = m } ∷ story)
+    Kept s = Invariant total (s .device) (s .flash) (taken ▷ m) N
 
     kept-program : kind m ≡ Program → ProgramPassed H valid d flash m → Kept (acceptProgram d flash m)
     unfolding acceptProgram countOf
@@ -125,6 +126,7 @@ module _ (H : List ℕ → List ℕ) (valid : (key message signature : List ℕ)
             since = w .1;
             loaded = rw (begun-held (countOf s) (s .root) lr) (loaded-start (plain H) (shape (countOf s)) (s .root) (blocksOf s flash));
           };
+          tree = λ c. absurd (let z : _≡_ {A = ℕ} 0 1 = cc in omega arith);
         }
 
     -- block k + 1
@@ -190,7 +192,7 @@ module _ (H : List ℕ → List ℕ) (valid : (key message signature : List ℕ)
       carried-on : Carried (taken ▷ m) s
       carried-on = let c = w .carries in record { carrier = c .carrier; last = with-block taken m e .2 ∙ c .last; manifest = c .manifest; signed = c .signed }
 
-      next-stage : Holds (stageAfter n (suc k)) s array' flash' (taken ▷ m) (record { flash = flash; message = m } ∷ story)
+      next-stage : Holds (stageAfter n (suc k)) s array' flash' (taken ▷ m)
       unfolding stageAfter
       next-stage = go (lt-or-le (suc k) n)
         where
@@ -200,7 +202,7 @@ module _ (H : List ℕ → List ℕ) (valid : (key message signature : List ℕ)
           last : lastProgram (taken ▷ m) ≡ some s
           last = with-block taken m e .0 ∙ w .last
 
-          go : (suc k < n) ⊎ (n ≤ suc k) → Holds (cond (ltb (suc k) n) (Loading (suc (suc k))) Complete) s array' flash' (taken ▷ m) (record { flash = flash; message = m } ∷ story)
+          go : (suc k < n) ⊎ (n ≤ suc k) → Holds (cond (ltb (suc k) n) (Loading (suc (suc k))) Complete) s array' flash' (taken ▷ m)
           go (inl g) =
               rw (lt-ltb (suc k) n g)
               (record {
@@ -223,20 +225,27 @@ module _ (H : List ℕ → List ℕ) (valid : (key message signature : List ℕ)
                 first = s;
                 last = last;
                 all = since ∙ q;
-                tree = inl (last-loaded q);
               })
+
+      next-tree : stageAfter n (suc k) ≡ Complete → treeOver H s flash' ≡ s .root
+      unfolding stageAfter
+      next-tree c = go (lt-or-le (suc k) n)
+        where
+          go : (suc k < n) ⊎ (n ≤ suc k) → treeOver H s flash' ≡ s .root
+          go (inl g) = absurd (let r = rw (lt-ltb (suc k) n g) at c in let z : _≡_ {A = ℕ} 0 1 = cc in omega arith)
+          go (inr g) = last-loaded (let b = w .below in omega arith)
 
     kept-block : kind m ≡ Block → BlockPassed H valid d flash m → Kept (acceptBlock d flash m)
     unfolding acceptBlock stored nextOf notLoading
     kept-block e p = go (d .stage) refl (v .holds)
       where
-        go : (t : Stage) → d .stage ≡ t → Holds t (d .manifest) (d .hashes) flash taken story → Kept (acceptBlock d flash m)
+        go : (t : Stage) → d .stage ≡ t → Holds t (d .manifest) (d .hashes) flash taken → Kept (acceptBlock d flash m)
         go Idle q w = absurd (true≢false (rw q at (p .loading)))
         go (Loading zero) q w = absurd w
         go (Loading (suc k)) q w =
             let l = rw q at (p .long) in
             let f = subst (λ i. mismatch H d i m ≡ false) (ap nextOf q) (p .same) in
-            rw q (record { same = v .same; long = flash-long k e q l f w ∙ v .long; holds = next-stage k e q l f w })
+            rw q (record { same = v .same; long = flash-long k e q l f w ∙ v .long; holds = next-stage k e q l f w; tree = λ c. inl (next-tree k e q l f w c) })
         go Complete q w = absurd (true≢false (rw q at (p .loading)))
 
     -- an update of either kind
@@ -254,13 +263,12 @@ module _ (H : List ℕ → List ℕ) (valid : (key message signature : List ℕ)
           go (suc i) t l = length-with (manifestIn m) i flash (t .1) (p .room) (updateBlock (size (suc i)) m) l
 
       kept-update : (lastProgram (taken ▷ m) ≡ lastProgram taken) × (blocksSince (taken ▷ m) ≡ blocksSince taken) × (lastCarrier (taken ▷ m) ≡ some m) × (signatureIn m ≡ signature)
-          → (d .stage ≡ Complete → InComplete (d .manifest) flash taken story
-          → (treeOver H (manifestIn m) (updated (manifestIn m) flash m) ≡ manifestIn m .root) ⊎ Misled H (record { flash = flash; message = m } ∷ story))
+          → (d .stage ≡ Complete → (treeOver H (manifestIn m) (updated (manifestIn m) flash m) ≡ manifestIn m .root) ⊎ N)
           → Kept (acceptUpdate d flash m)
       unfolding acceptUpdate notComplete
       kept-update a tree = go (d .stage) refl (v .holds)
         where
-          go : (t : Stage) → d .stage ≡ t → Holds t (d .manifest) (d .hashes) flash taken story → Kept (acceptUpdate d flash m)
+          go : (t : Stage) → d .stage ≡ t → Holds t (d .manifest) (d .hashes) flash taken → Kept (acceptUpdate d flash m)
           go Idle q w = absurd (true≢false (rw q at (p .complete)))
           go (Loading i) q w = absurd (true≢false (rw q at (p .complete)))
           go Complete q w =
@@ -275,24 +283,19 @@ module _ (H : List ℕ → List ℕ) (valid : (key message signature : List ℕ)
                       first = w .first;
                       last = a .0 ∙ w .last;
                       all = a .1 ∙ w .all;
-                      tree = tree q w;
                     });
+                tree = tree;
               }
 
     -- a path update keeps the root, or misleads, or the device was misled before
-    path-kept : kind m ≡ PathUpdate → PathPassed H valid d flash m → InComplete (d .manifest) flash taken story
-        → (treeOver H (manifestIn m) (updated (manifestIn m) flash m) ≡ manifestIn m .root) ⊎ Misled H (record { flash = flash; message = m } ∷ story)
-    unfolding Misled
-    path-kept q p w = rw (q, Misled) (go (w .tree))
-      where
-        go : (treeOver H (d .manifest) flash ≡ d .manifest .root) ⊎ Misled H story
-            → (treeOver H (manifestIn m) (updated (manifestIn m) flash m) ≡ manifestIn m .root) ⊎ (Clash H (record { flash = flash; message = m }) ⊎ Misled H story)
-        go (inl e) = ⊎-elim (λ r. inl r) (λ c. inr (inl c)) (path-tree H hash-long valid d flash m p e)
-        go (inr c) = inr (inr c)
+    path-kept : kind m ≡ PathUpdate → PathPassed H valid d flash m → d .stage ≡ Complete
+        → (treeOver H (manifestIn m) (updated (manifestIn m) flash m) ≡ manifestIn m .root) ⊎ N
+    path-kept q p c =
+        ⊎-elim (λ e. ⊎-elim (λ r. inl r) (λ x. inr (misled q (inl x))) (path-tree H hash-long valid d flash m p e)) (λ x. inr (misled q (inr x))) (v .tree c)
 
     pub kept : Passed H valid d flash m → Kept (accept (kind m) d flash m)
     unfolding accept
     kept (took-program q p) = rw q (kept-program q p)
     kept (took-block q p) = rw q (kept-block q p)
-    kept (took-update q p) = rw q (kept-update (p .successor) (p .successor .long) (with-update taken m q) (λ c w. inl (p .rooted)))
-    kept (took-path q p) = rw q (kept-update (p .successor) (path-block H valid d flash m p) (with-path taken m q) (λ c w. path-kept q p w))
+    kept (took-update q p) = rw q (kept-update (p .successor) (p .successor .long) (with-update taken m q) (λ c. inl (p .rooted)))
+    kept (took-path q p) = rw q (kept-update (p .successor) (path-block H valid d flash m p) (with-path taken m q) (path-kept q p))

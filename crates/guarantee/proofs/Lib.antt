@@ -1,5 +1,6 @@
 pub mod PathLaws
 pub mod InvariantLaws
+pub mod MisledLaws
 pub mod RunLaws
 pub mod BeyondLaws
 pub mod FirstHalf

@@ -1,18 +1,22 @@
--- Power loss: the same block messages over two flashes that agree where it counts, and an update over its own torn block.
+-- Power loss: the same block messages over two flashes that agree where it counts, an update over its own torn block, and what a path update reads.
 use mathlib.Core.Path.{_≡_, refl, sym, ap, _∙_, subst}
-use mathlib.Core.Logic.{_⊎_, inl, inr}
-use mathlib.Core.Bool.{Bool, true≢false}
-use mathlib.Core.List.{List, _++_}
+use mathlib.Core.Logic.{_⊎_, inl, inr, ⊎-elim}
+use mathlib.Core.Bool.{Bool, true, false, true≢false}
+use mathlib.Core.List.{List, [], _∷_, _++_}
 use mathlib.Core.Option.{Option, none, some}
-use Prim.Native.Nat.{ℕ, suc, _+_, _*_, _≤_, _<_}
+use Prim.Native.Nat.{ℕ, suc, pred, _+_, _*_, _≤_, _<_}
 use native.Mathlib.Omega.{arith}
 use lib.ListN.{length, take, drop}
 use borrow.Author.Tests.{lt-ltb, le-ltb}
+use Rattle.merkle.specs.Shape.{shape}
+use Rattle.merkle.specs.Hash.{plain}
 use Rattle.merkle.proofs.ShapeLaws.{lt-or-le}
-use Rattle.wire.specs.declared.kind.Kind.the-variants.{Block, Update}
+use Rattle.wire.specs.declared.kind.Kind.the-variants.{Block, Update, PathUpdate}
 use Rattle.wire.specs.declared.manifest.Manifest.{Manifest}
 use Rattle.wire.specs.declared.refusal.Refusal.{Refusal}
-use Rattle.wire.specs.Geometry.{countOf, blockLength, blockStart, programLength}
+use Rattle.wire.specs.declared.refusal.Refusal.the-variants as refusal
+use Rattle.wire.specs.Refusal.{firstThatApplies}
+use Rattle.wire.specs.Geometry.{countOf, blockLength, blockStart, programLength, blocksOf}
 use Rattle.wire.specs.Message.{kind, manifestIn, blockIn, updateNumber, updateBlock, dueLength, leastUpdate}
 use Rattle.wire.proofs.GeometryLaws.{block-full, block-last, length-with, with-behind, with-start, with-same}
 use Rattle.wire.proofs.MessageLaws.{length-block, length-update-block}
@@ -22,11 +26,12 @@ use Rattle.machine.specs.declared.state.Device.{Device}
 use Rattle.machine.specs.declared.state.Answer.the-variants.{Accepted}
 use Rattle.machine.specs.Device.{nextOf, Situation}
 use Rattle.machine.specs.Flash.{stored, updated}
-use Rattle.machine.specs.Refusals.{tooSmall, notLoading, ofBlock, ofSuccessor, ofUpdate, ofKind, refusals}
-use Rattle.machine.specs.Step.{stageAfter, acceptBlock, acceptUpdate, accept, answerOf, refusalOf, step}
-use Rattle.machine.proofs.RefusalLaws.{BlockPassed, block-passed, UpdatePassed, update-passed}
-use Rattle.guarantee.specs.Run.{Messages, empty, _▷_, after, answerTo}
-use Rattle.guarantee.specs.PowerLoss.{OnlyBlocks, Agree, SameLoad, TornLoad, TornUpdate}
+use Rattle.machine.specs.Refusals.{tooSmall, notLoading, strays, always, ofManifest, ofBlock, ofSuccessor, ofUpdate, ofPathUpdate, ofKind, refusals}
+use Rattle.machine.specs.Step.{stageAfter, acceptBlock, acceptUpdate, accept, answerOf, outcome, refusalOf, step}
+use Rattle.machine.proofs.RefusalLaws.{BlockPassed, block-passed, UpdatePassed, update-passed, ledTo, path-passed}
+use Rattle.guarantee.specs.Run.{Messages, empty, _▷_, after, answerTo, siblingsIn}
+use Rattle.guarantee.specs.PowerLoss.{OnlyBlocks, Agree, SameLoad, TornLoad, TornUpdate, PathReads, TornPath}
+use Rattle.guarantee.proofs.PathLaws.{two-paths}
 use Rattle.guarantee.proofs.RunLaws.{accepted-step, now, refusalAt, answered, none-at, more, same}
 
 module _ (H : List ℕ → List ℕ) (valid : (key message signature : List ℕ) → Bool) where
@@ -73,6 +78,63 @@ module _ (H : List ℕ → List ℕ) (valid : (key message signature : List ℕ)
         flash = w;
       }) (sym u)
       ∙ sym (update-is d f m k e)
+
+-- Two lists of refusals that differ in one test: where none of the first applies, none of the second does, or that one.
+one-test : (before behind : List (Refusal × Bool)) (r : Refusal) (t u : Bool) → firstThatApplies (before ++ ((r, t) ∷ behind)) ≡ none
+    → (firstThatApplies (before ++ ((r, u) ∷ behind)) ≡ some r) ⊎ (firstThatApplies (before ++ ((r, u) ∷ behind)) ≡ none)
+unfolding firstThatApplies
+one-test [] behind r true u e = absurd (let z : _≡_ {A = ℕ} 0 1 = cc in omega arith)
+one-test [] behind r false true e = inl refl
+one-test [] behind r false false e = inr e
+one-test (x ∷ before) behind r t u e = go (x .1) refl (one-test before behind r t u)
+  where
+    go : (b : Bool) → x .1 ≡ b
+        → (firstThatApplies (before ++ ((r, t) ∷ behind)) ≡ none → (firstThatApplies (before ++ ((r, u) ∷ behind)) ≡ some r) ⊎ (firstThatApplies (before ++ ((r, u) ∷ behind)) ≡ none))
+        → (firstThatApplies (x ∷ (before ++ ((r, u) ∷ behind))) ≡ some r) ⊎ (firstThatApplies (x ∷ (before ++ ((r, u) ∷ behind))) ≡ none)
+    go true q ih = absurd (let y : some (x .0) ≡ none = rw (q, firstThatApplies) at e in let z : _≡_ {A = ℕ} 0 1 = cc in omega arith)
+    go false q ih = rw (q, firstThatApplies) (ih (rw (q, firstThatApplies) at e))
+
+module _ (H : List ℕ → List ℕ) (valid : (key message signature : List ℕ) → Bool) (d : Device) (f g m : List ℕ) (k : kind m ≡ PathUpdate) (long : length f ≡ length g) where
+  abbrev s : Manifest
+  s = manifestIn m
+
+  abbrev i : ℕ
+  i = pred (updateNumber m)
+
+  path-refusal : blocksOf s f i ≡ blocksOf s g i → refusalOf H valid d f m ≡ refusalOf H valid d g m
+  unfolding refusalOf refusals ofKind ofSuccessor ofPathUpdate tooSmall
+  path-refusal same = rw (k, long, same)
+
+  reads : blocksOf s f i ≡ blocksOf s g i → (step H valid d f m .answer ≡ step H valid d g m .answer) × (step H valid d f m .device ≡ step H valid d g m .device)
+  unfolding step outcome accept acceptUpdate
+  reads same = rw (path-refusal same, k) (go (refusalOf H valid d g m))
+    where
+      go : (r : Option Refusal)
+          → (outcome r d f (accept PathUpdate d f m) .answer ≡ outcome r d g (accept PathUpdate d g m) .answer) × (outcome r d f (accept PathUpdate d f m) .device ≡ outcome r d g (accept PathUpdate d g m) .device)
+      go none = (refl, refl)
+      go (some r) = (refl, refl)
+
+  -- all but 15, which is the fourteenth, are the same over both
+  path-or-none : refusalOf H valid d f m ≡ none → (refusalOf H valid d g m ≡ some refusal.Path) ⊎ (refusalOf H valid d g m ≡ none)
+  unfolding refusalOf refusals always ofKind ofManifest ofSuccessor ofPathUpdate tooSmall
+  path-or-none e =
+      let es = refusals H valid PathUpdate d f m in
+      let test : List ℕ → Bool = λ flash. strays H s (updateNumber m) (blocksOf s flash i) m (d .manifest .root) in
+      rw (k, ← long) (one-test (take 13 es) (drop 14 es) refusal.Path (test f) (test g) (rw k at e))
+
+pub path-reads : (H : List ℕ → List ℕ) (valid : (key message signature : List ℕ) → Bool) → PathReads H valid
+path-reads H valid = reads H valid
+
+pub torn-path : (H : List ℕ → List ℕ) (valid : (key message signature : List ℕ) → Bool) → TornPath H valid
+unfolding after answerTo answerOf
+torn-path H valid d f g m k long ok =
+    let e : refusalOf H valid d f m ≡ none = none-at H valid d f empty m ok in
+    let s : Manifest = manifestIn m in
+    let i : ℕ = pred (updateNumber m) in
+    let root : (x : List ℕ) → refusalOf H valid d x m ≡ none → ledTo H valid d x m (blocksOf s x i) ≡ d .manifest .root = λ x e. path-passed H valid d x m k e .old in
+    ⊎-elim (λ q. inl (answered H valid d g empty m ∙ ap answerOf q))
+    (λ q. inr (answered H valid d g empty m ∙ ap answerOf q, two-paths (plain H) 0 (shape (countOf s)) i (blocksOf s f i) (blocksOf s g i) (siblingsIn m) (root f e ∙ sym (root g q))))
+    (path-or-none H valid d f g m k long e)
 
 -- Two situations of the same run over different flashes: both wait for block k + 1, or both are complete and the same.
 data Together (a b : Situation) : Type 0 where

@@ -1,7 +1,7 @@
 -- One message more: what it adds to a list, and what no list changes.
 use mathlib.Core.Path.{_≡_, refl, sym, ap, _∙_}
 use mathlib.Core.Bool.{Bool}
-use mathlib.Core.List.{List, [], _∷_}
+use mathlib.Core.List.{List}
 use mathlib.Core.Option.{Option, none, some}
 use Prim.Native.Nat.{ℕ}
 use Rattle.wire.specs.declared.kind.Kind.{Kind}
@@ -14,7 +14,7 @@ use Rattle.machine.specs.declared.state.Answer.the-variants.{Accepted, Refused}
 use Rattle.machine.specs.Device.{Situation}
 use Rattle.machine.specs.Readers.{numberOf}
 use Rattle.machine.specs.Step.{acceptProgram, acceptBlock, acceptUpdate, accept, answerOf, outcome, refusalOf, step}
-use Rattle.guarantee.specs.Run.{Messages, empty, _▷_, Taken, after, answerTo, accepted, history}
+use Rattle.guarantee.specs.Run.{Messages, empty, _▷_, after, answerTo, accepted}
 use Rattle.machine.proofs.RefusalLaws.{answer-none, answer-some}
 use Rattle.guarantee.specs.Demand3.{Calls}
 
@@ -39,9 +39,6 @@ module _ (H : List ℕ → List ℕ) (valid : (key message signature : List ℕ)
   abbrev pub taken : Messages → Messages
   taken ms = accepted (step H valid) d flash ms
 
-  abbrev pub story : Messages → List Taken
-  story ms = history (step H valid) d flash ms
-
   -- the refusal of m after the list
   abbrev pub refusalAt : Messages → List ℕ → Option Refusal
   refusalAt ms m = refusalOf H valid (now ms .device) (now ms .flash) m
@@ -64,41 +61,39 @@ module _ (H : List ℕ → List ℕ) (valid : (key message signature : List ℕ)
     pub record More : Type 0 where
       pub after-is : now (ms ▷ m) ≡ accept (kind m) (now ms .device) (now ms .flash) m
       pub taken-is : taken (ms ▷ m) ≡ taken ms ▷ m
-      pub story-is : story (ms ▷ m) ≡ record { flash = now ms .flash; message = m } ∷ story ms
 
     pub more : refusalAt ms m ≡ none → More
-    unfolding after accepted history step outcome answerOf
-    more e = record { after-is = rw (e, outcome); taken-is = rw (answered ∙ ap answerOf e, accepted); story-is = rw (answered ∙ ap answerOf e, history) }
+    unfolding after accepted step outcome answerOf
+    more e = record { after-is = rw (e, outcome); taken-is = rw (answered ∙ ap answerOf e, accepted) }
 
     pub record Same : Type 0 where
       pub after-is : now (ms ▷ m) ≡ now ms
       pub taken-is : taken (ms ▷ m) ≡ taken ms
-      pub story-is : story (ms ▷ m) ≡ story ms
 
     pub same : (r : Refusal) → refusalAt ms m ≡ some r → Same
-    unfolding after accepted history step outcome answerOf
-    same r e = record { after-is = rw (e, outcome); taken-is = rw (answered ∙ ap answerOf e, accepted); story-is = rw (answered ∙ ap answerOf e, history) }
+    unfolding after accepted step outcome answerOf
+    same r e = record { after-is = rw (e, outcome); taken-is = rw (answered ∙ ap answerOf e, accepted) }
 
-  -- What an accepted message keeps, every list keeps.
-  module _ (P : Situation → Messages → List Taken → Type 0)
-      (accepting : (ms : Messages) (m : List ℕ) → P (now ms) (taken ms) (story ms) → refusalAt ms m ≡ none
-      → P (accept (kind m) (now ms .device) (now ms .flash) m) (taken ms ▷ m) (record { flash = now ms .flash; message = m } ∷ story ms)) where
-    one-more : (ms : Messages) (m : List ℕ) → P (now ms) (taken ms) (story ms) → P (now (ms ▷ m)) (taken (ms ▷ m)) (story (ms ▷ m))
+  -- What each message keeps, accepted or refused, every list keeps.
+  module _ (P : Situation → Messages → Messages → Type 0)
+      (accepting : (ms : Messages) (m : List ℕ) → P (now ms) (taken ms) ms → refusalAt ms m ≡ none → P (accept (kind m) (now ms .device) (now ms .flash) m) (taken ms ▷ m) (ms ▷ m))
+      (refusing : (ms : Messages) (m : List ℕ) (r : Refusal) → P (now ms) (taken ms) ms → refusalAt ms m ≡ some r → P (now ms) (taken ms) (ms ▷ m)) where
+    one-more : (ms : Messages) (m : List ℕ) → P (now ms) (taken ms) ms → P (now (ms ▷ m)) (taken (ms ▷ m)) (ms ▷ m)
     one-more ms m p = go (refusalAt ms m) refl
       where
-        go : (r : Option Refusal) → refusalAt ms m ≡ r → P (now (ms ▷ m)) (taken (ms ▷ m)) (story (ms ▷ m))
-        go none e = let a = more ms m e in rw (a .after-is, a .taken-is, a .story-is) (accepting ms m p e)
-        go (some x) e = let a = same ms m x e in rw (a .after-is, a .taken-is, a .story-is) p
+        go : (r : Option Refusal) → refusalAt ms m ≡ r → P (now (ms ▷ m)) (taken (ms ▷ m)) (ms ▷ m)
+        go none e = let a = more ms m e in rw (a .after-is, a .taken-is) (accepting ms m p e)
+        go (some x) e = let a = same ms m x e in rw (a .after-is, a .taken-is) (refusing ms m x p e)
 
-    pub every-list : P (record { device = d; flash = flash }) empty [] → (ms : Messages) → P (now ms) (taken ms) (story ms)
-    unfolding after accepted history
+    pub every-list : P (record { device = d; flash = flash }) empty empty → (ms : Messages) → P (now ms) (taken ms) ms
+    unfolding after accepted
     every-list start empty = start
     every-list start (ms ▷ m) = one-more ms m (every-list start ms)
 
   keeps : (ms : Messages) → (now ms .device .model ≡ d .model) × (now ms .device .key ≡ d .key)
   keeps ms =
-      every-list (λ s taken story. (s .device .model ≡ d .model) × (s .device .key ≡ d .key))
-      (λ ms m p e. let a = accept-keeps (kind m) (now ms .device) (now ms .flash) m in (a .0 ∙ p .0, a .1 ∙ p .1)) (refl, refl) ms
+      every-list (λ s taken list. (s .device .model ≡ d .model) × (s .device .key ≡ d .key))
+      (λ ms m p e. let a = accept-keeps (kind m) (now ms .device) (now ms .flash) m in (a .0 ∙ p .0, a .1 ∙ p .1)) (λ ms m r p e. p) (refl, refl) ms
 
   by-number : (r : Option Refusal) → numberOf (answerOf r) ≡ elim r [ none ↦ 0 | some x ↦ refusalNumber x ]
   unfolding answerOf

@@ -1,7 +1,8 @@
 -- A world small enough to compute in, for wrong devices: a toy hash function, toy verdicts, images of two blocks, a flash; and what their steps are made of.
-use mathlib.Core.Path.{_≡_, refl, ap}
-use mathlib.Core.Bool.{Bool, true, false, not}
-use mathlib.Core.List.{List, [], _∷_, _++_}
+use mathlib.Core.Path.{_≡_, refl, sym, ap}
+use mathlib.Core.Bool.{Bool, true, false, cond, not}
+use mathlib.Core.Logic.{⊎-elim}
+use mathlib.Core.List.{List, [], _∷_, _++_, List·Memᴰ, List·Memᴰ·not-nil, List·Memᴰ·cases-cons}
 use mathlib.Core.Option.{none, some}
 use Prim.Native.Nat.{ℕ, suc}
 use native.Mathlib.Omega.{arith}
@@ -9,11 +10,13 @@ use lib.Dec.{eqb}
 use lib.ListN.{length, getD, take, drop, replicate, length-append, length-replicate}
 use lib.Seq.{length-take-le}
 use Rattle.octets.specs.Octets.{bytes, number, joined, equal}
+use Rattle.octets.proofs.EqualLaws.{equal-self, equal-true}
 use Rattle.merkle.specs.Limits.{hashLength, heldBytes}
 use Rattle.merkle.specs.Blocks.{blockCount, cut}
-use Rattle.merkle.specs.Shape.{size, leastFrom, depth, split, build, shape}
-use Rattle.merkle.specs.Hash.{hash, hashes, climbFrom, climb}
+use Rattle.merkle.specs.Shape.{Shape, size, leastFrom, depth, split, build, Place, shape}
+use Rattle.merkle.specs.Hash.{plain, hash, hashes, input, climbFrom, climb}
 use Rattle.merkle.specs.Frontier.{largest, rightSiblings, siblings, carriedCount, frontier, heldCount}
+use Rattle.merkle.specs.Path.{pathSiblings, leafDepth, way, besideInput, ascend, ascendInputs, sentPath, pathHash, pathInputs, PathCollision}
 use Rattle.merkle.specs.Held.{hashesIn, heldStart, heldIn, nextHeld, begun, advanced, fits, sent}
 use Rattle.wire.specs.declared.kind.Kind.the-variants.{Program, Block, Update, PathUpdate, Unknown}
 use Rattle.wire.specs.declared.manifest.Manifest.{Manifest}
@@ -23,8 +26,8 @@ use Rattle.wire.specs.Size.{allowedLength, wrongSize, outside}
 use Rattle.wire.specs.Manifest.{written, read}
 use Rattle.wire.specs.Image.{filled, imageBlocks}
 use Rattle.wire.specs.Geometry.{countOf, blockLength, programLength, blocksOf, withBlock, treeOver}
-use Rattle.wire.specs.Message.{kind, carries, short, programMessage, blockMessage, updateMessage, manifestBytes, manifestIn, programSignature, numberIn, blockIn, hashesAfter, updateNumber, updateBlock, updateSignature, dueLength, leastUpdate}
-use Rattle.sender.specs.Job.{Job, count, blocks, rootOf, manifestFor, programFor, blockFor, updateFor}
+use Rattle.wire.specs.Message.{kind, carries, short, programMessage, blockMessage, updateMessage, pathMessage, manifestBytes, manifestIn, programSignature, numberIn, blockIn, hashesAfter, updateNumber, updateBlock, updateSignature, pathIn, pathSignature, dueLength, leastUpdate, leastPath}
+use Rattle.sender.specs.Job.{Job, count, blocks, rootOf, manifestFor, programFor, blockFor, updateFor, pathFor}
 use Rattle.machine.specs.declared.state.Stage.{Stage}
 use Rattle.machine.specs.declared.state.Stage.the-variants.{Idle, Complete}
 use Rattle.machine.specs.declared.state.Device.{Device}
@@ -33,8 +36,8 @@ use Rattle.machine.specs.Device.{Fresh, serialOf, nextOf, heldBy, Outcome}
 use Rattle.machine.specs.Flash.{stored, updated}
 use Rattle.machine.specs.Refusals.{wrongVersion, senseless, noKind, otherModel, notNewer, tooSmall, notLoading, notComplete, notNext, wrongLength, unlike, mismatch, lacksRoot, unsigned, strays, ofManifest, always, ofProgram, ofBlock, ofSuccessor, ofUpdate, ofPathUpdate, ofKind, refusals}
 use Rattle.machine.specs.Step.{acceptProgram, stageAfter, acceptBlock, acceptUpdate, accept, answerOf, outcome, refusalOf, step}
-use Rattle.guarantee.specs.Run.{Messages, empty, _▷_, after, answerTo, accepted, history, lastProgram, blocksSince, lastCarrier, signatureIn}
-use Rattle.guarantee.specs.Demand3.{Misled, thenBlocks, Demand3}
+use Rattle.guarantee.specs.Run.{Messages, empty, _▷_, after, answerTo, accepted, lastProgram, blocksSince, pathsSince, lastCarrier, signatureIn}
+use Rattle.guarantee.specs.Demand3.{thenBlocks, Demand3}
 use Rattle.guarantee.proofs.Demand3Holds.{demand3-for}
 
 abbrev pub Step : Type 0
@@ -72,9 +75,13 @@ flash = replicate 130 5
 unfoldable pub program : List ℕ
 program = programFor toy job []
 
+-- a manifest for two such blocks with any root
+unfoldable pub manifestWith : (serial : ℕ) (root : List ℕ) → Manifest
+manifestWith serial root = record { version = 1; «block_len» = 64; model = 7; serial = serial; «image_len» = 128; root = root }
+
 -- a manifest with a root that no image has, since each toy hash begins with 1: no run with it is honest
 unfoldable pub nobodys : List ℕ
-nobodys = programMessage (record { version = 1; «block_len» = 64; model = 7; serial = 1; «image_len» = 128; root = replicate 32 9 }) []
+nobodys = programMessage (manifestWith 1 (replicate 32 9)) []
 
 unfoldable pub noImage : Manifest → Bool
 noImage s = not (eqb (getD (s .root) 0 0) 1)
@@ -97,20 +104,25 @@ unfoldable pub butFlash : Outcome → List ℕ → Outcome
 butFlash o f = elim (o .answer) [ Accepted ↦ record { answer = Accepted; device = o .device; flash = f } | Refused r ↦ o ]
 
 -- a device with a step for each kind
-unfoldable pub byKind : Step → Step → Step → Step
-byKind p b u d f m = elim (kind m) [ Program ↦ p d f m | Block ↦ b d f m | Update ↦ u d f m | PathUpdate ↦ right d f m | Unknown ↦ right d f m ]
+unfoldable pub byKind : Step → Step → Step → Step → Step
+byKind p b u w d f m = elim (kind m) [ Program ↦ p d f m | Block ↦ b d f m | Update ↦ u d f m | PathUpdate ↦ w d f m | Unknown ↦ right d f m ]
+
+-- Of places with a hash input each: where it has the hash of the tree's input there, it is that input.
+unfoldable pub NoneCollides : (ℕ → List ℕ) → List (Place × List ℕ) → Type 0
+NoneCollides blocks [] = Unit {0}
+NoneCollides blocks (e ∷ es) = (let x = input (plain toy) blocks (e .0 .0) (e .0 .1) in cond (equal (toy x) (toy (e .1))) (equal x (e .1)) true ≡ true) × NoneCollides blocks es
 
 -- What the runs compute with, by layer: to unfold the last is to unfold all.
 unfoldable pub tree-computes : ℕ
-unfolding blockCount cut size leastFrom depth split build shape hash hashes climbFrom climb largest rightSiblings siblings carriedCount frontier heldCount joined hashesIn heldStart heldIn nextHeld begun advanced fits sent
+unfolding blockCount cut size leastFrom depth split build shape hash hashes input climbFrom climb largest rightSiblings siblings carriedCount frontier heldCount joined hashesIn heldStart heldIn nextHeld begun advanced fits sent pathSiblings leafDepth way besideInput ascend ascendInputs sentPath pathHash pathInputs
 tree-computes = 0
 
 unfoldable pub wire-computes : ℕ
-unfolding bytes number equal firstThatApplies allowedLength wrongSize outside written read filled imageBlocks countOf blockLength programLength blocksOf withBlock treeOver kind carries short programMessage blockMessage updateMessage manifestBytes manifestIn programSignature numberIn blockIn hashesAfter updateNumber updateBlock updateSignature dueLength leastUpdate
+unfolding bytes number equal firstThatApplies allowedLength wrongSize outside written read filled imageBlocks countOf blockLength programLength blocksOf withBlock treeOver kind carries short programMessage blockMessage updateMessage pathMessage manifestBytes manifestIn programSignature numberIn blockIn hashesAfter updateNumber updateBlock updateSignature pathIn pathSignature dueLength leastUpdate leastPath
 wire-computes = 0
 
 unfoldable pub sender-computes : ℕ
-unfolding count blocks rootOf manifestFor programFor blockFor updateFor
+unfolding count blocks rootOf manifestFor programFor blockFor updateFor pathFor
 sender-computes = 0
 
 unfoldable pub refusals-compute : ℕ
@@ -118,23 +130,36 @@ unfolding serialOf nextOf heldBy wrongVersion senseless noKind otherModel notNew
 refusals-compute = 0
 
 unfoldable pub run-computes : ℕ
-unfolding stored updated acceptProgram stageAfter acceptBlock acceptUpdate accept outcome step after answerTo accepted history Misled lastProgram blocksSince lastCarrier signatureIn answerOf thenBlocks
+unfolding stored updated acceptProgram stageAfter acceptBlock acceptUpdate accept outcome step after answerTo accepted lastProgram blocksSince pathsSince lastCarrier signatureIn answerOf thenBlocks
 run-computes = 0
 
 unfoldable pub computing : ℕ
-unfolding tree-computes wire-computes sender-computes refusals-compute run-computes toy any nobody job newer old unfilled fresh flash program nobodys noImage right taking refusing but butFlash byKind
+unfolding tree-computes wire-computes sender-computes refusals-compute run-computes toy any nobody job newer old unfilled fresh flash program manifestWith nobodys noImage right taking refusing but butFlash byKind NoneCollides
 computing = 0
 
 abbrev pub loaded : Messages
 loaded = empty ▷ program ▷ blockFor toy (job .image) 1 ▷ blockFor toy (job .image) 2
 
--- the right device in these runs: complete, and the update taken
+-- the right device in these runs: complete, and the update taken, by a path too; another tree's path is not
 pub right-runs : (after right fresh flash loaded .device .stage ≡ Complete)
     × (after right fresh flash loaded .flash ≡ replicate 128 3 ++ (5 ∷ 5 ∷ []))
     × (answerTo right fresh flash loaded (updateFor toy newer 2 []) ≡ Accepted)
+    × (answerTo right fresh flash loaded (pathFor toy newer 2 []) ≡ Accepted)
+    × (answerTo right fresh flash loaded (pathFor toy newer 1 []) ≡ Refused refusal.Path)
     × (answerTo right fresh flash (empty ▷ program ▷ blockFor toy (job .image) 1) (blockFor toy (newer .image) 2) ≡ Refused refusal.Mismatch)
 unfolding computing
-right-runs = (refl, refl, refl, refl)
+right-runs = (refl, refl, refl, refl, refl, refl)
+
+-- A path that collides nowhere.
+pub none-collides : {blocks : ℕ → List ℕ} {o : ℕ} {s : Shape} {i : ℕ} {block : List ℕ} {ys : List (List ℕ)} → NoneCollides blocks (pathInputs (plain toy) o s i block ys)
+    → PathCollision (plain toy) blocks o s i block ys → ⊥
+unfolding NoneCollides
+none-collides {blocks} {o} {s} {i} {block} {ys} n c = go (pathInputs (plain toy) o s i block ys) n (c .within)
+  where
+    go : (es : List (Place × List ℕ)) → NoneCollides blocks es → List·Memᴰ (c .place, c .given) es → ⊥
+    go [] n m = List·Memᴰ·not-nil m
+    go (e ∷ es) n m =
+        ⊎-elim (λ (p : _≡_ {A = Place × List ℕ} (c .place, c .given) e). c .differ (equal-true _ (c .given) (rw (c .agree, equal-self) at (rw (sym p) at (n .0))))) (λ l. go es (n .1) l) (List·Memᴰ·cases-cons m)
 
 -- the same device at another stage
 unfoldable pub at : Stage → Device → Device

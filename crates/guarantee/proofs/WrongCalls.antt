@@ -1,30 +1,31 @@
 -- Wrong devices that break what is said of each call. Where the comment says 'alone', all other clauses of demand 3 hold of the device, by reading.
 use mathlib.Core.Path.{_≡_, refl, ap}
-use mathlib.Core.Bool.{cond}
+use mathlib.Core.Bool.{cond, _&&_}
 use mathlib.Core.List.{List, [], _∷_}
 use mathlib.Core.Option.{some}
 use Prim.Native.Nat.{ℕ, _-_}
 use native.Mathlib.Omega.{arith}
+use lib.Dec.{eqb}
 use lib.ListN.{length, set, take, drop, replicate}
 use Rattle.octets.specs.Octets.{number}
 use Rattle.merkle.specs.Limits.{heldBytes}
 use Rattle.wire.specs.declared.refusal.Refusal.the-variants as refusal
-use Rattle.wire.specs.Message.{updateMessage, manifestIn}
-use Rattle.sender.specs.Job.{manifestFor, programFor, blockFor}
+use Rattle.wire.specs.Message.{updateMessage, pathMessage, manifestIn, updateNumber, updateBlock}
+use Rattle.sender.specs.Job.{manifestFor, programFor, blockFor, pathFor}
 use Rattle.machine.specs.declared.state.Device.{Device}
 use Rattle.machine.specs.declared.state.Answer.the-variants.{Accepted, Refused}
 use Rattle.machine.specs.Device.{Situation}
 use Rattle.machine.specs.Flash.{updated}
-use Rattle.machine.specs.Refusals.{tooSmall, notLoading}
+use Rattle.machine.specs.Refusals.{tooSmall, notLoading, strays}
 use Rattle.machine.specs.Readers.{numberOf}
 use Rattle.machine.specs.Step.{acceptBlock, outcome}
 use Rattle.guarantee.specs.Run.{empty, _▷_}
 use Rattle.guarantee.specs.Demand3.{Calls}
 use Rattle.guarantee.proofs.Toy.{Step, toy, any, job, newer, old, fresh, flash, program, right, refusing, but, byKind, computing, loaded}
 
--- It refuses every manifest: alone.
+-- It refuses every manifest, or every path update: each alone.
 pub closed : Step
-closed = byKind refusing right right
+closed = byKind refusing right right right
 
 pub closed-caught : Calls toy any closed fresh flash empty → ⊥
 unfolding computing closed
@@ -33,14 +34,37 @@ closed-caught h =
     let z : _≡_ {A = ℕ} 0 1 = cc in
     omega arith
 
--- It writes an updated block before its root agrees.
+pub unaware : Step
+unaware = byKind right right right refusing
+
+pub unaware-caught : Calls toy any unaware fresh flash loaded → ⊥
+unfolding computing unaware
+unaware-caught h =
+    let e : Refused refusal.State ≡ Accepted = h .answers (pathFor toy newer 2 []) in
+    let z : _≡_ {A = ℕ} 0 1 = cc in
+    omega arith
+
+-- It writes an updated block before its root agrees, or a path update's before its paths do.
+writing : Step
+writing d f m = let o = right d f m in record { answer = o .answer; device = o .device; flash = updated (manifestIn m) f m }
+
 pub hasty : Step
-hasty = byKind right right (λ d f m. let o = right d f m in record { answer = o .answer; device = o .device; flash = updated (manifestIn m) f m })
+hasty = byKind right right writing right
 
 pub hasty-caught : Calls toy any hasty fresh flash loaded → ⊥
-unfolding computing hasty
+unfolding computing hasty writing
 hasty-caught h =
     let r = h .refused (updateMessage (manifestFor toy newer) 1 (replicate 64 9) []) refusal.Mismatch refl in
+    let z : _≡_ {A = ℕ} 9 3 = ap (λ (s : Situation). number (take 1 (s .flash))) r in
+    omega arith
+
+pub rash : Step
+rash = byKind right right right writing
+
+pub rash-caught : Calls toy any rash fresh flash loaded → ⊥
+unfolding computing rash writing
+rash-caught h =
+    let r = h .refused (pathMessage (manifestFor toy newer) 1 (replicate 64 9) (toy (replicate 64 4)) []) refusal.Path refl in
     let z : _≡_ {A = ℕ} 9 3 = ap (λ (s : Situation). number (take 1 (s .flash))) r in
     omega arith
 
@@ -65,7 +89,7 @@ withIdentity : (model : ℕ) (key : List ℕ) → Device → Device
 withIdentity model key d = record { model = model; key = key; stage = d .stage; manifest = d .manifest; hashes = d .hashes }
 
 pub turning : Step
-turning = byKind (λ d f m. let o = right d f m in but o (withIdentity 8 (d .key) (o .device))) right right
+turning = byKind (λ d f m. let o = right d f m in but o (withIdentity 8 (d .key) (o .device))) right right right
 
 pub turning-caught : Calls toy any turning fresh flash (empty ▷ program) → ⊥
 unfolding computing turning withIdentity
@@ -74,7 +98,7 @@ turning-caught h =
     omega arith
 
 pub rekeying : Step
-rekeying = byKind (λ d f m. let o = right d f m in but o (withIdentity (d .model) (1 ∷ []) (o .device))) right right
+rekeying = byKind (λ d f m. let o = right d f m in but o (withIdentity (d .model) (1 ∷ []) (o .device))) right right right
 
 pub rekeying-caught : Calls toy any rekeying fresh flash (empty ▷ program) → ⊥
 unfolding computing rekeying withIdentity
@@ -90,7 +114,7 @@ leaking = byKind right (λ d f m.
       answer = o .answer;
       device = record { model = d .model; key = d .key; stage = o .device .stage; manifest = d .manifest; hashes = acceptBlock d f m .device .hashes };
       flash = o .flash;
-    }) right
+    }) right right
 
 pub leaking-caught : Calls toy any leaking fresh flash (empty ▷ program) → ⊥
 unfolding computing leaking
@@ -101,7 +125,7 @@ leaking-caught h =
 
 -- It writes a block before it compares.
 pub spilling : Step
-spilling = byKind right (λ d f m. let o = right d f m in record { answer = o .answer; device = o .device; flash = acceptBlock d f m .flash }) right
+spilling = byKind right (λ d f m. let o = right d f m in record { answer = o .answer; device = o .device; flash = acceptBlock d f m .flash }) right right
 
 pub spilling-caught : Calls toy any spilling fresh flash (empty ▷ program ▷ blockFor toy (job .image) 1) → ⊥
 unfolding computing spilling
@@ -112,10 +136,24 @@ spilling-caught h =
 
 -- It looks at the flash before it looks at the serial, 8 before 7: alone.
 pub reordering : Step
-reordering = byKind (λ d f m. cond (tooSmall (manifestIn m) f) (outcome (some refusal.Area) d f (record { device = d; flash = f })) (right d f m)) right right
+reordering = byKind (λ d f m. cond (tooSmall (manifestIn m) f) (outcome (some refusal.Area) d f (record { device = d; flash = f })) (right d f m)) right right right
 
 pub reordering-caught : Calls toy any reordering fresh [] empty → ⊥
 unfolding computing reordering
 reordering-caught h =
     let z : _≡_ {A = ℕ} 8 7 = ap numberOf (h .answers (programFor toy old [])) in
+    omega arith
+
+-- It looks at the new root before it looks at the old one, 14 before 15: alone.
+pub swapping : Step
+swapping = byKind right right right (λ d f m.
+    let o = right d f m in
+    let s = manifestIn m in
+    cond (eqb (numberOf (o .answer)) 15 && strays toy s (updateNumber m) (updateBlock (s .«block_len») m) m (s .root))
+    (outcome (some refusal.Mismatch) d f (record { device = d; flash = f })) o)
+
+pub swapping-caught : Calls toy any swapping fresh flash loaded → ⊥
+unfolding computing swapping
+swapping-caught h =
+    let z : _≡_ {A = ℕ} 14 15 = ap numberOf (h .answers (pathMessage (manifestFor toy newer) 1 (replicate 64 9) (toy (replicate 64 9)) [])) in
     omega arith

@@ -1,90 +1,114 @@
 -- Wrong devices that break the first half. Where the comment says 'alone', all other clauses of demand 3 hold of the device, by reading.
 use mathlib.Core.Path.{_≡_, refl, sym, ap, _∙_}
 use mathlib.Core.Logic.{⊎-elim}
-use mathlib.Core.Bool.{true, false, cond, _&&_, true≢false, false≢true}
+use mathlib.Core.Bool.{false, cond, _&&_, _||_, true≢false, false≢true}
 use mathlib.Core.List.{List, [], _∷_, _++_}
-use mathlib.Core.Option.{some}
-use Prim.Native.Nat.{ℕ, _-_}
+use mathlib.Core.Option.{none, some}
+use Prim.Native.Nat.{ℕ, pred, _-_}
 use native.Mathlib.Omega.{arith}
 use lib.Dec.{eqb, ltb, lit<}
 use lib.ListN.{length, getD, set, take, drop, replicate}
 use Rattle.octets.specs.Octets.{number, equal}
 use Rattle.octets.proofs.EqualLaws.{equal-self}
 use Rattle.wire.specs.declared.manifest.Manifest.{Manifest}
-use Rattle.wire.specs.Geometry.{countOf, programLength, treeOver}
-use Rattle.wire.specs.Message.{blockMessage, manifestIn}
-use Rattle.sender.specs.Job.{manifestFor, programFor, blockFor, updateFor}
+use Rattle.wire.specs.declared.refusal.Refusal.the-variants as refusal
+use Rattle.wire.specs.Refusal.{refusalNumber}
+use Rattle.wire.specs.Geometry.{countOf, programLength, blocksOf, treeOver}
+use Rattle.wire.specs.Message.{blockMessage, pathMessage, manifestIn, updateNumber, updateBlock}
+use Rattle.sender.specs.Job.{manifestFor, programFor, blockFor, updateFor, pathFor}
 use Rattle.machine.specs.declared.state.Stage.the-variants.{Idle, Loading, Complete}
 use Rattle.machine.specs.declared.state.Device.{Device}
+use Rattle.machine.specs.declared.state.Answer.the-variants.{Accepted, Refused}
 use Rattle.machine.specs.Device.{nextOf}
-use Rattle.guarantee.specs.Run.{Messages, empty, _▷_, after, accepted, history, lastProgram, blocksSince, lastCarrier, Completed}
-use Rattle.guarantee.specs.Demand3.{Misled, Intact, FirstHalf}
-use Rattle.guarantee.proofs.Toy.{Step, toy, any, nobody, job, newer, unfilled, fresh, flash, program, nobodys, noImage, right, taking, but, butFlash, byKind, computing, loaded, at}
+use Rattle.machine.specs.Readers.{numberOf}
+use Rattle.machine.specs.Step.{acceptUpdate, outcome}
+use Rattle.machine.proofs.RefusalLaws.{ledTo}
+use Rattle.guarantee.specs.Run.{Messages, empty, _▷_, after, accepted, lastProgram, blocksSince, pathsSince, lastCarrier, Completed}
+use Rattle.guarantee.specs.Demand3.{Clash, Misled, FirstHalf}
+use Rattle.guarantee.proofs.MisledLaws.{unmisled, first-path}
+use Rattle.guarantee.proofs.Toy.{Step, toy, any, nobody, job, newer, unfilled, fresh, flash, program, manifestWith, nobodys, noImage, right, taking, but, butFlash, byKind, computing, loaded, none-collides, at}
 
 -- A complete device whose tree lacks its manifest's root, and that no path update misled.
-unrooted : (wrong : Step) (ms : Messages) → Completed (accepted wrong fresh flash ms)
-    → equal (treeOver toy (after wrong fresh flash ms .device .manifest) (after wrong fresh flash ms .flash)) (after wrong fresh flash ms .device .manifest .root) ≡ false
-    → (Misled toy (history wrong fresh flash ms) → ⊥) → FirstHalf toy any wrong fresh flash ms → ⊥
-unrooted wrong ms c e n h =
-    ⊎-elim (λ (t : Intact toy any wrong fresh flash (after wrong fresh flash ms .device .manifest) (after wrong fresh flash ms .flash)).
-    true≢false (sym (equal-self (after wrong fresh flash ms .device .manifest .root)) ∙ ap (λ x. equal x (after wrong fresh flash ms .device .manifest .root)) (sym (t .rooted)) ∙ e)) n
-    (h .bound c .tree)
+unrooted : (wrong : Step) (ms : Messages) → (Misled toy any wrong fresh flash ms → ⊥) → Completed (accepted wrong fresh flash ms)
+    → (let now = after wrong fresh flash ms in equal (treeOver toy (now .device .manifest) (now .flash)) (now .device .manifest .root) ≡ false)
+    → FirstHalf toy any wrong fresh flash ms → ⊥
+unrooted wrong ms n c e h =
+    let root : List ℕ = after wrong fresh flash ms .device .manifest .root in
+    let t = ⊎-elim (λ t. t) (λ w. absurd (n w)) (h .bound c .tree) in
+    true≢false (sym (equal-self root) ∙ ap (λ x. equal x root) (sym (t .rooted)) ∙ e)
+
+-- .. after a path update that clashes with the tree nowhere
+by-path : (wrong : Step) (m : List ℕ) → pathsSince (accepted wrong fresh flash loaded) ≡ 0 → (Clash toy (after wrong fresh flash loaded .flash) m → ⊥)
+    → Completed (accepted wrong fresh flash (loaded ▷ m))
+    → (let now = after wrong fresh flash (loaded ▷ m) in equal (treeOver toy (now .device .manifest) (now .flash)) (now .device .manifest .root) ≡ false)
+    → FirstHalf toy any wrong fresh flash (loaded ▷ m) → ⊥
+by-path wrong m n c = unrooted wrong (loaded ▷ m) (first-path toy any wrong fresh flash loaded m n c)
 
 -- It checks block 1 and merely steps on for later ones.
 pub careless : Step
-careless = byKind right (λ d f m. cond (ltb 1 (nextOf (d .stage))) (taking d f m) (right d f m)) right
+careless = byKind right (λ d f m. cond (ltb 1 (nextOf (d .stage))) (taking d f m) (right d f m)) right right
 
 pub careless-list : Messages
 careless-list = empty ▷ program ▷ blockFor toy (job .image) 1 ▷ blockFor toy (newer .image) 2
 
 pub careless-caught : FirstHalf toy any careless fresh flash careless-list → ⊥
 unfolding computing careless careless-list
-careless-caught = unrooted careless careless-list (record { manifest = manifestFor toy job; last = refl; all = refl }) refl (λ c. c)
+careless-caught = unrooted careless careless-list (unmisled toy any careless fresh flash careless-list refl) (record { manifest = manifestFor toy job; last = refl; all = refl }) refl
 
 -- It does not compare an update's root.
 pub blind : Step
-blind = byKind right right taking
+blind = byKind right right taking right
 
 pub blind-caught : FirstHalf toy any blind fresh flash (loaded ▷ updateFor toy newer 1 []) → ⊥
 unfolding computing blind
-blind-caught = unrooted blind (loaded ▷ updateFor toy newer 1 []) (record { manifest = manifestFor toy job; last = refl; all = refl }) refl (λ c. c)
+blind-caught = unrooted blind (loaded ▷ updateFor toy newer 1 []) (unmisled toy any blind fresh flash (loaded ▷ updateFor toy newer 1 []) refl) (record { manifest = manifestFor toy job; last = refl; all = refl }) refl
 
 -- Its manifest is not the last accepted message's.
 other-serial : (wrong : Step) (ms : Messages) (m : List ℕ) → lastCarrier (accepted wrong fresh flash ms) ≡ some m
     → (after wrong fresh flash ms .device .manifest .serial ≡ manifestIn m .serial → ⊥) → FirstHalf toy any wrong fresh flash ms → ⊥
 other-serial wrong ms m c n h = n (ap (λ (s : Manifest). s .serial) (h .manifest m c))
 
--- the device after an accepted message, with another serial in its manifest
-withSerial : ℕ → Device → Device
-withSerial serial d =
+-- the device with another serial and root in its manifest
+withManifest : (serial : ℕ) (root : List ℕ) → Device → Device
+withManifest serial root d =
     let s = d .manifest in
     record {
       model = d .model;
       key = d .key;
       stage = d .stage;
-      manifest = record { version = s .version; «block_len» = s .«block_len»; model = s .model; serial = serial; «image_len» = s .«image_len»; root = s .root };
+      manifest = record { version = s .version; «block_len» = s .«block_len»; model = s .model; serial = serial; «image_len» = s .«image_len»; root = root };
       hashes = d .hashes;
     }
 
--- It keeps the old serial when it takes an update, so that older updates are taken again: alone.
+-- It keeps the old serial when it takes an update, or one by a path, so that older updates are taken again: each alone.
+sameSerial : Step
+sameSerial d f m = let o = right d f m in but o (withManifest (d .manifest .serial) (o .device .manifest .root) (o .device))
+
 pub keeping : Step
-keeping = byKind right right (λ d f m. let o = right d f m in but o (withSerial (d .manifest .serial) (o .device)))
+keeping = byKind right right sameSerial right
 
 pub keeping-caught : FirstHalf toy any keeping fresh flash (loaded ▷ updateFor toy newer 2 []) → ⊥
-unfolding computing keeping withSerial
+unfolding computing keeping sameSerial withManifest
 keeping-caught = other-serial keeping (loaded ▷ updateFor toy newer 2 []) (updateFor toy newer 2 []) refl (λ (e : _≡_ {A = ℕ} 1 2). omega arith)
+
+pub clinging : Step
+clinging = byKind right right right sameSerial
+
+pub clinging-caught : FirstHalf toy any clinging fresh flash (loaded ▷ pathFor toy newer 2 []) → ⊥
+unfolding computing clinging sameSerial withManifest
+clinging-caught = other-serial clinging (loaded ▷ pathFor toy newer 2 []) (pathFor toy newer 2 []) refl (λ (e : _≡_ {A = ℕ} 1 2). omega arith)
 
 -- It forgets the serial while it loads, so that older programs are taken again.
 pub forgetting : Step
-forgetting = byKind (λ d f m. let o = right d f m in but o (withSerial 0 (o .device))) right right
+forgetting = byKind (λ d f m. let o = right d f m in but o (withManifest 0 (o .device .manifest .root) (o .device))) right right right
 
 pub forgetting-caught : FirstHalf toy any forgetting fresh flash (empty ▷ program) → ⊥
-unfolding computing forgetting withSerial
+unfolding computing forgetting withManifest
 forgetting-caught = other-serial forgetting (empty ▷ program) program refl (λ (e : _≡_ {A = ℕ} 0 1). omega arith)
 
 -- It stays idle after a manifest whose root no image has, so that older serials are taken next: alone, since no run with it is honest.
 pub idling : Step
-idling = byKind (λ d f m. let o = right d f m in cond (noImage (manifestIn m)) (but o (at Idle (o .device))) o) right right
+idling = byKind (λ d f m. let o = right d f m in cond (noImage (manifestIn m)) (but o (at Idle (o .device))) o) right right right
 
 pub idling-caught : FirstHalf toy any idling fresh flash (empty ▷ nobodys) → ⊥
 unfolding computing idling at
@@ -95,7 +119,7 @@ idling-caught h =
 
 -- It is complete after the first block.
 pub early : Step
-early = byKind right (λ d f m. let o = right d f m in but o (at Complete (o .device))) right
+early = byKind right (λ d f m. let o = right d f m in but o (at Complete (o .device))) right right
 
 pub early-list : Messages
 early-list = empty ▷ program ▷ blockFor toy (job .image) 1
@@ -117,7 +141,7 @@ early-caught h =
 -- It is not complete where the last of two blocks, which has one byte of filling, ends with 0. The toy hash does not see that byte: alone, since the sender fills
 -- with 0xFF.
 pub endless : Step
-endless = byKind right (λ d f m. let o = right d f m in cond (eqb (nextOf (d .stage)) 2 && eqb (d .manifest .«image_len») 127 && eqb (getD m (length m - 1) 0) 0) (but o (at (d .stage) (o .device))) o) right
+endless = byKind right (λ d f m. let o = right d f m in cond (eqb (nextOf (d .stage)) 2 && eqb (d .manifest .«image_len») 127 && eqb (getD m (length m - 1) 0) 0) (but o (at (d .stage) (o .device))) o) right right
 
 pub endless-list : Messages
 endless-list = empty ▷ programFor toy unfilled [] ▷ blockFor toy (unfilled .image) 1 ▷ blockMessage 2 (replicate 63 3 ++ (0 ∷ [])) []
@@ -129,13 +153,62 @@ endless-caught h =
     let z : _≡_ {A = ℕ} 0 1 = cc in
     omega arith
 
--- It takes an update's manifest and leaves the block as it was: alone, but for the image, which follows from the root.
+-- It takes an update's manifest, or a path update's, and leaves the block as it was: each alone, but for the image, which follows from the root. The sender's path
+-- has the tree's hash inputs, so it misleads no device.
+unchanged : Step
+unchanged d f m = butFlash (right d f m) f
+
 pub unwritten : Step
-unwritten = byKind right right (λ d f m. butFlash (right d f m) f)
+unwritten = byKind right right unchanged right
 
 pub unwritten-caught : FirstHalf toy any unwritten fresh flash (loaded ▷ updateFor toy newer 2 []) → ⊥
-unfolding computing unwritten
-unwritten-caught = unrooted unwritten (loaded ▷ updateFor toy newer 2 []) (record { manifest = manifestFor toy job; last = refl; all = refl }) refl (λ c. c)
+unfolding computing unwritten unchanged
+unwritten-caught = unrooted unwritten (loaded ▷ updateFor toy newer 2 []) (unmisled toy any unwritten fresh flash (loaded ▷ updateFor toy newer 2 []) refl) (record { manifest = manifestFor toy job; last = refl; all = refl }) refl
+
+pub untouched : Step
+untouched = byKind right right right unchanged
+
+pub untouched-caught : FirstHalf toy any untouched fresh flash (loaded ▷ pathFor toy newer 2 []) → ⊥
+unfolding computing untouched unchanged
+untouched-caught = by-path untouched (pathFor toy newer 2 []) refl (none-collides (refl, (refl, tt))) (record { manifest = manifestFor toy job; last = refl; all = refl }) refl
+
+-- Three devices that take path updates which the right one refuses, so that their answers fail too: shown where it does harm, at the tree.
+
+-- It takes a path update as if the held root were another.
+holding : List ℕ → Step
+holding root d f m = let o = right (withManifest (d .manifest .serial) root d) f m in elim (o .answer) [ Accepted ↦ o | Refused r ↦ record { answer = Refused r; device = d; flash = f } ]
+
+-- It does not compare where the old block leads. So it takes a path of the newer image, whose second block its flash does not have.
+pub trusting : Step
+trusting = byKind right right right (λ d f m. holding (ledTo toy any d f m (blocksOf (manifestIn m) f (pred (updateNumber m)))) d f m)
+
+pub trusting-caught : FirstHalf toy any trusting fresh flash (loaded ▷ pathFor toy newer 1 []) → ⊥
+unfolding computing trusting holding withManifest
+trusting-caught = by-path trusting (pathFor toy newer 1 []) refl (none-collides (refl, (refl, tt))) (record { manifest = manifestFor toy job; last = refl; all = refl }) refl
+
+-- It compares the old block, too, with the new root.
+pub doubling : Step
+doubling = byKind right right right (λ d f m. holding (manifestIn m .root) d f m)
+
+pub doubling-caught : FirstHalf toy any doubling fresh flash (loaded ▷ pathFor toy newer 1 []) → ⊥
+unfolding computing doubling holding withManifest
+doubling-caught = by-path doubling (pathFor toy newer 1 []) refl (none-collides (refl, (refl, tt))) (record { manifest = manifestFor toy job; last = refl; all = refl }) refl
+
+-- It compares the new root with the new block's own hash, and not with where its path leads.
+pub nearsighted : Step
+nearsighted = byKind right right right (λ d f m.
+    let o = right d f m in
+    let n = numberOf (o .answer) in
+    let s = manifestIn m in
+    cond (eqb n 0 || eqb n (refusalNumber refusal.Mismatch))
+    (outcome (cond (equal (toy (updateBlock (s .«block_len») m)) (s .root)) none (some refusal.Mismatch)) d f (acceptUpdate d f m)) o)
+
+pub ownHash : List ℕ
+ownHash = pathMessage (manifestWith 2 (toy (replicate 64 4))) 2 (replicate 64 4) (toy (replicate 64 3)) []
+
+pub nearsighted-caught : FirstHalf toy any nearsighted fresh flash (loaded ▷ ownHash) → ⊥
+unfolding computing nearsighted ownHash
+nearsighted-caught = by-path nearsighted ownHash refl (none-collides (refl, (refl, tt))) (record { manifest = manifestFor toy job; last = refl; all = refl }) refl
 
 -- It accepts everything.
 pub taking-caught : FirstHalf toy nobody taking fresh flash loaded → ⊥
@@ -144,7 +217,7 @@ taking-caught h = false≢true (h .bound (record { manifest = manifestFor toy jo
 
 -- It overwrites the byte behind the program when it takes an update: alone.
 pub smearing : Step
-smearing = byKind right right (λ d f m. let o = right d f m in butFlash o (set (o .flash) (programLength (o .device .manifest)) 0))
+smearing = byKind right right (λ d f m. let o = right d f m in butFlash o (set (o .flash) (programLength (o .device .manifest)) 0)) right
 
 pub smearing-caught : FirstHalf toy any smearing fresh flash loaded → ⊥
 unfolding computing smearing
@@ -155,7 +228,7 @@ smearing-caught h =
 -- It shortens a flash that has just room for the program, when it takes a manifest whose root no image has: alone. (A flash with more room that got another length
 -- would break `beyond` too.)
 pub shrinking : Step
-shrinking = byKind (λ d f m. let o = right d f m in cond (noImage (manifestIn m) && eqb (length f) (programLength (manifestIn m))) (butFlash o (drop 1 f)) o) right right
+shrinking = byKind (λ d f m. let o = right d f m in cond (noImage (manifestIn m) && eqb (length f) (programLength (manifestIn m))) (butFlash o (drop 1 f)) o) right right right
 
 pub shrinking-caught : FirstHalf toy any shrinking fresh (replicate 128 5) (empty ▷ nobodys) → ⊥
 unfolding computing shrinking

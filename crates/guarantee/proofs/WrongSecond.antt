@@ -24,7 +24,7 @@ begun-by wrong e = record { sendable = record { size = refl; model = lit< tt; se
 
 -- It takes manifests and refuses each block.
 pub deaf : Step
-deaf = byKind right refusing right
+deaf = byKind right refusing right right
 
 pub deaf-caught : SecondHalf toy any deaf fresh flash (empty ▷ program ▷ blockFor toy (job .image) 1) → ⊥
 unfolding computing deaf
@@ -46,7 +46,7 @@ still-caught h =
 
 -- It does not put the message's hashes in the place of the held one.
 pub hoarding : Step
-hoarding = byKind right (λ d f m. let o = right d f m in but o (at (o .device .stage) d)) right
+hoarding = byKind right (λ d f m. let o = right d f m in but o (at (o .device .stage) d)) right right
 
 pub hoarding-caught : SecondHalf toy any hoarding fresh flash (empty ▷ program ▷ blockFor toy (job .image) 1) → ⊥
 unfolding computing hoarding at
@@ -57,7 +57,7 @@ hoarding-caught h =
 
 -- It holds a number of hashes that is not the tree's: its next number runs ahead.
 pub skipping : Step
-skipping = byKind right (λ d f m. let o = right d f m in but o (at (Loading 3) (o .device))) right
+skipping = byKind right (λ d f m. let o = right d f m in but o (at (Loading 3) (o .device))) right right
 
 pub skipping-caught : SecondHalf toy any skipping fresh flash (empty ▷ program ▷ blockFor toy (job .image) 1) → ⊥
 unfolding computing skipping at
@@ -94,7 +94,7 @@ mislaying-caught h =
 
 -- It stores a block with another first byte: alone, since the toy hash does not look at that byte, and the root is right.
 pub garbling : Step
-garbling = byKind right (λ d f m. let o = right d f m in butFlash o (set (o .flash) 0 9)) right
+garbling = byKind right (λ d f m. let o = right d f m in butFlash o (set (o .flash) 0 9)) right right
 
 pub garbling-caught : SecondHalf toy any garbling fresh flash loaded → ⊥
 unfolding computing garbling

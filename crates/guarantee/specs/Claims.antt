@@ -8,8 +8,8 @@ use Rattle.sender.specs.Job.{Job}
 use Rattle.machine.specs.declared.state.Device.{Device}
 use Rattle.machine.specs.Device.{Fresh, Outcome}
 use Rattle.machine.specs.Refusals.{senseless}
-use Rattle.guarantee.specs.Run.{Messages, _▷_, after}
-use Rattle.guarantee.specs.Demand3.{Honest}
+use Rattle.guarantee.specs.Run.{Messages, _▷_, after, accepted, pathsSince, Completed}
+use Rattle.guarantee.specs.Demand3.{Intact, Misled, Honest, FirstHalf}
 
 pub data Beginning (ms : Messages) : Messages → Type 0 where
   whole : Beginning ms ms
@@ -25,3 +25,13 @@ module _ (H : List ℕ → List ℕ) (valid : (key message signature : List ℕ)
   -- Refusal 1 never applies after a list from a fresh device.
   abbrev pub MakesSense : Type 0
   MakesSense = (d : Device) → Fresh d → (flash : List ℕ) (ms : Messages) → senseless (after step d flash ms .device) ≡ false
+
+  -- Where no kind 4 was accepted since the last manifest in a message of another kind, none misled the device: so demand 3 says of a complete one that its flash has the
+  -- manifest's tree, as if there were no kind 4.
+  abbrev pub Unmisled : Type 0
+  Unmisled = (d : Device) (flash : List ℕ) (ms : Messages) → pathsSince (accepted step d flash ms) ≡ 0 → Misled H valid step d flash ms → ⊥
+
+  abbrev pub WithoutPaths : Type 0
+  WithoutPaths =
+      (d : Device) (flash : List ℕ) (ms : Messages) → FirstHalf H valid step d flash ms → Completed (accepted step d flash ms) → pathsSince (accepted step d flash ms) ≡ 0
+      → Intact H (after step d flash ms .device .manifest) (after step d flash ms .flash)

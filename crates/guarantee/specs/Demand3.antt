@@ -2,24 +2,23 @@
 use mathlib.Core.Path.{_≡_}
 use mathlib.Core.Logic.{_⊎_, _↔_}
 use mathlib.Core.Bool.{Bool, true, false}
-use mathlib.Core.List.{List, [], _∷_}
+use mathlib.Core.List.{List, []}
 use mathlib.Core.Option.{none, some}
 use Prim.Native.Nat.{ℕ, zero, suc, pred, _^_, max, _≤_, _<_}
 use lib.ListN.{length, take, drop}
 use Rattle.merkle.specs.Shape.{shape, depth}
 use Rattle.merkle.specs.Hash.{plain, hashes, Collision}
 use Rattle.merkle.specs.Frontier.{frontier}
-use Rattle.merkle.specs.Path.{leafDepth, PathCollision}
-use Rattle.merkle.specs.Held.{hashesIn}
-use Rattle.wire.specs.declared.kind.Kind.the-variants.{Program, Block, Update, PathUpdate, Unknown}
+use Rattle.merkle.specs.Path.{PathCollision}
+use Rattle.wire.specs.declared.kind.Kind.the-variants.{Program, PathUpdate}
 use Rattle.wire.specs.declared.manifest.Manifest.{Manifest}
 use Rattle.wire.specs.declared.refusal.Refusal.{Refusal}
 use Rattle.wire.specs.Refusal.{refusalNumber}
 use Rattle.wire.specs.Size.{wrongSize}
 use Rattle.wire.specs.Manifest.{written}
 use Rattle.wire.specs.Image.{filled, imageBlocks}
-use Rattle.wire.specs.Geometry.{countOf, blockLength, programLength, blocksOf, treeOver}
-use Rattle.wire.specs.Message.{kind, manifestBytes, manifestIn, updateNumber, pathIn, atStart}
+use Rattle.wire.specs.Geometry.{countOf, programLength, blocksOf, treeOver}
+use Rattle.wire.specs.Message.{kind, carries, manifestBytes, manifestIn, updateNumber, atStart}
 use Rattle.sender.specs.Job.{Image, Job, count, blocks, manifestFor, blockFor}
 use Rattle.machine.specs.declared.state.Stage.the-variants.{Idle, Loading, Complete}
 use Rattle.machine.specs.declared.state.Device.{Device}
@@ -28,7 +27,7 @@ use Rattle.machine.specs.declared.state.Answer.the-variants.{Accepted, Refused}
 use Rattle.machine.specs.Device.{Fresh, heldBy, Outcome}
 use Rattle.machine.specs.Readers.{numberOf}
 use Rattle.machine.specs.Step.{answerOf, refusalOf}
-use Rattle.guarantee.specs.Run.{Messages, _▷_, Taken, after, answerTo, accepted, history, lastProgram, blocksSince, lastCarrier, signatureIn, Completed}
+use Rattle.guarantee.specs.Run.{Messages, _▷_, after, answerTo, accepted, lastProgram, blocksSince, lastCarrier, signatureIn, siblingsIn, Completed}
 
 -- The sender writes a manifest for the job: it does not refuse 5, and model and serial have four bytes.
 pub record Sendable (job : Job) : Type 0 where
@@ -42,22 +41,23 @@ thenBlocks H image ms zero = ms
 thenBlocks H image ms (suc j) = thenBlocks H image ms j ▷ blockFor H image (suc j)
 
 module _ (H : List ℕ → List ℕ) where
-  -- "the tree over the area before it and the message's path held two different hash inputs with one digest": of an accepted kind 4 message, whose path is the old
-  -- block in the flash that it found, with its siblings
-  abbrev pub Clash : Taken → Type 0
-  Clash t =
-      let m = t .message in
+  -- "the tree over the area before it and the message's path held two different hash inputs with one digest": of a kind 4 message m and the flash that it finds. Its
+  -- path is the old block there, with the message's siblings.
+  abbrev pub Clash : (flash m : List ℕ) → Type 0
+  Clash flash m =
       let s = manifestIn m in
-      let n = countOf s in
       let i = pred (updateNumber m) in
-      let k = blockLength (s .«block_len») (s .«image_len») (updateNumber m) in
-      let blocks = blocksOf s (t .flash) in
-      PathCollision (plain H) blocks 0 (shape n) i (blocks i) (hashesIn (leafDepth n i) (pathIn k (leafDepth n i) m))
+      let blocks = blocksOf s flash in
+      PathCollision (plain H) blocks 0 (shape (countOf s)) i (blocks i) (siblingsIn m)
 
-  -- "at one of the kind 4 messages taken since the last accepted slip in a message of another kind"; the last accepted message comes first
-  unfoldable pub Misled : List Taken → Type 0
-  Misled [] = ⊥
-  Misled (t ∷ ts) = elim (kind (t .message)) [ Program ↦ ⊥ | Block ↦ Misled ts | Update ↦ ⊥ | PathUpdate ↦ Clash t ⊎ Misled ts | Unknown ↦ Misled ts ]
+  -- The flash f has the manifest's tree.
+  pub record Intact (s : Manifest) (f : List ℕ) : Type 0 where
+    -- "the tree over its area has the slip's root"
+    pub rooted : treeOver H s f ≡ s .root
+    -- "every image of the same length .. with that root": "filled, it equals the start of the area, or at one place its tree's hash input and the area's differ
+    -- and have the same SHA-256"
+    pub image : (x : List ℕ) → length x ≡ s .«image_len» → treeOver H s (filled (s .«block_len») x) ≡ s .root
+        → (filled (s .«block_len») x ≡ take (length (filled (s .«block_len») x)) f) ⊎ Collision (plain H) (imageBlocks (s .«block_len») x) (blocksOf s f) 0 (shape (countOf s))
 
 module _ (H : List ℕ → List ℕ) (valid : (key message signature : List ℕ) → Bool) (step : Device → List ℕ → List ℕ → Outcome) (d : Device) (flash : List ℕ) where
   -- device, flash and accepted messages after a list, and the answer to one message more
@@ -85,25 +85,31 @@ module _ (H : List ℕ → List ℕ) (valid : (key message signature : List ℕ)
     pub model : deviceAfter ms .model ≡ d .model
     pub key : deviceAfter ms .key ≡ d .key
 
-  -- The flash f has the manifest's tree.
-  pub record Intact (s : Manifest) (f : List ℕ) : Type 0 where
-    -- "the tree over its area has the slip's root"
-    pub rooted : treeOver H s f ≡ s .root
-    -- "every image of the same length .. with that root": "filled, it equals the start of the area, or at one place its tree's hash input and the area's differ
-    -- and have the same SHA-256"
-    pub image : (x : List ℕ) → length x ≡ s .«image_len» → treeOver H s (filled (s .«block_len») x) ≡ s .root
-        → (filled (s .«block_len») x ≡ take (length (filled (s .«block_len») x)) f) ⊎ Collision (plain H) (imageBlocks (s .«block_len») x) (blocksOf s f) 0 (shape (countOf s))
+  -- The list goes on from `start`, and since then no accepted message of another kind than 4 carried a manifest.
+  pub data Since (start : Messages) : Messages → Type 0 where
+    here : Since start start
+    later : {ms : Messages} {x : List ℕ} → Since start ms → (answer ms x ≡ Accepted → carries (kind x) ≡ true → kind x ≡ PathUpdate) → Since start (ms ▷ x)
 
-  -- A device that is complete with manifest s, and its flash f.
-  pub record Bound (taken : Messages) (story : List Taken) (s : Manifest) (f : List ℕ) : Type 0 where
+  -- "at one of the kind 4 messages taken since the last accepted slip in a message of another kind the tree over the area before it and the message's path held two
+  -- different hash inputs with one digest": the list begins with `before` and that message
+  pub record Misled (ms : Messages) : Type 0 where
+    pub before : Messages
+    pub message : List ℕ
+    pub path : kind message ≡ PathUpdate
+    pub taken : answer before message ≡ Accepted
+    pub since : Since (before ▷ message) ms
+    pub clash : Clash H (flashAfter before) message
+
+  -- A list after which the device is complete with manifest s, and its flash f.
+  pub record Bound (ms : Messages) (s : Manifest) (f : List ℕ) : Type 0 where
     pub carrier : List ℕ
-    pub last : lastCarrier taken ≡ some carrier
+    pub last : lastCarrier (acceptedOf ms) ≡ some carrier
     -- "signed means that this message's signature over it is valid under the drive's key"
     pub signed : valid (d .key) (manifestBytes carrier) (signatureIn carrier) ≡ true
     -- the area has all of its tree's blocks
     pub room : programLength s ≤ length f
-    -- and its tree has the root, or a kind 4 message misled the device; "in this second case no image need equal the area"
-    pub tree : Intact s f ⊎ Misled H story
+    -- "the tree over the area has it, or" a kind 4 message misled the device; "in this second case no image need equal the area"
+    pub tree : Intact H s f ⊎ Misled ms
 
   -- The first half.
   pub record FirstHalf (ms : Messages) : Type 0 where
@@ -118,7 +124,7 @@ module _ (H : List ℕ → List ℕ) (valid : (key message signature : List ℕ)
     pub one : length (flashAfter ms) ≡ length flash
     -- "bytes beyond are never written": one message more leaves those behind the program of the manifest that the device then has
     pub beyond : (m : List ℕ) → (let s = deviceAfter (ms ▷ m) .manifest in drop (programLength s) (flashAfter (ms ▷ m)) ≡ drop (programLength s) (flashAfter ms))
-    pub bound : Completed (acceptedOf ms) → Bound (acceptedOf ms) (history step d flash ms) (deviceAfter ms .manifest) (flashAfter ms)
+    pub bound : Completed (acceptedOf ms) → Bound ms (deviceAfter ms .manifest) (flashAfter ms)
 
   -- "an accepted kind 1 carried exactly the slip that demand 2 has the sender write for an image": message m, after the messages `before`
   pub record Begun (job : Job) (before : Messages) (m : List ℕ) : Type 0 where

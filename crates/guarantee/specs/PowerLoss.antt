@@ -1,24 +1,39 @@
 -- Power loss: after a power cut the stored state and the flash may be of different moments. What holds then of the device's step, from every state, reached by a
 -- list or not.
 use mathlib.Core.Path.{_≡_}
+use mathlib.Core.Logic.{_⊎_, _≢_}
 use mathlib.Core.Bool.{Bool}
-use mathlib.Core.List.{List}
-use Prim.Native.Nat.{ℕ, suc, _+_}
+use mathlib.Core.List.{List, List·Memᴰ}
+use Prim.Native.Nat.{ℕ, suc, pred, _+_}
 use lib.ListN.{length, take, drop}
-use Rattle.wire.specs.declared.kind.Kind.the-variants.{Block, Update}
+use Rattle.merkle.specs.Shape.{Place, shape}
+use Rattle.merkle.specs.Hash.{Hashing, plain}
+use Rattle.merkle.specs.Path.{pathInputs}
+use Rattle.wire.specs.declared.kind.Kind.the-variants.{Block, Update, PathUpdate}
 use Rattle.wire.specs.declared.manifest.Manifest.{Manifest}
-use Rattle.wire.specs.Geometry.{blockLength, blockStart, programLength}
+use Rattle.wire.specs.declared.refusal.Refusal.the-variants as refusal
+use Rattle.wire.specs.Geometry.{countOf, blockLength, blockStart, programLength, blocksOf}
 use Rattle.wire.specs.Message.{kind, manifestIn, updateNumber}
 use Rattle.machine.specs.declared.state.Stage.the-variants.{Loading, Complete}
 use Rattle.machine.specs.declared.state.Device.{Device}
-use Rattle.machine.specs.declared.state.Answer.the-variants.{Accepted}
+use Rattle.machine.specs.declared.state.Answer.the-variants.{Accepted, Refused}
 use Rattle.machine.specs.Step.{step}
-use Rattle.guarantee.specs.Run.{Messages, empty, _▷_, after, answerTo}
+use Rattle.guarantee.specs.Run.{Messages, empty, _▷_, after, answerTo, siblingsIn}
 
 -- a list of block messages
 unfoldable pub OnlyBlocks : Messages → Type 0
 OnlyBlocks empty = Unit {0}
 OnlyBlocks (ms ▷ m) = OnlyBlocks ms × (kind m ≡ Block)
+
+-- Two paths: at one place the hash inputs differ and have the same hash.
+pub record PathsCollide (H : Hashing) (inputs others : List (Place × List ℕ)) : Type 0 where
+  pub place : Place
+  pub one : List ℕ
+  pub other : List ℕ
+  pub within : List·Memᴰ (place, one) inputs
+  pub within-other : List·Memᴰ (place, other) others
+  pub differ : one ≢ other
+  pub agree : H .function one ≡ H .function other
 
 -- Two flashes of one length that agree in the first k blocks of the manifest's program and behind it.
 pub record Agree (s : Manifest) (k : ℕ) (f g : List ℕ) : Type 0 where
@@ -44,3 +59,17 @@ module _ (H : List ℕ → List ℕ) (valid : (key message signature : List ℕ)
   TornUpdate = (d : Device) (f g m : List ℕ) → kind m ≡ Update → length f ≡ length g
       → (let s = manifestIn m in let at = blockStart (s .«block_len») (updateNumber m) in let end = at + blockLength (s .«block_len») (s .«image_len») (updateNumber m) in
       (take at f ≡ take at g) → (drop end f ≡ drop end g) → step H valid d f m .answer ≡ Accepted → step H valid d g m ≡ step H valid d f m)
+
+  -- Of the flash a path update reads its length and the numbered block. So what is torn or altered elsewhere is not noticed.
+  abbrev pub PathReads : Type 0
+  PathReads = (d : Device) (f g m : List ℕ) → kind m ≡ PathUpdate → length f ≡ length g
+      → (let i = pred (updateNumber m) in blocksOf (manifestIn m) f i ≡ blocksOf (manifestIn m) g i)
+      → (step H valid d f m .answer ≡ step H valid d g m .answer) × (step H valid d f m .device ≡ step H valid d g m .device)
+
+  -- A path update that is accepted over f is refused 15 over another flash of that length, or accepted there too; then the numbered block is the same, or the two
+  -- paths collide. So unlike an update it is not taken again over its own block, torn or whole, where that is not the old one.
+  abbrev pub TornPath : Type 0
+  TornPath = (d : Device) (f g m : List ℕ) → kind m ≡ PathUpdate → length f ≡ length g → step H valid d f m .answer ≡ Accepted
+      → (let s = manifestIn m in let i = pred (updateNumber m) in let inputs : List ℕ → List (Place × List ℕ) = λ block. pathInputs (plain H) 0 (shape (countOf s)) i block (siblingsIn m) in
+      (step H valid d g m .answer ≡ Refused refusal.Path)
+      ⊎ ((step H valid d g m .answer ≡ Accepted) × ((blocksOf s f i ≡ blocksOf s g i) ⊎ PathsCollide (plain H) (inputs (blocksOf s f i)) (inputs (blocksOf s g i)))))

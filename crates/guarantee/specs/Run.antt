@@ -1,14 +1,15 @@
 -- Lists of messages, and what a device makes of them (01, 'The list that demand 3 speaks of').
 use mathlib.Core.Path.{_≡_}
 use mathlib.Core.Bool.{cond}
-use mathlib.Core.List.{List, [], _∷_}
+use mathlib.Core.List.{List, []}
 use mathlib.Core.Option.{Option, none, some}
 use Prim.Native.Nat.{ℕ, suc, pred}
 use Rattle.merkle.specs.Path.{leafDepth}
+use Rattle.merkle.specs.Held.{hashesIn}
 use Rattle.wire.specs.declared.kind.Kind.the-variants.{Program, Block, Update, PathUpdate, Unknown}
 use Rattle.wire.specs.declared.manifest.Manifest.{Manifest}
 use Rattle.wire.specs.Geometry.{countOf, blockLength}
-use Rattle.wire.specs.Message.{kind, carries, manifestIn, programSignature, updateNumber, updateSignature, pathSignature}
+use Rattle.wire.specs.Message.{kind, carries, manifestIn, programSignature, updateNumber, updateSignature, pathIn, pathSignature}
 use Rattle.machine.specs.declared.state.Device.{Device}
 use Rattle.machine.specs.declared.state.Answer.{Answer}
 use Rattle.machine.specs.declared.state.Answer.the-variants.{Accepted, Refused}
@@ -19,11 +20,6 @@ infixl 25 _▷_
 pub data Messages : Type 0 where
   empty : Messages
   _▷_ : Messages → List ℕ → Messages
-
--- An accepted message, and the flash that it found.
-pub record Taken : Type 0 where
-  pub flash : List ℕ
-  pub message : List ℕ
 
 -- "Each message, of any kind or none, goes with the state that the call before it returned and the area that it left", from device d and its flash on.
 module _ (step : Device → List ℕ → List ℕ → Outcome) (d : Device) (flash : List ℕ) where
@@ -40,11 +36,6 @@ module _ (step : Device → List ℕ → List ℕ → Outcome) (d : Device) (fla
   accepted empty = empty
   accepted (ms ▷ m) = elim (answerTo ms m) [ Accepted ↦ accepted ms ▷ m | Refused r ↦ accepted ms ]
 
-  -- the same, the last one first, each with the flash that it found
-  unfoldable pub history : Messages → List Taken
-  history empty = []
-  history (ms ▷ m) = elim (answerTo ms m) [ Accepted ↦ record { flash = after ms .flash; message = m } ∷ history ms | Refused r ↦ history ms ]
-
 -- Of a list of accepted messages: the manifest of the last kind 1,
 unfoldable pub lastProgram : Messages → Option Manifest
 lastProgram empty = none
@@ -54,6 +45,11 @@ lastProgram (ms ▷ m) = elim (kind m) [ Program ↦ some (manifestIn m) | Block
 unfoldable pub blocksSince : Messages → ℕ
 blocksSince empty = 0
 blocksSince (ms ▷ m) = elim (kind m) [ Program ↦ 0 | Block ↦ suc (blocksSince ms) | Update ↦ blocksSince ms | PathUpdate ↦ blocksSince ms | Unknown ↦ blocksSince ms ]
+
+-- how many kind 4 came since the last message of another kind that carries a manifest,
+unfoldable pub pathsSince : Messages → ℕ
+pathsSince empty = 0
+pathsSince (ms ▷ m) = elim (kind m) [ Program ↦ 0 | Block ↦ pathsSince ms | Update ↦ 0 | PathUpdate ↦ suc (pathsSince ms) | Unknown ↦ pathsSince ms ]
 
 -- and the last message that carries a manifest.
 unfoldable pub lastCarrier : Messages → Option (List ℕ)
@@ -72,6 +68,13 @@ signatureIn m =
       | PathUpdate ↦ pathSignature k (leafDepth (countOf s) (pred (updateNumber m))) m
       | Unknown ↦ []
     ]
+
+-- the siblings of a kind 4 message
+abbrev pub siblingsIn : List ℕ → List (List ℕ)
+siblingsIn m =
+    let s = manifestIn m in
+    let depth = leafDepth (countOf s) (pred (updateNumber m)) in
+    hashesIn depth (pathIn (blockLength (s .«block_len») (s .«image_len») (updateNumber m)) depth m)
 
 -- "Complete: the list has an accepted kind 1, and since the last of these as many kind 2 messages were accepted as its slip has blocks."
 pub record Completed (taken : Messages) : Type 0 where
