@@ -34,7 +34,7 @@ module _ (f : ℕ → List ℕ) (at : ℕ) (b : List ℕ) where
   unfolding overlay
   overlay-other j n = rw (ne-eqb j at n, overlay)
 
--- Blocks that agree with others but for one are the others with that one replaced.
+-- Blocks that agree with g's but for one are g's with that one replaced by g's own.
 pub overlay-is : (f g : ℕ → List ℕ) (at : ℕ) (j : ℕ) → (j ≢ at → f j ≡ g j) → overlay f at (g at) j ≡ g j
 unfolding overlay
 overlay-is f g at j other = go (eqb j at) refl
