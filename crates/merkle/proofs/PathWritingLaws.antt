@@ -16,8 +16,8 @@ use Rattle.merkle.specs.Path.{pathSiblings, leafDepth, sentPath, pathHas
 use Rattle.merkle.specs.Held.{hashesIn}
 use Rattle.merkle.proofs.ShapeLaws.{size-shape, split-between}
 use Rattle.merkle.proofs.HashLaws.{Same, same-left, same-right, hash-same, length-hash, length-hashes, hashes-last}
-use Rattle.merkle.proofs.HeldLaws.{length-joined, hashesIn-joined}
-use Rattle.merkle.proofs.FitsLaws.{sized-hashes}
+use Rattle.merkle.proofs.HeldLaws.{length-joined}
+use Rattle.merkle.proofs.FitsLaws.{sized-hashes, hashes-back}
 use Rattle.merkle.proofs.PathLaws.{path-other}
 use Rattle.merkle.proofs.WayLaws.{depth-some, depth-left, depth-right, siblings-left, siblings-right, siblings-none, depth-at}
 use Rattle.merkle.proofs.WritingLaws.{Filling, filling-none, filling-room, filling-one, filling-all}
@@ -139,7 +139,5 @@ module _ (H : Hashing) where
       → pathHash H 0 (shape n) i (g i) (hashesIn (leafDepth n i) (sentPath H n f i)) ≡ rootOver H g n
   unfolding sentPath leafDepth
   sent-leads sized n f g i h other =
-      let ps : List Place = pathSiblings 0 (shape n) i in
       let z = size-shape n (omega arith) in
-      ap (pathHash H 0 (shape n) i (g i)) (ap (λ c. hashesIn c (joined (hashes H f ps))) (sym (length-hashes H f ps)) ∙ hashesIn-joined (sized-hashes H sized f ps))
-      ∙ path-other H f g (shape n) i (rw z h) (λ j k. other j (rw z at k))
+      ap (pathHash H 0 (shape n) i (g i)) (hashes-back H sized f (pathSiblings 0 (shape n) i)) ∙ path-other H f g (shape n) i (rw z h) (λ j k. other j (rw z at k))
