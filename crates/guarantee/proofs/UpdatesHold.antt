@@ -39,8 +39,8 @@ use Rattle.guarantee.specs.Updates.{Installed, UpdateOffered, Updated, U
 use Rattle.guarantee.proofs.RunLaws.{accepted-step}
 use Rattle.guarantee.proofs.SentLaws.{count-some, count-most, block-length, root-long, manifest-is}
 
-module _ (H : List ℕ → List ℕ) (hash-long : (x : List ℕ) → length (H x) ≡ hashLength) (valid : (key message signature : List ℕ) → Bool) (d : Device) (flash : List ℕ)
-    (a b : Job) (i : ℕ) (signature : List ℕ) (was : Installed H a flash d flash) (o : UpdateOffered H valid d a b i signature) where
+module _ (H : List ℕ → List ℕ) (hash-long : (x : List ℕ) → length (H x) ≡ hashLength) (valid : (key message signature : List ℕ) → Bool) (d : Device) (flash old : List ℕ)
+    (a b : Job) (i : ℕ) (signature : List ℕ) (was : Installed H a old d flash) (o : UpdateOffered H valid d a b i signature) where
   abbrev n : ℕ
   n = count (b .image)
 
@@ -73,18 +73,18 @@ module _ (H : List ℕ → List ℕ) (hash-long : (x : List ℕ) → length (H x
   blocks-old j = ap (λ L. cut L v j) (o .cut)
 
   -- the flash with the new block, and its tree
-  flash-new : withBlock (b .image .«block_len») flash (suc i) (blocks (b .image) i) ≡ atStart w flash
+  flash-new : withBlock (b .image .«block_len») flash (suc i) (blocks (b .image) i) ≡ atStart w old
   unfolding blocksOf manifestFor blocks imageBlocks countOf count
-  flash-new = one-changed s v w flash i (o .within) long-old long (was .image) (λ j h n. blocks-old j ∙ sym (o .others j h n))
+  flash-new = one-changed s v w flash old i (o .within) long-old long (was .image) (λ j h apart. blocks-old j ∙ sym (o .others j h apart))
 
-  tree-new : treeOver H s (atStart w flash) ≡ s .root
+  tree-new : treeOver H s (atStart w old) ≡ s .root
   unfolding treeOver blocksOf manifestFor rootOf blocks imageBlocks countOf count
-  tree-new = start-tree s w flash long H (count-some H hash-long b (o .sendable))
+  tree-new = start-tree s w old long H (count-some H hash-long b (o .sendable))
 
   -- the block in the flash, and the root that the device has
   block-old : blocksOf s flash i ≡ blocks (a .image) i
   unfolding countOf count manifestFor
-  block-old = ap (λ y. blocksOf s y i) (was .image) ∙ start-blocks s v flash long-old i (o .within) ∙ blocks-old i
+  block-old = ap (λ y. blocksOf s y i) (was .image) ∙ start-blocks s v old long-old i (o .within) ∙ blocks-old i
 
   root-old : d .manifest .root ≡ rootOver (plain H) (blocks (a .image)) n
   unfolding manifestFor rootOf count
@@ -92,7 +92,7 @@ module _ (H : List ℕ → List ℕ) (hash-long : (x : List ℕ) → length (H x
 
   sense : senseless d ≡ false
   unfolding wrongVersion manifestFor
-  sense = sense-complete d (rw (was .manifest) refl) (rw (was .manifest) allowed-old) (was .stage)
+  sense = sense-complete d (rw (was .manifest)) (rw (was .manifest) allowed-old) (was .stage)
 
   serial-old : serialOf d ≡ a .serial
   unfolding serialOf manifestFor
@@ -101,14 +101,19 @@ module _ (H : List ℕ → List ℕ) (hash-long : (x : List ℕ) → length (H x
   few : suc i < 256 ^ numberLength
   few = let h = o .within in omega (arith, count-most H hash-long b (o .sendable))
 
-  -- a message that carries b's manifest and the number
-  module _ (m : List ℕ) (manifest : manifestBytes m ≡ written s) (number : updateNumber m ≡ suc i) where
+  -- a message that carries b's manifest, the number and the block
+  record Carries (m : List ℕ) : Type 0 where
+    manifest : manifestBytes m ≡ written s
+    number : updateNumber m ≡ suc i
+    block : updateBlock (length (blocks (b .image) i)) m ≡ blocks (b .image) i
+
+  module _ (m : List ℕ) (c : Carries m) where
     read : manifestIn m ≡ s
-    read = manifest-is H hash-long b (o .sendable) m manifest
+    read = manifest-is H hash-long b (o .sendable) m (c .manifest)
 
     size : newLength H valid d flash m ≡ length (blocks (b .image) i)
     unfolding manifestFor
-    size = rw (read, number) (sym (block-length H hash-long b (o .sendable) i (o .within)))
+    size = rw (read, c .number) (sym (block-length H hash-long b (o .sendable) i (o .within)))
 
     due : {k : Kind} {least : ℕ} {given : List ℕ} → kind m ≡ k → leastLength k ≤ length m → least ≤ length m → given ≡ signature → SuccessorDue H valid d flash m k least given
     unfolding short notComplete wrongVersion otherModel notNewer unlike tooSmall unsigned manifestFor countOf count
@@ -118,73 +123,82 @@ module _ (H : List ℕ → List ℕ) (hash-long : (x : List ℕ) → length (H x
           sense = sense;
           head = le-ltb (length m) (leastLength k) head;
           complete = rw (was .stage, notComplete);
-          version = rw read refl;
+          version = rw read;
           size = rw read (o .sendable .size);
           model = rw read (ap not (eq-eqb (b .model) (d .model) (o .model)));
           serial = rw (read, serial-old) (ap not (lt-ltb (a .serial) (b .serial) (o .newer)));
-          alike = rw (read, was .manifest, eq-eqb _ _ (o .cut), eq-eqb _ _ (o .long)) refl;
+          alike = rw (read, was .manifest, eq-eqb _ _ (o .cut), eq-eqb _ _ (o .long));
           area = rw read (le-ltb (length flash) _ (omega (arith, long-old, simp length-append at (ap length (was .image)))));
-          turn = rw (read, number) (outside-not n (suc i) (λ z. omega arith) (o .within));
+          turn = rw (read, c .number) (outside-not n (suc i) (λ z. omega arith) (o .within));
           long = le-ltb (length m) least enough;
-          signed = rw (manifest, signed, o .signed) refl;
+          signed = rw (c .manifest, signed, o .signed);
         }
 
-    module _ (block : updateBlock (length (blocks (b .image) i)) m ≡ blocks (b .image) i) where
-      after : updated (manifestIn m) flash m ≡ atStart w flash
-      unfolding updated manifestFor
-      after = rw (size, block, read, number) flash-new
+    after : updated (manifestIn m) flash m ≡ atStart w old
+    unfolding updated manifestFor
+    after = rw (size, c .block, read, c .number) flash-new
 
-      done : accept (kind m) d flash m ≡ acceptUpdate d flash m → refusalOf H valid d flash m ≡ none → Updated H b flash (step H valid d flash m)
-      unfolding acceptUpdate
-      done is unrefused =
-          rw (accepted-step H valid d flash m unrefused, is) (record { taken = refl; installed = record { stage = was .stage; manifest = read; image = after } })
+    done : accept (kind m) d flash m ≡ acceptUpdate d flash m → refusalOf H valid d flash m ≡ none → Updated H b old (step H valid d flash m)
+    unfolding acceptUpdate
+    done is unrefused = rw (accepted-step H valid d flash m unrefused, is) (record { taken = refl; installed = record { stage = was .stage; manifest = read; image = after } })
 
-  by-update : Updated H b flash (step H valid d flash (updateFor H b (suc i) signature))
-  unfolding accept leastUpdate updateFor
-  by-update = go (updateFor H b (suc i) signature) (of-update s (root-long H hash-long b (o .sendable)) signature (suc i) (blocks (b .image) i) few)
-    where
-      go : (m : List ℕ) → OfUpdate s (suc i) (blocks (b .image) i) signature m → Updated H b flash (step H valid d flash m)
-      go m r =
-          let z = size m (r .manifest) (r .number) in
-          done m (r .manifest) (r .number) (r .blocks) (rw (r .is) refl)
-          (update-unrefused H valid d flash m (due m (r .manifest) (r .number) (r .is) (omega (arith, r .size)) (omega (arith, r .size)) (rw z (r .signed)))
-          (rw (after m (r .manifest) (r .number) (r .blocks), read m (r .manifest) (r .number)) tree-new))
+  -- kind 3
+  abbrev update : List ℕ
+  update = updateFor H b (suc i) signature
 
-  by-path : Updated H b flash (step H valid d flash (pathFor H b (suc i) signature))
-  unfolding accept leastUpdate leastPath countOf count manifestFor rootOf pathFor
+  is-update : OfUpdate s (suc i) (blocks (b .image) i) signature update
+  unfolding updateFor
+  is-update = of-update s (root-long H hash-long b (o .sendable)) signature (suc i) (blocks (b .image) i) few
+
+  by-update : Updated H b old (step H valid d flash update)
+  unfolding accept leastUpdate
+  by-update =
+      let r = is-update in
+      let c : Carries update = record { manifest = r .manifest; number = r .number; block = r .blocks } in
+      let z = size update c in
+      done update c (rw (r .is))
+      (update-unrefused H valid d flash update (due update c (r .is) (omega (arith, r .size)) (omega (arith, r .size)) (rw z (r .signed)))
+      (rw (after update c, read update c) tree-new))
+
+  -- kind 4
+  abbrev path : List ℕ
+  path = pathFor H b (suc i) signature
+
+  is-path : OfPath s (suc i) (blocks (b .image) i) (sentPath (plain H) n (blocks (b .image)) i) signature (leafDepth n i) path
+  unfolding pathFor
+  is-path =
+      of-path s (root-long H hash-long b (o .sendable)) signature (suc i) (blocks (b .image) i) (sentPath (plain H) n (blocks (b .image)) i) (leafDepth n i)
+      (length-sent-path (plain H) hash-long n (blocks (b .image)) i) few
+
+  carried : Carries path
+  carried = let r = is-path in record { manifest = r .manifest; number = r .number; block = r .blocks }
+
+  depth : newDepth H valid d flash path ≡ leafDepth n i
+  unfolding countOf count manifestFor
+  depth = rw (read path carried, is-path .number)
+
+  -- what the message's siblings lead to
+  led : (g : ℕ → List ℕ) → ((j : ℕ) → j < n → j ≢ i → blocks (b .image) j ≡ g j) → ledTo H valid d flash path (g i) ≡ rootOver (plain H) g n
+  unfolding countOf count manifestFor
+  led g other = rw (depth, size path carried, is-path .path, read path carried, is-path .number) (sent-leads (plain H) hash-long n (blocks (b .image)) g i (o .within) other)
+
+  by-path : Updated H b old (step H valid d flash path)
+  unfolding accept leastUpdate leastPath countOf manifestFor rootOf
   by-path =
-      go (pathFor H b (suc i) signature)
-      (of-path s (root-long H hash-long b (o .sendable)) signature (suc i) (blocks (b .image) i) (sentPath (plain H) n (blocks (b .image)) i) (leafDepth n i) (length-sent-path (plain H) hash-long n (blocks (b .image)) i) few)
-    where
-      go : (m : List ℕ) → OfPath s (suc i) (blocks (b .image) i) (sentPath (plain H) n (blocks (b .image)) i) signature (leafDepth n i) m → Updated H b flash (step H valid d flash m)
-      go m r =
-          done m (r .manifest) (r .number) (r .blocks) (rw (r .is) refl)
-          (path-unrefused H valid d flash m (due m (r .manifest) (r .number) (r .is) (omega (arith, r .size)) (omega (arith, r .size, z, depth)) (rw (z, depth) (r .signed)))
-          (ap (ledTo H valid d flash m) old ∙ led (blocks (a .image)) (o .others) ∙ sym root-old)
-          (ap (ledTo H valid d flash m) (rw z (r .blocks)) ∙ led (blocks (b .image)) (λ j h n. refl) ∙ new))
-        where
-          z : newLength H valid d flash m ≡ length (blocks (b .image) i)
-          z = size m (r .manifest) (r .number)
-
-          is : manifestIn m ≡ s
-          is = read m (r .manifest) (r .number)
-
-          depth : newDepth H valid d flash m ≡ leafDepth n i
-          depth = rw (is, r .number) refl
-
-          led : (g : ℕ → List ℕ) → ((j : ℕ) → j < n → j ≢ i → blocks (b .image) j ≡ g j) → ledTo H valid d flash m (g i) ≡ rootOver (plain H) g n
-          led g other = rw (depth, z, r .path, is, r .number) (sent-leads (plain H) hash-long n (blocks (b .image)) g i (o .within) other)
-
-          old : blocksOf (manifestIn m) flash (pred (updateNumber m)) ≡ blocks (a .image) i
-          old = rw (is, r .number) block-old
-
-          new : rootOver (plain H) (blocks (b .image)) n ≡ manifestIn m .root
-          new = rw is refl
+      let r = is-path in
+      let z = size path carried in
+      let is = read path carried in
+      let here : blocksOf (manifestIn path) flash (pred (updateNumber path)) ≡ blocks (a .image) i = rw (is, r .number) block-old in
+      let new : updateBlock (newLength H valid d flash path) path ≡ blocks (b .image) i = rw z (r .blocks) in
+      done path carried (rw (r .is))
+      (path-unrefused H valid d flash path (due path carried (r .is) (omega (arith, r .size)) (omega (arith, r .size, depth)) (rw (z, depth) (r .signed)))
+      (rw here (led (blocks (a .image)) (o .others) ∙ sym root-old))
+      (rw new (led (blocks (b .image)) (λ j h apart. refl) ∙ ap (λ x. x .root) (sym is))))
 
 -- for any hash function of 32 bytes and any verdict on signatures
 pub updates-for : (H : List ℕ → List ℕ) → ((x : List ℕ) → length (H x) ≡ hashLength) → (valid : (key message signature : List ℕ) → Bool) → Updates H valid
-updates-for H hash-long valid d flash a b i signature was o =
-    (by-update H hash-long valid d flash a b i signature was o, by-path H hash-long valid d flash a b i signature was o)
+updates-for H hash-long valid d flash old a b i signature was o =
+    (by-update H hash-long valid d flash old a b i signature was o, by-path H hash-long valid d flash old a b i signature was o)
 
 -- with SHA-256 and the verdict of RFC 8554
 pub updates : Updates digest lms.valid

@@ -17,13 +17,13 @@ use Rattle.machine.specs.Step.{step}
 use Rattle.guarantee.specs.Demand3.{Sendable}
 
 module _ (H : List ℕ → List ℕ) where
-  -- The device is complete with the job's manifest, and the flash is the job's image, filled, and behind it what an old flash has there.
+  -- The device is complete with the job's manifest, and the flash is the job's image, filled, and behind it what `old` has there: an earlier flash, or this one.
   pub record Installed (job : Job) (old : List ℕ) (d : Device) (flash : List ℕ) : Type 0 where
     pub stage : d .stage ≡ Complete
     pub manifest : d .manifest ≡ manifestFor H job
     pub image : flash ≡ atStart (filled (job .image .«block_len») (job .image .bytes)) old
 
-  -- It accepted a message, and now has the job's image; behind it the flash is the old one.
+  -- It accepted a message, and then is so.
   pub record Updated (job : Job) (old : List ℕ) (o : Outcome) : Type 0 where
     pub taken : o .answer ≡ Accepted
     pub installed : Installed job old (o .device) (o .flash)
@@ -41,8 +41,8 @@ module _ (H : List ℕ → List ℕ) (valid : (key message signature : List ℕ)
     pub newer : a .serial < b .serial
     pub signed : valid (d .key) (written (manifestFor H b)) signature ≡ true
 
-  -- the sender's message of kind 3, and that of kind 4
+  -- Then it takes the sender's message of kind 3, and that of kind 4: it has b's image, and behind that the flash is as it was.
   abbrev pub Updates : Type 0
   Updates =
-      (d : Device) (flash : List ℕ) (a b : Job) (i : ℕ) (signature : List ℕ) → Installed H a flash d flash → UpdateOffered d a b i signature
-      → Updated H b flash (step H valid d flash (updateFor H b (suc i) signature)) × Updated H b flash (step H valid d flash (pathFor H b (suc i) signature))
+      (d : Device) (flash old : List ℕ) (a b : Job) (i : ℕ) (signature : List ℕ) → Installed H a old d flash → UpdateOffered d a b i signature
+      → Updated H b old (step H valid d flash (updateFor H b (suc i) signature)) × Updated H b old (step H valid d flash (pathFor H b (suc i) signature))

@@ -134,17 +134,20 @@ module _ (s : Manifest) (w old : List ℕ) (whole : length w ≡ programLength s
   start-tree H pos = hash-same (plain H) {o = 0} {u = 0} (shape (countOf s)) (record { block = λ j h. start-blocks (0 + j) (omega (arith, size-shape (countOf s) pos)) })
 
 -- where it begins with v, and w differs from v in one block at most, with that block written it begins with w
-pub one-changed : (s : Manifest) (v w flash : List ℕ) (i : ℕ) → i < countOf s → length v ≡ programLength s → length w ≡ programLength s → flash ≡ atStart v flash
-    → ((j : ℕ) → j < countOf s → j ≢ i → blocksOf s v j ≡ blocksOf s w j) → withBlock (s .«block_len») flash (suc i) (blocksOf s w i) ≡ atStart w flash
+pub one-changed : (s : Manifest) (v w flash old : List ℕ) (i : ℕ) → i < countOf s → length v ≡ programLength s → length w ≡ programLength s → flash ≡ atStart v old
+    → ((j : ℕ) → j < countOf s → j ≢ i → blocksOf s v j ≡ blocksOf s w j) → withBlock (s .«block_len») flash (suc i) (blocksOf s w i) ≡ atStart w old
 unfolding programLength countOf blocksOf
-one-changed s v w flash i below lv lw e other =
-    let room : programLength s ≤ length flash = omega (arith, simp length-append at (ap length e)) in
+one-changed s v w flash old i below lv lw e other =
+    let L = s .«block_len» in
+    let all = programLength s in
+    let room : all ≤ length flash = omega (arith, simp length-append at (ap length e)) in
     let x = blocksOf s w i in
     let size = length-in s i w below (omega arith) in
-    let after = withBlock (s .«block_len») flash (suc i) x in
+    let after = withBlock L flash (suc i) x in
     let same : (j : ℕ) → j < countOf s → blocksOf s after j ≡ blocksOf s w j =
     λ j h.
     with-blocks s i flash below room x size j
-    ∙ overlay-is (blocksOf s flash) (blocksOf s w) i j (λ n. ap (λ y. blocksOf s y j) e ∙ start-blocks s v flash lv j h ∙ other j h n) in
-    let front : take (programLength s) after ≡ w = blocks-equal (s .«block_len») after w (countOf s) same ∙ take-all (programLength s) w (omega arith) in
-    sym (take-append-drop (programLength s) after) ∙ ap₂ {C = List ℕ} (λ y z. y ++ z) front (with-behind s i flash below room x size ∙ ap (λ k. drop k flash) (sym lw))
+    ∙ overlay-is (blocksOf s flash) (blocksOf s w) i j (λ n. ap (λ y. blocksOf s y j) e ∙ start-blocks s v old lv j h ∙ other j h n) in
+    sym (take-append-drop all after)
+    ∙ ap₂ {C = List ℕ} (λ y z. y ++ z) (blocks-equal L after w (countOf s) same ∙ take-all all w (omega arith))
+    (with-behind s i flash below room x size ∙ ap (drop all) e ∙ drop-at v (drop (length v) old) all lv ∙ ap (λ k. drop k old) (lv ∙ sym lw))
