@@ -10,6 +10,7 @@ pub mod HonestLaws
 pub mod SecondHalf
 pub mod Demand3Holds
 pub mod RecoveryHolds
+pub mod UpdatesHold
 pub mod PowerLossHolds
 pub mod Toy
 pub mod WrongCalls

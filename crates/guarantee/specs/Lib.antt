@@ -1,5 +1,6 @@
 pub mod Run
 pub mod Demand3
 pub mod Recovery
+pub mod Updates
 pub mod PowerLoss
 pub mod Claims

@@ -1,14 +1,15 @@
 -- What is known of a message that no refusal applies to, and how to show that none does.
-use mathlib.Core.Path.{_≡_, refl, sym, _∙_, subst}
-use mathlib.Core.Bool.{Bool, true, false, _||_, cond, true≢false}
+use mathlib.Core.Path.{_≡_, refl, sym, ap, _∙_, subst}
+use mathlib.Core.Bool.{Bool, true, false, not, _||_, cond, true≢false}
 use mathlib.Core.List.{List, [], _∷_, _++_}
 use mathlib.Core.Option.{Option, none, some}
 use Prim.Native.Nat.{ℕ, pred, _≤_, _<_}
 use native.Mathlib.Omega.{arith}
-use lib.Dec.{eqb}
+use lib.Dec.{eqb, ltb}
 use lib.ListN.{length}
 use borrow.Author.Tests.{eqb-true, ltb-false, not-false}
-use Rattle.octets.proofs.EqualLaws.{equal-true}
+use Rattle.octets.specs.Octets.{equal}
+use Rattle.octets.proofs.EqualLaws.{equal-self, equal-true}
 use Rattle.merkle.specs.Shape.{shape}
 use Rattle.merkle.specs.Hash.{plain}
 use Rattle.merkle.specs.Path.{leafDepth, pathHash}
@@ -18,7 +19,7 @@ use Rattle.wire.specs.declared.kind.Kind.the-variants.{Program, Block, Update, 
 use Rattle.wire.specs.declared.refusal.Refusal.{Refusal}
 use Rattle.wire.specs.declared.refusal.Refusal.the-variants as refusal
 use Rattle.wire.specs.Refusal.{refusalNumber, firstThatApplies}
-use Rattle.wire.specs.Size.{wrongSize}
+use Rattle.wire.specs.Size.{wrongSize, outside}
 use Rattle.wire.specs.Geometry.{countOf, blockLength, programLength, blocksOf, treeOver}
 use Rattle.wire.specs.Message.{kind, leastLength, short, manifestBytes, manifestIn, programSignature, updateNumber, updateBlock, updateSignature, pathIn, pathSignature, dueLength, leastUpdate, leastPath}
 use Rattle.wire.proofs.SizeLaws.{Sized, sized, or-false, inside}
@@ -90,6 +91,9 @@ in-piece (f ∷ fs) rest {r} a = go (f .1) refl (in-piece fs rest)
     go : (t : Bool) → f .1 ≡ t → (firstThatApplies fs ≡ some r → firstThatApplies (fs ++ rest) ≡ some r) → firstThatApplies (f ∷ (fs ++ rest)) ≡ some r
     go true q ih = rw (q, firstThatApplies) (rw (q, firstThatApplies) at a)
     go false q ih = rw (q, firstThatApplies) (ih (rw (q, firstThatApplies) at a))
+
+not-unequal : {s t : List ℕ} → s ≡ t → not (equal s t) ≡ false
+not-unequal {s} {t} e = rw e (ap not (equal-self t))
 
 -- A device that makes sense and is loading, at block i.
 pub record Awaits (d : Device) (i : ℕ) : Type 0 where
@@ -187,6 +191,22 @@ module _ (H : List ℕ → List ℕ) (valid : (key message signature : List ℕ)
     pub turn : notNext (nextOf (d .stage)) m ≡ false
     pub size : wrongLength (d .manifest) (nextOf (d .stage)) m ≡ false
     pub same : mismatch H d (nextOf (d .stage)) m ≡ false
+
+  -- an update of either kind, with its least length and its signature: no test applies up to that of the signature
+  pub record SuccessorDue (k : Kind) (least : ℕ) (signature : List ℕ) : Type 0 where
+    pub is : kind m ≡ k
+    pub sense : senseless d ≡ false
+    pub head : short k m ≡ false
+    pub complete : notComplete (d .stage) ≡ false
+    pub version : wrongVersion (manifestIn m) ≡ false
+    pub size : wrongSize (manifestIn m .«block_len») (manifestIn m .«image_len») ≡ false
+    pub model : otherModel d (manifestIn m) ≡ false
+    pub serial : notNewer d (manifestIn m) ≡ false
+    pub alike : unlike (manifestIn m) (d .manifest) ≡ false
+    pub area : tooSmall (manifestIn m) flash ≡ false
+    pub turn : outside (countOf (manifestIn m)) (updateNumber m) ≡ false
+    pub long : ltb (length m) least ≡ false
+    pub signed : unsigned valid d (manifestBytes m) signature ≡ false
 
   -- refusal r does not apply
   without : (r : Refusal) (k : Kind) → kind m ≡ k → refusalOf H valid d flash m ≡ none → testOf r (refusals H valid k d flash m) ≡ false
@@ -294,3 +314,37 @@ module _ (H : List ℕ → List ℕ) (valid : (key message signature : List ℕ)
   due-unrefused w =
       subst (λ k. firstThatApplies (refusals H valid k d flash m) ≡ none) (sym (w .is))
       ((start (refusals H valid Block d flash m) past w .sense past refl past w .head past w .loading past w .area past w .turn past w .size past w .same) .same)
+
+  -- what updates of both kinds meet first is past
+  successor-past : {k : Kind} {least : ℕ} {signature : List ℕ} → SuccessorDue k least signature → noKind k ≡ false → (rest : List (Refusal × Bool))
+      → Passes (always k d m ++ (ofSuccessor d flash (manifestIn m) (updateNumber m) ++ ((refusal.Length, ltb (length m) least) ∷ (refusal.Unsigned, unsigned valid d (manifestBytes m) signature) ∷ rest))) rest
+  unfolding always ofManifest ofSuccessor
+  successor-past w known rest =
+      start _
+      past w .sense
+      past known
+      past w .head
+      past w .complete
+      past w .version
+      past w .size
+      past w .model
+      past w .serial
+      past w .alike
+      past w .area
+      past w .turn
+      past w .long
+      past w .signed
+
+  pub update-unrefused : SuccessorDue Update (leastUpdate (manifestIn m .«block_len») (manifestIn m .«image_len») (updateNumber m)) (updateSignature newLength m)
+      → treeOver H (manifestIn m) (updated (manifestIn m) flash m) ≡ manifestIn m .root → refusalOf H valid d flash m ≡ none
+  unfolding refusalOf refusals ofKind ofUpdate noKind lacksRoot firstThatApplies
+  update-unrefused w rooted =
+      subst (λ k. firstThatApplies (refusals H valid k d flash m) ≡ none) (sym (w .is)) ((successor-past w refl _ past not-unequal rooted) .same)
+
+  pub path-unrefused : SuccessorDue PathUpdate (leastPath (manifestIn m .«block_len») (manifestIn m .«image_len») (updateNumber m)) (pathSignature newLength newDepth m)
+      → ledTo (blocksOf (manifestIn m) flash (pred (updateNumber m))) ≡ d .manifest .root → ledTo (updateBlock newLength m) ≡ manifestIn m .root
+      → refusalOf H valid d flash m ≡ none
+  unfolding refusalOf refusals ofKind ofPathUpdate noKind strays firstThatApplies
+  path-unrefused w old new =
+      subst (λ k. firstThatApplies (refusals H valid k d flash m) ≡ none) (sym (w .is))
+      ((successor-past w refl _ past not-unequal old past not-unequal new) .same)

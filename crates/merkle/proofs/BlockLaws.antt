@@ -1,13 +1,15 @@
 -- Blocks of a run of bytes: writing one changes that one alone, and equal blocks are equal bytes.
 use mathlib.Core.Path.{_≡_, refl, sym, ap, ap₂, _∙_}
 use mathlib.Core.Logic.{_⊎_, inl, inr, _≢_}
+use mathlib.Core.Bool.{Bool, true, false, cond}
 use mathlib.Core.List.{List, _++_, append-assoc, append-nil}
 use Prim.Native.Nat.{ℕ, zero, suc, _+_, _-_, _*_, _/_, _%_, min, _≤_, _<_}
 use native.Mathlib.Nat.{mul-le-mul-right, div-add-mod', mod-lt}
 use native.Mathlib.Omega.{arith}
+use lib.Dec.{eqb}
 use lib.ListN.{length, take, drop, length-take, length-drop, take-append-drop, drop-of-length-le}
 use lib.Seq.{paste, take-add, take-all, take-at, drop-drop, take-append-le, drop-append-le, drop-append-add, length-take-le, length-paste, length-paste-head}
-use borrow.Author.Tests.{eq-eqb, ne-eqb}
+use borrow.Author.Tests.{eqb-true, eqb-false, eq-eqb, ne-eqb}
 use Rattle.merkle.specs.Blocks.{blockCount, cut, overlay}
 use Rattle.merkle.specs.Claims.{Rounded, CountRounded}
 use Rattle.octets.proofs.CopyLaws.{paste-from}
@@ -31,6 +33,20 @@ module _ (f : ℕ → List ℕ) (at : ℕ) (b : List ℕ) where
   pub overlay-other : (j : ℕ) → j ≢ at → overlay f at b j ≡ f j
   unfolding overlay
   overlay-other j n = rw (ne-eqb j at n, overlay)
+
+-- Blocks that agree with g's but for one are g's with that one replaced by g's own.
+pub overlay-is : (f g : ℕ → List ℕ) (at : ℕ) (j : ℕ) → (j ≢ at → f j ≡ g j) → overlay f at (g at) j ≡ g j
+unfolding overlay
+overlay-is f g at j other = go (eqb j at) refl
+  where
+    go : (t : Bool) → eqb j at ≡ t → cond t (g at) (f j) ≡ g j
+    go true e = ap g (sym (eqb-true j at e))
+    go false e = other (eqb-false j at e)
+
+-- A block within the front of a run of bytes.
+pub cut-front : (L : ℕ) (u v : List ℕ) (j : ℕ) → j * L + L ≤ length u → cut L (u ++ v) j ≡ cut L u j
+unfolding cut
+cut-front L u v j h = rw (drop-append-le (j * L) u v (omega arith)) (take-append-le L (drop (j * L) u) v (rw (length-drop (j * L) u) (omega arith)))
 
 -- The first n + 1 blocks are the first n and one more.
 pub take-blocks : (L : ℕ) (a : List ℕ) (n : ℕ) → take (suc n * L) a ≡ take (n * L) a ++ cut L a n
@@ -67,19 +83,14 @@ module _ (L : ℕ) (a x : List ℕ) (i : ℕ) (room : i * L ≤ length a) (long 
       go (inl w) = rw (drop-of-length-le a {i = i * L + length x} (omega (arith, size-x)), append-nil x) (take-all L x (omega arith))
       go (inr w) = take-at x (drop (i * L + length x) a) L (omega (arith, size-x))
 
-  -- a block within the front, or past it
-  front : (u v : List ℕ) (j : ℕ) → j * L + L ≤ length u → cut L (u ++ v) j ≡ cut L u j
-  unfolding cut
-  front u v j h = rw (drop-append-le (j * L) u v (omega arith)) (take-append-le L (drop (j * L) u) v (rw (length-drop (j * L) u) (omega arith)))
-
   written-before : (j : ℕ) → j < i → cut L after j ≡ cut L a j
   unfolding after
   written-before j lt =
       let m : suc j * L ≤ i * L = mul-le-mul-right L lt in
       let lp : length (take (i * L) a) ≡ i * L = length-take-le (i * L) a room in
       ap (λ y. cut L y j) (append-assoc (take (i * L) a) (take (length x) x) (drop (i * L + length x) a))
-      ∙ front (take (i * L) a) (take (length x) x ++ drop (i * L + length x) a) j (omega arith)
-      ∙ sym (front (take (i * L) a) (drop (i * L) a) j (omega arith)) ∙ ap (λ y. cut L y j) (take-append-drop (i * L) a)
+      ∙ cut-front L (take (i * L) a) (take (length x) x ++ drop (i * L + length x) a) j (omega arith)
+      ∙ sym (cut-front L (take (i * L) a) (drop (i * L) a) j (omega arith)) ∙ ap (λ y. cut L y j) (take-append-drop (i * L) a)
 
   written-after : (j : ℕ) → i < j → cut L after j ≡ cut L a j
   unfolding cut after

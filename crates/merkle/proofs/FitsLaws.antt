@@ -42,6 +42,10 @@ module _ (H : Hashing) where
     sized-hashes f [] = none
     sized-hashes f (x ∷ ps) = more (length-hash H sized f (x .0) (x .1)) (sized-hashes f ps)
 
+    -- Their bytes, one behind the other, give the hashes back.
+    pub hashes-back : (f : ℕ → List ℕ) (ps : List Place) → hashesIn (length ps) (joined (hashes H f ps)) ≡ hashes H f ps
+    hashes-back f ps = ap (λ c. hashesIn c (joined (hashes H f ps))) (sym (length-hashes H f ps)) ∙ hashesIn-joined (sized-hashes f ps)
+
     pub length-sent : (n : ℕ) (f : ℕ → List ℕ) (i : ℕ) → length (sent H n f i) ≡ hashLength * carriedCount n (suc i)
     unfolding sent carriedCount
     length-sent n f i =
@@ -49,9 +53,7 @@ module _ (H : Hashing) where
 
     hashesIn-sent : (n : ℕ) (f : ℕ → List ℕ) (i : ℕ) → hashesIn (carriedCount n (suc i)) (sent H n f i) ≡ hashes H f (siblings 0 (shape n) i)
     unfolding sent carriedCount
-    hashesIn-sent n f i =
-        ap (λ c. hashesIn c (joined (hashes H f (siblings 0 (shape n) i)))) (sym (length-hashes H f (siblings 0 (shape n) i)))
-        ∙ hashesIn-joined (sized-hashes f (siblings 0 (shape n) i))
+    hashesIn-sent n f i = hashes-back f (siblings 0 (shape n) i)
 
     -- The image's hashes at the frontier are held.
     abbrev pub Holds : ℕ → (ℕ → List ℕ) → ℕ → List ℕ → Type 0

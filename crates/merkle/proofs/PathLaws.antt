@@ -13,7 +13,7 @@ use Rattle.merkle.specs.Shape.{Shape, leaf, node, size, Place}
 use Rattle.merkle.specs.Hash.{Hashing, leafHash, hash, hashes, input}
 use Rattle.merkle.specs.Path.{pathSiblings, way, besideInput, ascend, ascendInputs, pathHash, pathInputs}
 use Rattle.merkle.proofs.ShapeLaws.{lt-or-le, size-node}
-use Rattle.merkle.proofs.BlockLaws.{overlay-same, overlay-other}
+use Rattle.merkle.proofs.BlockLaws.{overlay-same, overlay-other, overlay-is}
 use Rattle.merkle.proofs.HashLaws.{length-hashes, hashes-last, hash-input, hash-same}
 
 -- The half of a node that has a block, and the other half beside it.
@@ -155,3 +155,9 @@ module _ (H : Hashing) where
       let z : 0 + at ≡ at = omega arith in
       hash-path (overlay f at b) 0 s at h
       ∙ ap₂ (pathHash H 0 s at) (ap (overlay f at b) z ∙ overlay-same f at b) (siblings-other (overlay f at b) f at (overlay-other f at b) 0 s at h z)
+
+  -- A block's siblings lead to the root of every tree that differs in that block at most.
+  pub path-other : (f g : ℕ → List ℕ) (s : Shape) (i : ℕ) → i < size s → ((j : ℕ) → j < size s → j ≢ i → f j ≡ g j)
+      → pathHash H 0 s i (g i) (hashes H f (pathSiblings 0 s i)) ≡ hash H g 0 s
+  path-other f g s i h other =
+      sym (hash-replaced f s i (g i) h) ∙ hash-same H {o = 0} {u = 0} s (record { block = λ j k. let z : 0 + j ≡ j = omega arith in rw z (overlay-is f g i j (other j k)) })

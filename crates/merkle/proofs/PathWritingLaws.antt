@@ -1,5 +1,6 @@
 -- A block's siblings written from the highest down, on the way from the whole tree to the block.
 use mathlib.Core.Path.{_≡_, refl, sym, ap, ap₂, subst, _∙_}
+use mathlib.Core.Logic.{_≢_}
 use mathlib.Core.Bool.{Bool, true, false, cond}
 use mathlib.Core.List.{List, [], _∷_, _++_}
 use Prim.Native.Nat.{ℕ, suc, _+_, _-_, _*_, _≤_, _<_}
@@ -10,12 +11,14 @@ use lib.Seq.{paste}
 use Rattle.octets.specs.Octets.{joined}
 use Rattle.merkle.specs.Limits.{hashLength}
 use Rattle.merkle.specs.Shape.{Shape, leaf, node, size, split, shape, Place}
-use Rattle.merkle.specs.Hash.{Hashing, hash, hashes}
-use Rattle.merkle.specs.Path.{pathSiblings, leafDepth, sentPath}
-use Rattle.merkle.proofs.ShapeLaws.{split-between}
+use Rattle.merkle.specs.Hash.{Hashing, hash, hashes, rootOver}
+use Rattle.merkle.specs.Path.{pathSiblings, leafDepth, sentPath, pathHash}
+use Rattle.merkle.specs.Held.{hashesIn}
+use Rattle.merkle.proofs.ShapeLaws.{size-shape, split-between}
 use Rattle.merkle.proofs.HashLaws.{Same, same-left, same-right, hash-same, length-hash, length-hashes, hashes-last}
 use Rattle.merkle.proofs.HeldLaws.{length-joined}
-use Rattle.merkle.proofs.FitsLaws.{sized-hashes}
+use Rattle.merkle.proofs.FitsLaws.{sized-hashes, hashes-back}
+use Rattle.merkle.proofs.PathLaws.{path-other}
 use Rattle.merkle.proofs.WayLaws.{depth-some, depth-left, depth-right, siblings-left, siblings-right, siblings-none, depth-at}
 use Rattle.merkle.proofs.WritingLaws.{Filling, filling-none, filling-room, filling-one, filling-all}
 
@@ -130,3 +133,11 @@ module _ (H : Hashing) where
   unfolding sentPath
   length-sent-path sized n f i =
       length-joined (sized-hashes H sized f (pathSiblings 0 (shape n) i)) ∙ ap (λ c. hashLength * c) (length-hashes H f (pathSiblings 0 (shape n) i) ∙ depth-at 0 n i)
+
+  -- It is read back, and leads to the root of every tree that differs in that block at most.
+  pub sent-leads : ((x : List ℕ) → length (H .function x) ≡ hashLength) → (n : ℕ) (f g : ℕ → List ℕ) (i : ℕ) → i < n → ((j : ℕ) → j < n → j ≢ i → f j ≡ g j)
+      → pathHash H 0 (shape n) i (g i) (hashesIn (leafDepth n i) (sentPath H n f i)) ≡ rootOver H g n
+  unfolding sentPath leafDepth
+  sent-leads sized n f g i h other =
+      let z = size-shape n (omega arith) in
+      ap (pathHash H 0 (shape n) i (g i)) (hashes-back H sized f (pathSiblings 0 (shape n) i)) ∙ path-other H f g (shape n) i (rw z h) (λ j k. other j (rw z at k))

@@ -1,6 +1,5 @@
 -- The blocks that the sender takes from the image and its filled last block.
 use mathlib.Core.Path.{_≡_, sym, ap, ap₂, subst, _∙_}
-use mathlib.Core.Logic.{_⊎_, inl, inr}
 use mathlib.Core.Bool.{Bool, false}
 use mathlib.Core.List.{List, _++_, append-assoc}
 use Prim.Native.Nat.{ℕ, suc, _+_, _-_, _*_, _≤_, _<_}
@@ -17,11 +16,11 @@ use Rattle.merkle.specs.Hash.{plain, rootOver}
 use Rattle.merkle.specs.Frontier.{carriedCount}
 use Rattle.merkle.specs.Path.{sentPath}
 use Rattle.merkle.specs.Held.{sent}
-use Rattle.merkle.proofs.ShapeLaws.{lt-or-le, size-shape}
+use Rattle.merkle.proofs.ShapeLaws.{size-shape}
 use Rattle.merkle.proofs.HashLaws.{Same, hash-same}
 use Rattle.merkle.proofs.FitsLaws.{sent-same}
 use Rattle.merkle.proofs.PathWritingLaws.{sent-path-same}
-use Rattle.merkle.proofs.BlockLaws.{overlay-same, overlay-other}
+use Rattle.merkle.proofs.BlockLaws.{overlay-is}
 use Rattle.wire.specs.declared.kind.Kind.the-variants.{Block}
 use Rattle.wire.specs.Size.{wrongSize, outside}
 use Rattle.wire.specs.Geometry.{blockLength}
@@ -74,15 +73,14 @@ module _ (L : ℕ) (image : List ℕ) (n : ℕ) (z : Sized L (length image)) (c 
 
   -- with the filled last block in its place, the image's blocks are the filled image's
   pub same-blocks : (b : List ℕ) → b ≡ imageBlocks L image (n - 1) → Same (overlay (cut L image) (n - 1) b) 0 (imageBlocks L image) 0 (shape n)
-  same-blocks b e = record { block = λ j h. go j (rw (size-shape n (bounds .0)) at h) (lt-or-le j (n - 1)) }
-    where
-      go : (j : ℕ) → j < n → (j < n - 1) ⊎ (n - 1 ≤ j) → overlay (cut L image) (n - 1) b (0 + j) ≡ imageBlocks L image (0 + j)
-      go j h (inl l) =
-          let z0 : 0 + j ≡ j = omega arith in
-          rw z0 (overlay-other (cut L image) (n - 1) b j (λ q. absurd (omega arith)) ∙ sym (block-early L image z j (omega arith)))
-      go j h (inr l) =
-          let z0 : 0 + j ≡ n - 1 = omega arith in
-          rw z0 (overlay-same (cut L image) (n - 1) b ∙ e)
+  same-blocks b e =
+      record {
+        block = λ j h.
+            let z0 : 0 + j ≡ j = omega arith in
+            rw (z0, e)
+            (overlay-is (cut L image) (imageBlocks L image) (n - 1) j
+            (λ q. sym (block-early L image z j (omega (arith, size-shape n (bounds .0))))));
+      }
 
   module _ (H : List ℕ → List ℕ) (b : List ℕ) (e : b ≡ imageBlocks L image (n - 1)) where
     pub same-root : rootOver (plain H) (overlay (cut L image) (n - 1) b) n ≡ rootOver (plain H) (imageBlocks L image) n

@@ -1,18 +1,24 @@
 -- A program's blocks in the flash: where they end, and a block written to its place.
 use mathlib.Core.Path.{_≡_, refl, sym, ap, ap₂, _∙_}
+use mathlib.Core.Logic.{_≢_}
 use mathlib.Core.Bool.{false}
 use mathlib.Core.List.{List, _++_}
 use Prim.Native.Nat.{ℕ, suc, _+_, _-_, _*_, _≤_, _<_}
 use native.Mathlib.Nat.{le-refl, mul-le-mul, mul-le-mul-right}
 use native.Mathlib.Omega.{arith}
-use lib.ListN.{length, take, drop, length-drop, length-append}
-use lib.Seq.{paste, length-paste, drop-paste, length-take-le, take-at, drop-at, take-length, drop-drop}
+use lib.ListN.{length, take, drop, length-drop, length-append, take-append-drop}
+use lib.Seq.{paste, length-paste, drop-paste, length-take-le, take-all, take-at, drop-at, take-length, drop-drop}
 use Rattle.merkle.specs.Limits.{maxBlocks}
 use Rattle.merkle.specs.Blocks.{cut, overlay}
-use Rattle.merkle.proofs.BlockLaws.{overlay-same, overlay-other, take-blocks, written}
+use Rattle.merkle.specs.Shape.{shape}
+use Rattle.merkle.specs.Hash.{plain}
+use Rattle.merkle.proofs.ShapeLaws.{size-shape}
+use Rattle.merkle.proofs.HashLaws.{hash-same}
+use Rattle.merkle.proofs.BlockLaws.{overlay-same, overlay-other, overlay-is, cut-front, take-blocks, blocks-equal, written}
 use Rattle.wire.specs.declared.manifest.Manifest.{Manifest}
 use Rattle.wire.specs.Size.{wrongSize}
-use Rattle.wire.specs.Geometry.{countOf, blockLength, blockStart, areaLength, programLength, blocksOf, withBlock}
+use Rattle.wire.specs.Geometry.{countOf, blockLength, blockStart, areaLength, programLength, blocksOf, withBlock, treeOver}
+use Rattle.wire.specs.Message.{atStart}
 use Rattle.wire.proofs.SizeLaws.{sized}
 
 -- no block is longer than L
@@ -116,3 +122,32 @@ more-blocks L j w old fits long =
     (ap (λ u. u ++ b) (take-at front (drop (j * L) old) (j * L) lf) ∙ sym (take-blocks L w j))
     (sym (drop-drop (length b) (j * L) all) ∙ ap (drop (length b)) (drop-at front (drop (j * L) old) (j * L) lf) ∙ drop-drop (length b) (j * L) old
     ∙ ap (λ k. drop k old) (sym e))
+
+-- a flash that begins with a program's bytes has their blocks and their tree
+module _ (s : Manifest) (w old : List ℕ) (whole : length w ≡ programLength s) where
+  pub start-blocks : (j : ℕ) → j < countOf s → blocksOf s (atStart w old) j ≡ blocksOf s w j
+  unfolding blocksOf blockLength
+  start-blocks j h = cut-front (s .«block_len») w (drop (length w) old) j (block-end s j w h (omega arith))
+
+  pub start-tree : (H : List ℕ → List ℕ) → 0 < countOf s → treeOver H s (atStart w old) ≡ treeOver H s w
+  unfolding treeOver
+  start-tree H pos = hash-same (plain H) {o = 0} {u = 0} (shape (countOf s)) (record { block = λ j h. start-blocks (0 + j) (omega (arith, size-shape (countOf s) pos)) })
+
+-- where it begins with v, and w differs from v in one block at most, with that block written it begins with w
+pub one-changed : (s : Manifest) (v w flash old : List ℕ) (i : ℕ) → i < countOf s → length v ≡ programLength s → length w ≡ programLength s → flash ≡ atStart v old
+    → ((j : ℕ) → j < countOf s → j ≢ i → blocksOf s v j ≡ blocksOf s w j) → withBlock (s .«block_len») flash (suc i) (blocksOf s w i) ≡ atStart w old
+unfolding programLength countOf blocksOf
+one-changed s v w flash old i below lv lw e other =
+    let L = s .«block_len» in
+    let all = programLength s in
+    let room : all ≤ length flash = omega (arith, simp length-append at (ap length e)) in
+    let x = blocksOf s w i in
+    let size = length-in s i w below (omega arith) in
+    let after = withBlock L flash (suc i) x in
+    let same : (j : ℕ) → j < countOf s → blocksOf s after j ≡ blocksOf s w j =
+    λ j h.
+    with-blocks s i flash below room x size j
+    ∙ overlay-is (blocksOf s flash) (blocksOf s w) i j (λ n. ap (λ y. blocksOf s y j) e ∙ start-blocks s v old lv j h ∙ other j h n) in
+    sym (take-append-drop all after)
+    ∙ ap₂ {C = List ℕ} (λ y z. y ++ z) (blocks-equal L after w (countOf s) same ∙ take-all all w (omega arith))
+    (with-behind s i flash below room x size ∙ ap (drop all) e ∙ drop-at v (drop (length v) old) all lv ∙ ap (λ k. drop k old) (lv ∙ sym lw))
