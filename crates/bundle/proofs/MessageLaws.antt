@@ -12,7 +12,7 @@ use Rattle.merkle.specs.Limits.{maxBlocks}
 use Rattle.merkle.specs.Blocks.{blockCount}
 use Rattle.lms.specs.Lms.{valid}
 use Rattle.wire.specs.declared.kind.Kind.{Kind}
-use Rattle.wire.specs.declared.kind.Kind.the-variants.{Program, Block, Update, Unknown}
+use Rattle.wire.specs.declared.kind.Kind.the-variants.{Program, Block, Update, PathUpdate, Unknown}
 use Rattle.wire.specs.declared.refusal.Refusal.{Refusal}
 use Rattle.wire.specs.Message.{kind}
 use Rattle.wire.specs.Size.{wrongSize}
@@ -24,7 +24,7 @@ use Rattle.machine.specs.Device.{Outcome}
 use Rattle.machine.specs.Refusals.{notLoading, notComplete}
 use Rattle.machine.specs.Step.{acceptProgram, accept, outcome, refusalOf, step}
 use Rattle.machine.specs.Readers.{numberOf}
-use Rattle.machine.proofs.RefusalLaws.{program-passed, block-passed, update-passed, unknown-refused}
+use Rattle.machine.proofs.RefusalLaws.{program-passed, block-passed, update-passed, path-passed, unknown-refused}
 use Rattle.bundle.specs.Text.{slipLine}
 use Rattle.bundle.specs.Parts.{trailerLength, nowhere, programIn, beforeProgram}
 use Rattle.bundle.specs.Load.{Printed, _before_, stop, ifAccepted, blocks, messages}
@@ -45,7 +45,8 @@ module _ (d : Device) (flash m : List ℕ) (idle : d .stage ≡ Idle) where
   unfolding accept acceptProgram notLoading notComplete
   by-kind Program e q = size-right _ _ (program-passed digest valid d flash m e q .size)
   by-kind Block e q = absurd (true≢false (rw (idle, notLoading) at (block-passed digest valid d flash m e q .loading)))
-  by-kind Update e q = absurd (true≢false (rw (idle, notComplete) at (update-passed digest valid d flash m e q .complete)))
+  by-kind Update e q = absurd (true≢false (rw (idle, notComplete) at (update-passed digest valid d flash m e q .successor .complete)))
+  by-kind PathUpdate e q = absurd (true≢false (rw (idle, notComplete) at (path-passed digest valid d flash m e q .successor .complete)))
   by-kind Unknown e q = absurd (unknown-refused digest valid d flash m e q)
 
   -- an idle device accepts a kind 1 message alone, and so a manifest of an allowed size

@@ -14,10 +14,10 @@ use Rattle.merkle.specs.Frontier.{carriedCount}
 use Rattle.merkle.proofs.HeldLaws.{length-begun, advance}
 use Rattle.lms.specs.Lms.{valid}
 use Rattle.wire.specs.declared.kind.Kind.{Kind}
-use Rattle.wire.specs.declared.kind.Kind.the-variants.{Program, Block, Update, Unknown}
+use Rattle.wire.specs.declared.kind.Kind.the-variants.{Program, Block, Update, PathUpdate, Unknown}
 use Rattle.wire.specs.declared.refusal.Refusal.{Refusal}
 use Rattle.wire.specs.Geometry.{countOf, blockLength}
-use Rattle.wire.specs.Message.{kind, manifestIn, hashesAfter, leastUpdate}
+use Rattle.wire.specs.Message.{kind, leastLength, manifestIn, hashesAfter, leastUpdate, leastPath}
 use Rattle.wire.proofs.SizeLaws.{sized}
 use Rattle.wire.proofs.MessageLaws.{manifest-fits, due}
 use Rattle.machine.specs.declared.state.Stage.the-variants.{Loading, Complete}
@@ -25,7 +25,7 @@ use Rattle.machine.specs.declared.state.Device.{Device}
 use Rattle.machine.specs.Device.{freshWith, nextOf, Situation}
 use Rattle.machine.specs.Step.{acceptProgram, stageAfter, acceptBlock, acceptUpdate, accept, outcome, refusalOf, step}
 use Rattle.guarantee.specs.Run.{Messages, empty, _▷_, after, answerTo}
-use Rattle.machine.proofs.RefusalLaws.{BlockPassed, program-passed, block-passed, update-passed}
+use Rattle.machine.proofs.RefusalLaws.{BlockPassed, program-passed, block-passed, update-passed, path-passed}
 use Rattle.capi.specs.State.{encode}
 use Rattle.capi.specs.Call.{Called, called, stateAfter, receive}
 use Rattle.capi.specs.Run.{Memory, left, callsAfter, returned, AllBytes}
@@ -60,16 +60,19 @@ module _ (d : Device) (flash m : List ℕ) (bytes : Bytes m) (f : Fits d) where
         hashes = advance n (pred i) (d .hashes) (hashesAfter k m) (omega arith) most (f .hashes) l .size;
       }
 
+  fits-update : leastLength Program ≤ length m → Fits (acceptUpdate d flash m .device)
+  unfolding acceptUpdate
+  fits-update long = record { model = f .model; key = f .key; next = f .next; manifest = manifest-fits m bytes long; hashes = f .hashes }
+
   fits-kept : (k : Kind) → kind m ≡ k → refusalOf digest valid d flash m ≡ none → Fits (accept k d flash m .device)
-  unfolding accept acceptProgram acceptUpdate nextOf leastUpdate
+  unfolding accept acceptProgram acceptUpdate nextOf leastUpdate leastPath
   fits-kept Program e a =
       let p = program-passed digest valid d flash m e a in
       let s = manifest-fits m bytes (p .long) in
       record { model = f .model; key = f .key; next = omega arith; manifest = s; hashes = length-begun (manifestIn m .root) (s .root) }
   fits-kept Block e a = fits-block (block-passed digest valid d flash m e a)
-  fits-kept Update e a =
-      let p = update-passed digest valid d flash m e a in
-      record { model = f .model; key = f .key; next = f .next; manifest = manifest-fits m bytes (omega (arith, p .long)); hashes = f .hashes }
+  fits-kept Update e a = fits-update (omega (arith, update-passed digest valid d flash m e a .successor .long))
+  fits-kept PathUpdate e a = fits-update (omega (arith, path-passed digest valid d flash m e a .successor .long))
   fits-kept Unknown e a = f
 
   fits-step : Fits (step digest valid d flash m .device)

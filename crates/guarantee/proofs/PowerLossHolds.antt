@@ -17,7 +17,7 @@ use Rattle.wire.specs.declared.refusal.Refusal.{Refusal}
 use Rattle.wire.specs.declared.refusal.Refusal.the-variants as refusal
 use Rattle.wire.specs.Refusal.{firstThatApplies}
 use Rattle.wire.specs.Geometry.{countOf, blockLength, blockStart, programLength, blocksOf}
-use Rattle.wire.specs.Message.{kind, manifestIn, blockIn, updateNumber, updateBlock, dueLength, leastUpdate}
+use Rattle.wire.specs.Message.{kind, manifestIn, blockIn, updateNumber, updateBlock, pathIn, dueLength, leastUpdate}
 use Rattle.wire.proofs.GeometryLaws.{block-full, block-last, length-with, with-behind, with-start, with-same}
 use Rattle.wire.proofs.MessageLaws.{length-block, length-update-block}
 use Rattle.machine.specs.declared.state.Stage.{Stage}
@@ -28,7 +28,7 @@ use Rattle.machine.specs.Device.{nextOf, Situation}
 use Rattle.machine.specs.Flash.{stored, updated}
 use Rattle.machine.specs.Refusals.{tooSmall, notLoading, strays, always, ofManifest, ofBlock, ofSuccessor, ofUpdate, ofPathUpdate, ofKind, refusals}
 use Rattle.machine.specs.Step.{stageAfter, acceptBlock, acceptUpdate, accept, answerOf, outcome, refusalOf, step}
-use Rattle.machine.proofs.RefusalLaws.{BlockPassed, block-passed, UpdatePassed, update-passed, ledTo, path-passed}
+use Rattle.machine.proofs.RefusalLaws.{BlockPassed, block-passed, UpdatePassed, update-passed, newLength, newDepth, ledTo, path-passed}
 use Rattle.guarantee.specs.Run.{Messages, empty, _▷_, after, answerTo, siblingsIn}
 use Rattle.guarantee.specs.PowerLoss.{OnlyBlocks, Agree, SameLoad, TornLoad, TornUpdate, PathReads, TornPath}
 use Rattle.guarantee.proofs.PathLaws.{two-paths}
@@ -119,7 +119,8 @@ module _ (H : List ℕ → List ℕ) (valid : (key message signature : List ℕ)
   unfolding refusalOf refusals always ofKind ofManifest ofSuccessor ofPathUpdate tooSmall
   path-or-none e =
       let es = refusals H valid PathUpdate d f m in
-      let test : List ℕ → Bool = λ flash. strays H s (updateNumber m) (blocksOf s flash i) m (d .manifest .root) in
+      let siblings = pathIn (newLength H valid d f m) (newDepth H valid d f m) m in
+      let test : List ℕ → Bool = λ flash. strays H s (updateNumber m) (blocksOf s flash i) siblings (d .manifest .root) in
       rw (k, ← long) (one-test (take 13 es) (drop 14 es) refusal.Path (test f) (test g) (rw k at e))
 
 pub path-reads : (H : List ℕ → List ℕ) (valid : (key message signature : List ℕ) → Bool) → PathReads H valid

@@ -9,16 +9,18 @@ use lib.Dec.{eqb}
 use lib.ListN.{length, set, take, drop, replicate}
 use Rattle.octets.specs.Octets.{number}
 use Rattle.merkle.specs.Limits.{heldBytes}
+use Rattle.wire.specs.declared.kind.Kind.the-variants.{PathUpdate}
 use Rattle.wire.specs.declared.refusal.Refusal.the-variants as refusal
-use Rattle.wire.specs.Message.{updateMessage, pathMessage, manifestIn, updateNumber, updateBlock}
+use Rattle.wire.specs.Message.{updateMessage, pathMessage, manifestIn}
 use Rattle.sender.specs.Job.{manifestFor, programFor, blockFor, pathFor}
 use Rattle.machine.specs.declared.state.Device.{Device}
 use Rattle.machine.specs.declared.state.Answer.the-variants.{Accepted, Refused}
 use Rattle.machine.specs.Device.{Situation}
 use Rattle.machine.specs.Flash.{updated}
-use Rattle.machine.specs.Refusals.{tooSmall, notLoading, strays}
+use Rattle.machine.specs.Refusals.{tooSmall, notLoading, refusals}
 use Rattle.machine.specs.Readers.{numberOf}
 use Rattle.machine.specs.Step.{acceptBlock, outcome}
+use Rattle.machine.proofs.RefusalLaws.{testOf}
 use Rattle.guarantee.specs.Run.{empty, _▷_}
 use Rattle.guarantee.specs.Demand3.{Calls}
 use Rattle.guarantee.proofs.Toy.{Step, toy, any, job, newer, old, fresh, flash, program, right, refusing, but, byKind, computing, loaded}
@@ -148,12 +150,11 @@ reordering-caught h =
 pub swapping : Step
 swapping = byKind right right right (λ d f m.
     let o = right d f m in
-    let s = manifestIn m in
-    cond (eqb (numberOf (o .answer)) 15 && strays toy s (updateNumber m) (updateBlock (s .«block_len») m) m (s .root))
+    cond (eqb (numberOf (o .answer)) 15 && testOf refusal.Mismatch (refusals toy any PathUpdate d f m))
     (outcome (some refusal.Mismatch) d f (record { device = d; flash = f })) o)
 
 pub swapping-caught : Calls toy any swapping fresh flash loaded → ⊥
-unfolding computing swapping
+unfolding computing testOf swapping
 swapping-caught h =
     let z : _≡_ {A = ℕ} 14 15 = ap numberOf (h .answers (pathMessage (manifestFor toy newer) 1 (replicate 64 9) (toy (replicate 64 9)) [])) in
     omega arith
