@@ -16,34 +16,35 @@ use Rattle.wire.specs.Size.{allowedLength, wrongSize, outside}
 use Rattle.wire.specs.Geometry.{blockLength}
 use Rattle.wire.specs.Message.{dueLength}
 use Rattle.sender.specs.Job.{Image, inBlocks, count}
-use Rattle.sender.specs.Send.{sentNumber, send, tooShort, unnumbered, numbered, sendManifest, sendProgram, sendBlock, sendUpdate}
+use Rattle.sender.specs.Send.{sentNumber, send, tooShort, unnumbered, numbered, sendManifest, sendProgram, sendBlock, sendUpdate, sendPath}
 use Rattle.sender.specs.Cases.{Figure2, values, Answers, Starred}
 
 pub figure2 : Figure2
 unfolding size leastFrom depth split build shape hash
 figure2 H f = refl
 
--- what holds of both forms of sending holds of the four functions
+-- what holds of both forms of sending holds of every function
 module _ (these : ℕ → Type 0) (x : Image) (plain : (bytes out : List ℕ) → these (sentNumber (unnumbered x bytes out .answer))) (at : (i : ℕ) (bytes out : List ℕ) → these (sentNumber (numbered x i bytes out .answer))) where
-  all-four : Answers these x
-  unfolding sendManifest sendProgram sendBlock sendUpdate
-  all-four =
+  of-all : Answers these x
+  unfolding sendManifest sendProgram sendBlock sendUpdate sendPath
+  of-all =
       record {
         manifest = λ model serial out. plain _ out;
         program = λ model serial signature out. plain _ out;
         block = λ i out. at i _ out;
         update = λ model serial i signature out. at i _ out;
+        path = λ model serial i signature out. at i _ out;
       }
 
 module _ (x : Image) where
   refused : wrongSize (x .«block_len») (length (x .bytes)) ≡ true → Answers (λ number. number ≡ 5) x
   unfolding unnumbered numbered send firstThatApplies
-  refused e = all-four (λ number. number ≡ 5) x (λ bytes out. rw e refl) (λ i bytes out. rw e refl)
+  refused e = of-all (λ number. number ≡ 5) x (λ bytes out. rw e refl) (λ i bytes out. rw e refl)
 
   not-refused : wrongSize (x .«block_len») (length (x .bytes)) ≡ false → Answers (λ number. number ≢ 5) x
   unfolding unnumbered numbered send firstThatApplies
   not-refused e =
-      all-four (λ number. number ≢ 5) x
+      of-all (λ number. number ≢ 5) x
       (λ bytes out. rw e (room bytes out (tooShort bytes out)))
       (λ i bytes out. rw e (turn bytes out (outside (count x) i) (tooShort bytes out)))
     where

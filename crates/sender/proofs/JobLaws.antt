@@ -76,6 +76,7 @@ lengths j =
       program = length-program j;
       block = λ z i o. let n = inside (count x) i o in length-block x (sized _ _ z) i (n .0) (n .1);
       update = λ z i o. let n = inside (count x) i o in length-update j (sized _ _ z) i (n .0) (n .1);
+      path = λ z i o. let n = inside (count x) i o in length-path j (sized _ _ z) i (n .0) (n .1);
     }
 
 -- a block's message, from the parts that the code writes

@@ -9,7 +9,7 @@ use Rattle.merkle.specs.Hash.{plain, rootOver}
 use Rattle.merkle.specs.Frontier.{carriedCount, heldCount}
 use Rattle.wire.specs.Message.{dueLength}
 use Rattle.sender.specs.Job.{Image, inBlocks, job}
-use Rattle.sender.specs.Send.{sentNumber, sendManifest, sendProgram, sendBlock, sendUpdate}
+use Rattle.sender.specs.Send.{sentNumber, sendManifest, sendProgram, sendBlock, sendUpdate, sendPath}
 
 -- "For n = 3 this is source document 000's figure 2": blocks 1 and 2 under one node, block 3 beside it.
 abbrev pub Figure2 : Type 0
@@ -26,6 +26,7 @@ pub record Answers (these : ℕ → Type 0) (x : Image) : Type 0 where
   pub program : (model serial : ℕ) (signature out : List ℕ) → these (sentNumber (sendProgram (job x model serial) signature out .answer))
   pub block : (i : ℕ) (out : List ℕ) → these (sentNumber (sendBlock x i out .answer))
   pub update : (model serial i : ℕ) (signature out : List ℕ) → these (sentNumber (sendUpdate (job x model serial) i signature out .answer))
+  pub path : (model serial i : ℕ) (signature out : List ℕ) → these (sentNumber (sendPath (job x model serial) i signature out .answer))
 
 -- "Counts worked out by hand. Marked * for proof": messages are counted from 1, held hashes after 0, 1, .. blocks; eight blocks of 256 bytes are 2,048 bytes.
 -- "T = 1,048,576 passes; 1,048,577 is refused 5": every image of that length.

@@ -8,8 +8,8 @@ use Rattle.sha256.specs.Sha256.{digest}
 use Rattle.wire.specs.declared.kind.Kind.the-variants.{Program}
 use Rattle.wire.specs.Size.{wrongSize, outside}
 use Rattle.wire.specs.Manifest.{manifestLength, written}
-use Rattle.wire.specs.Message.{leastLength, dueLength, leastUpdate}
-use Rattle.sender.specs.Job.{Job, count, manifestFor, programFor, blockFor, updateFor}
+use Rattle.wire.specs.Message.{leastLength, dueLength, leastUpdate, leastPath}
+use Rattle.sender.specs.Job.{Job, count, manifestFor, programFor, blockFor, updateFor, pathFor}
 
 pub record Lengths (j : Job) : Type 0 where
   pub manifest : length (written (manifestFor digest j)) ≡ manifestLength
@@ -19,6 +19,8 @@ pub record Lengths (j : Job) : Type 0 where
       → length (blockFor digest (j .image) i) ≡ dueLength (j .image .«block_len») (length (j .image .bytes)) i
   pub update : wrongSize (j .image .«block_len») (length (j .image .bytes)) ≡ false → (i : ℕ) → outside (count (j .image)) i ≡ false → (signature : List ℕ)
       → length (updateFor digest j i signature) ≡ leastUpdate (j .image .«block_len») (length (j .image .bytes)) i + length signature
+  pub path : wrongSize (j .image .«block_len») (length (j .image .bytes)) ≡ false → (i : ℕ) → outside (count (j .image)) i ≡ false → (signature : List ℕ)
+      → length (pathFor digest j i signature) ≡ leastPath (j .image .«block_len») (length (j .image .bytes)) i + length signature
 
 abbrev pub AllLengths : Type 0
 AllLengths = (j : Job) → Lengths j
