@@ -208,10 +208,13 @@ module _ (H : List ℕ → List ℕ) (valid : (key message signature : List ℕ)
     pub long : ltb (length m) least ≡ false
     pub signed : unsigned valid d (manifestBytes m) signature ≡ false
 
+  unrefused : (k : Kind) → kind m ≡ k → refusalOf H valid d flash m ≡ none → firstThatApplies (refusals H valid k d flash m) ≡ none
+  unfolding refusalOf
+  unrefused k e a = subst (λ x. firstThatApplies (refusals H valid x d flash m) ≡ none) e a
+
   -- refusal r does not apply
   without : (r : Refusal) (k : Kind) → kind m ≡ k → refusalOf H valid d flash m ≡ none → testOf r (refusals H valid k d flash m) ≡ false
-  unfolding refusalOf
-  without r k e a = clear r (refusals H valid k d flash m) (subst (λ x. firstThatApplies (refusals H valid x d flash m) ≡ none) e a)
+  without r k e a = clear r (refusals H valid k d flash m) (unrefused k e a)
 
   pub program-passed : kind m ≡ Program → refusalOf H valid d flash m ≡ none → ProgramPassed
   unfolding refusals always ofKind ofManifest ofProgram testOf short tooSmall unsigned
@@ -236,41 +239,33 @@ module _ (H : List ℕ → List ℕ) (valid : (key message signature : List ℕ)
         same = without refusal.Mismatch Block k a;
       }
 
-  pub update-passed : kind m ≡ Update → refusalOf H valid d flash m ≡ none → UpdatePassed
-  unfolding refusals always ofKind ofManifest ofSuccessor ofUpdate testOf tooSmall unsigned lacksRoot
-  update-passed k a =
+  -- an update of either kind that no refusal applies to
+  successor-passed : (k : Kind) {least : ℕ} {signature : List ℕ} (rest : List (Refusal × Bool))
+      → firstThatApplies (always k d m ++ (ofSuccessor d flash (manifestIn m) (updateNumber m) ++ ((refusal.Length, ltb (length m) least) ∷ (refusal.Unsigned, unsigned valid d (manifestBytes m) signature) ∷ rest))) ≡ none
+      → Successor least signature
+  unfolding always ofManifest ofSuccessor testOf tooSmall unsigned
+  successor-passed k rest a =
       record {
-        successor =
-            record {
-              complete = without refusal.Stage Update k a;
-              version = without refusal.Version Update k a;
-              size = sized _ _ (without refusal.Size Update k a);
-              newer = without refusal.Serial Update k a;
-              alike = without refusal.Unlike Update k a;
-              room = ltb-false _ _ (without refusal.Area Update k a);
-              turn = inside _ _ (without refusal.Turn Update k a);
-              long = ltb-false _ _ (without refusal.Length Update k a);
-              signed = not-false _ (without refusal.Unsigned Update k a);
-            };
-        rooted = equal-true _ _ (not-false _ (without refusal.Mismatch Update k a));
+        complete = clear refusal.Stage _ a;
+        version = clear refusal.Version _ a;
+        size = sized _ _ (clear refusal.Size _ a);
+        newer = clear refusal.Serial _ a;
+        alike = clear refusal.Unlike _ a;
+        room = ltb-false _ _ (clear refusal.Area _ a);
+        turn = inside _ _ (clear refusal.Turn _ a);
+        long = ltb-false _ _ (clear refusal.Length _ a);
+        signed = not-false _ (clear refusal.Unsigned _ a);
       }
 
+  pub update-passed : kind m ≡ Update → refusalOf H valid d flash m ≡ none → UpdatePassed
+  unfolding refusals always ofKind ofManifest ofSuccessor ofUpdate testOf lacksRoot
+  update-passed k a = record { successor = successor-passed Update _ (unrefused Update k a); rooted = equal-true _ _ (not-false _ (without refusal.Mismatch Update k a)) }
+
   pub path-passed : kind m ≡ PathUpdate → refusalOf H valid d flash m ≡ none → PathPassed
-  unfolding refusals always ofKind ofManifest ofSuccessor ofPathUpdate testOf tooSmall unsigned strays
+  unfolding refusals always ofKind ofManifest ofSuccessor ofPathUpdate testOf strays
   path-passed k a =
       record {
-        successor =
-            record {
-              complete = without refusal.Stage PathUpdate k a;
-              version = without refusal.Version PathUpdate k a;
-              size = sized _ _ (without refusal.Size PathUpdate k a);
-              newer = without refusal.Serial PathUpdate k a;
-              alike = without refusal.Unlike PathUpdate k a;
-              room = ltb-false _ _ (without refusal.Area PathUpdate k a);
-              turn = inside _ _ (without refusal.Turn PathUpdate k a);
-              long = ltb-false _ _ (without refusal.Length PathUpdate k a);
-              signed = not-false _ (without refusal.Unsigned PathUpdate k a);
-            };
+        successor = successor-passed PathUpdate _ (unrefused PathUpdate k a);
         old = equal-true _ _ (not-false _ (without refusal.Path PathUpdate k a));
         new = equal-true _ _ (not-false _ (without refusal.Mismatch PathUpdate k a));
       }
