@@ -41,8 +41,8 @@ impl Plan {
             filling: 30,
             honest: rng.pick(&[100, 85, 60, 30]),
             restarts: 2,
-            updates: 70,
-            aside: rng.pick(&[0, 15, 30]),
+            updates: 80,
+            aside: rng.pick(&[0, 20, 50]),
             followed: 33,
         }
     }
