@@ -52,7 +52,8 @@ pub const STATUS: usize = 11;
 pub const DUE: usize = 12;
 pub const ALTERED: usize = 13;
 
-/// Path updates accepted, by the depth of the block's leaf. Deeper ones need a large image.
+/// Path updates accepted, by the depth of the block's leaf. Deeper ones than these are too rare to be
+/// due: few lists have a large image.
 const PATHS: [(&str, &[usize]); 4] = [
     ("first block", &[0, 1, 2, 3, 4, 5, 6]),
     ("last block", &[0, 1, 2, 3, 4]),
