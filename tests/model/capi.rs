@@ -56,6 +56,19 @@ unsafe extern "C" {
         room: usize,
         written: *mut usize,
     ) -> u32;
+    fn lertxuno_path_update(
+        image: *const u8,
+        image_length: usize,
+        block_length: u32,
+        model: u32,
+        serial: u32,
+        number: u32,
+        signature: *const u8,
+        signature_length: usize,
+        out: *mut u8,
+        room: usize,
+        written: *mut usize,
+    ) -> u32;
     fn lertxuno_fresh(model: u32, key: *const u8, state: *mut u8);
     fn lertxuno_receive(
         state: *mut u8,
@@ -124,7 +137,8 @@ pub enum Send<'a> {
     Manifest,
     Program(&'a [u8]),
     Block(u32),
-    Update(u32, &'a [u8]),
+    /// The kind comes first, 3 or 4.
+    Update(u8, u32, &'a [u8]),
 }
 
 pub fn send(
@@ -149,9 +163,14 @@ pub fn send(
                 )
             }
             Send::Block(i) => lertxuno_block(image, length, block, i, out, room, written),
-            Send::Update(i, s) => {
+            Send::Update(kind, i, s) => {
                 let (s, sl) = (s.as_ptr(), s.len());
-                lertxuno_update(
+                let update = if kind == 3 {
+                    lertxuno_update
+                } else {
+                    lertxuno_path_update
+                };
+                update(
                     image, length, block, model, serial, i, s, sl, out, room, written,
                 )
             }

@@ -3,11 +3,12 @@
 
 use std::collections::HashMap;
 
+use crate::damage::damage_byte;
 use crate::device::{Device, Stage};
 use crate::manifest::{BLOCK_LENGTHS, MOST_BLOCKS, Manifest};
 use crate::plan::Plan;
 use crate::rng::Rng;
-use crate::sender::{block_message, program_message, update_message};
+use crate::sender::{Change, block_message, program_message, update_message};
 use crate::sha256::Hash;
 use crate::signer::Signer;
 use crate::tree::root;
@@ -48,10 +49,6 @@ impl Image {
     pub fn blocks(&self) -> usize {
         self.area.len() / self.block_length
     }
-
-    fn block(&self, i: usize) -> &[u8] {
-        &self.area[(i - 1) * self.block_length..i * self.block_length]
-    }
 }
 
 /// Makes the messages for one device.
@@ -79,7 +76,7 @@ impl Author<'_> {
     /// The message that the device should accept now.
     pub fn honest(&mut self, device: &Device) -> Vec<u8> {
         let program = self.rng.percent(self.plan.restarts);
-        let update = self.rng.percent(70);
+        let update = self.rng.percent(self.plan.updates);
         match (&device.stage, self.current(device)) {
             (Stage::Loading { next, .. }, Some(image)) if !program => {
                 block_message(&image.area, image.block_length, *next)
@@ -91,6 +88,7 @@ impl Author<'_> {
 
     /// A message with wrong values, of the kind that the stage asks for more often than not.
     pub fn faulty(&mut self, device: &Device) -> Vec<u8> {
+        // 3 stands for both kinds of updates.
         let usual = match device.stage {
             Stage::Idle => 1,
             Stage::Loading { .. } => 2,
@@ -181,36 +179,53 @@ impl Author<'_> {
         program_message(&bytes, &signature)
     }
 
-    /// Kind 3 that changes one block of the device's image, or writes it again; a faulty one has
-    /// wrong values in any of its parts.
+    /// Kind 3 or 4 that changes one block of the device's image, or writes it again; a faulty one
+    /// has wrong values in any of its parts.
     fn update(&mut self, device: &Device, faulty: bool) -> Vec<u8> {
         let mut image = self.some_image(device);
         if !faulty {
             image = self.current(device).cloned().unwrap_or(image);
         }
-        let i = self.rng.range(1, image.blocks());
+        let n = image.blocks();
+        let any = self.rng.range(1, n);
+        let mut i = self.rng.pick(&[any, any, 1, n]);
         if !self.rng.one_in(4) {
             let block = self.rng.bytes(image.block_length);
             let start = (i - 1) * image.block_length;
             image.area[start..start + block.len()].copy_from_slice(&block);
         }
         let mut manifest = self.manifest(device, &image);
-        let mut block = image.block(i).to_vec();
-        let mut number = i as u16;
         if faulty && self.rng.percent(35) {
             self.spoil(&mut manifest, device.serial());
         }
-        if faulty && self.rng.percent(40) {
-            let n = image.blocks() as u16;
-            number = self.rng.pick(&[0, n, n + 1, u16::MAX, 1]);
+        if faulty && self.rng.percent(20) {
+            // All of it fits the new image, but another block is sent than the changed one.
+            i = self.rng.range(1, n);
         }
-        if faulty && self.rng.percent(30) {
-            let at = self.rng.below(block.len());
-            block[at] ^= 1 << self.rng.below(8);
+        let kind = self.rng.pick(&[3, 4]);
+        let mut change = Change::new(kind, &image.area, image.block_length, i);
+        if faulty {
+            self.spoil_change(&mut change, n as u16);
         }
         let bytes = manifest.bytes();
         let signature = self.signature(&bytes, faulty);
-        update_message(&bytes, number, &block, &signature)
+        update_message(&bytes, &change, &signature)
+    }
+
+    /// Number, block and hashes, each left as it is or made wrong.
+    fn spoil_change(&mut self, change: &mut Change, n: u16) {
+        let rng = &mut self.rng;
+        if rng.percent(40) {
+            let any = rng.range(1, n as usize) as u16;
+            change.number = rng.pick(&[0, n, n + 1, u16::MAX, 1, any]);
+        }
+        if rng.percent(30) {
+            let at = rng.below(change.block.len());
+            change.block[at] ^= 1 << rng.below(8);
+        }
+        if change.kind == 4 && rng.percent(40) {
+            spoil_hashes(rng, &mut change.hashes);
+        }
     }
 
     fn signature(&mut self, manifest: &[u8], faulty: bool) -> Vec<u8> {
@@ -260,6 +275,24 @@ impl Author<'_> {
                 _ => manifest.root = rng.array(),
             }
         }
+    }
+}
+
+/// One hash more, one less, another order, or one of them damaged.
+fn spoil_hashes(rng: &mut Rng, hashes: &mut Vec<Hash>) {
+    let at = rng.below(hashes.len().max(1));
+    match rng.below(5) {
+        0 => hashes.insert(at, rng.array()),
+        1 => hashes.reverse(),
+        _ if hashes.is_empty() => {}
+        2 => {
+            hashes.remove(at);
+        }
+        3 => {
+            let other = rng.below(hashes.len());
+            hashes.swap(at, other);
+        }
+        _ => damage_byte(rng, &mut hashes[at], 0..32),
     }
 }
 

@@ -52,10 +52,12 @@ fn fields(rng: &mut Rng, p: &Parameters, device: &Device, message: &[u8]) -> Vec
             found.extend([1..3, 1..3, 3..labels, 3..labels]);
             found.extend((labels..message.len()).step_by(32).map(|at| at..at + 32));
         }
-        Some(3) if message.len() >= 51 => {
-            let signature = 51 + number(&message[3..5]) as usize;
+        Some(3 | 4) if message.len() >= 51 => {
+            let hashes = 51 + number(&message[3..5]) as usize;
+            let signature = message.len().saturating_sub(p.signature_length());
             found.extend(manifest_fields(1));
-            found.extend([49..51, 51..signature]);
+            found.extend([49..51, 51..hashes]);
+            found.extend((hashes..signature).step_by(32).map(|at| at..at + 32));
             found.extend(signature_fields(rng, p, signature));
         }
         _ => found.push(0..message.len()),
@@ -97,11 +99,21 @@ pub fn damage(rng: &mut Rng, p: &Parameters, device: &Device, message: &mut [u8]
 }
 
 /// Cut by some bytes, cut to a length near one that the rules name, or grown.
-pub fn resize(rng: &mut Rng, device: &Device, message: &mut Vec<u8>) {
+pub fn resize(rng: &mut Rng, p: &Parameters, device: &Device, message: &mut Vec<u8>) {
     let length = message.len();
     let block = stage_block_length(device);
+    // Where the signature begins, if there is one: kind 4 needs that many bytes.
+    let unsigned = length.saturating_sub(p.signature_length());
     let edges = [0, 1, 2, 3, 4, 48, 49, 50, 51, 52];
-    let due = [2 + block, 3 + block, 4 + block, 50 + block, 51 + block];
+    let due = [
+        2 + block,
+        3 + block,
+        4 + block,
+        50 + block,
+        51 + block,
+        unsigned.saturating_sub(1),
+        unsigned,
+    ];
     let new_length = match rng.below(8) {
         0 => rng.pick(&edges),
         1 | 2 => rng.pick(&due),
@@ -119,7 +131,7 @@ pub fn noise(rng: &mut Rng) -> Vec<u8> {
     let length = rng.pick(&[0, 0, 1, 2, 3, 48, 49, 50, 51, 67, 200, 1500]);
     let mut message = rng.bytes(length);
     if !message.is_empty() && rng.percent(70) {
-        message[0] = rng.pick(&[0, 1, 2, 3, 4, 255]);
+        message[0] = rng.pick(&[0, 1, 2, 3, 4, 5, 255]);
     }
     message
 }

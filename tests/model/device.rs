@@ -1,10 +1,10 @@
-//! Document 01, the drive (here: the device): its state, and its refusals in the order of each
-//! kind.
+//! Document 01 and change 1, the drive (here: the device): its state, and its refusals in the order
+//! of each kind.
 
-use crate::lms::{number, verify};
+use crate::lms::{hashes, number, verify};
 use crate::manifest::*;
 use crate::sha256::{Hash, sha256};
-use crate::tree::{cover, parent, root, siblings};
+use crate::tree::{cover, parent, path, root, root_by_path, siblings};
 
 #[derive(Clone)]
 pub enum Stage {
@@ -93,7 +93,7 @@ impl Device {
         let least = match message.first() {
             Some(1) => 49,
             Some(2) => 3,
-            Some(3) => 51,
+            Some(3 | 4) => 51,
             _ => return Err(KIND),
         };
         refuse_if(message.len() < least, SHORT)?;
@@ -104,7 +104,7 @@ impl Device {
         }
     }
 
-    /// Refusals 4, 5, 6, 7, which kinds 1 and 3 share.
+    /// Refusals 4, 5, 6, 7, which kinds 1, 3 and 4 share.
     fn check_manifest(&self, manifest: &Manifest) -> Outcome<()> {
         manifest.check_version()?;
         manifest.check_size()?;
@@ -149,7 +149,7 @@ impl Device {
         refuse_if(i != *next, TURN)?;
         refuse_if(message.len() != due_length(manifest, i), LENGTH)?;
         let (block, labels) = message[3..].split_at(length);
-        let labels: Vec<Hash> = labels.chunks(32).map(|h| h.try_into().unwrap()).collect();
+        let labels = hashes(labels);
         let computed = labels
             .iter()
             .fold(sha256(block), |hash, l| parent(&hash, l));
@@ -169,7 +169,7 @@ impl Device {
         Ok(Effect { stage, write })
     }
 
-    /// Kind 3: 10, 4, 5, 6, 7, 13, 8, 11, 12, 9, 14.
+    /// Kind 3: 10, 4, 5, 6, 7, 13, 8, 11, 12, 9, 14. Kind 4: the same, and 15 before 14.
     fn update(&self, flash: &[u8], message: &[u8]) -> Outcome<Effect> {
         let Stage::Complete { manifest: old } = &self.stage else {
             return Err(STAGE);
@@ -180,17 +180,27 @@ impl Device {
             manifest.block_length == old.block_length && manifest.image_length == old.image_length;
         refuse_if(!alike, UNLIKE)?;
         refuse_if(flash.len() < manifest.area_length(), AREA)?;
-        let i = number(&message[49..51]) as usize;
-        refuse_if(i < 1 || i > manifest.blocks(), TURN)?;
+        let (n, i) = (manifest.blocks(), number(&message[49..51]) as usize);
+        refuse_if(i < 1 || i > n, TURN)?;
         let length = manifest.block_length as usize;
-        refuse_if(message.len() < 51 + length, LENGTH)?;
-        let (block, signature) = message[51..].split_at(length);
+        let by_path = message[0] == 4;
+        let depth = if by_path { path(n, i).len() } else { 0 };
+        refuse_if(message.len() < 51 + length + 32 * depth, LENGTH)?;
+        let (block, rest) = message[51..].split_at(length);
+        let (labels, signature) = rest.split_at(32 * depth);
         let signed = verify(&self.key, &message[1..49], signature);
         refuse_if(!signed, UNSIGNED)?;
         let start = (i - 1) * length;
-        let mut area = flash[..manifest.area_length()].to_vec();
-        area[start..start + length].copy_from_slice(block);
-        refuse_if(root(&area, length) != manifest.root, MISMATCH)?;
+        let new_root = if by_path {
+            let (labels, old_block) = (hashes(labels), &flash[start..start + length]);
+            refuse_if(root_by_path(n, i, old_block, &labels) != old.root, PATH)?;
+            root_by_path(n, i, block, &labels)
+        } else {
+            let mut area = flash[..manifest.area_length()].to_vec();
+            area[start..start + length].copy_from_slice(block);
+            root(&area, length)
+        };
+        refuse_if(new_root != manifest.root, MISMATCH)?;
         Ok(Effect {
             stage: Stage::Complete { manifest },
             write: Some((start, block.to_vec())),

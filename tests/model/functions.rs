@@ -54,19 +54,20 @@ pub fn sender_call(rng: &mut Rng, coverage: &mut Coverage) -> Compared<()> {
     let inside = 1 + any % n.max(1);
     let wrong = rng.pick(&[0, n + 1, any, inside + 65_536]);
     let number = rng.pick(&[inside, inside, inside, 1, n, wrong, wrong]);
-    let function = rng.below(4);
-    let (what, message) = match function {
+    // The manifest alone, or a message.
+    let kind = rng.range(0, 4) as u8;
+    let (what, message) = match kind {
         0 => (Send::Manifest, order.manifest()),
         1 => (Send::Program(&signature), order.program(&signature)),
         2 => (Send::Block(number), order.block(number)),
         _ => (
-            Send::Update(number, &signature),
-            order.update(number, &signature),
+            Send::Update(kind, number, &signature),
+            order.update(kind, number, &signature),
         ),
     };
     let answer = compare_sender(rng, &order, what, message)
-        .map_err(|e| format!("L {block_length}, T {length}, number {number}: {e}"))?;
-    coverage.count(SENDER + function, answer);
+        .map_err(|e| format!("kind {kind}, L {block_length}, T {length}, number {number}: {e}"))?;
+    coverage.count(SENDER + kind as usize, answer);
     Ok(())
 }
 

@@ -32,10 +32,10 @@ static void expect(const char *what, size_t got, size_t due) {
     }
 }
 
-/* Document 01's table, and what stands for a number behind it. */
+/* Document 01's table with the changes' refusals, and what stands for a number behind it. */
 static void words(void) {
     static const char *const due[] = {"accepted", "state", "kind", "short", "version", "size", "model", "serial",
-                                      "area", "unsigned", "stage", "turn", "length", "unlike", "mismatch", "unknown"};
+                                      "area", "unsigned", "stage", "turn", "length", "unlike", "mismatch", "path", "unknown"};
     for (uint32_t answer = 0; answer < sizeof due / sizeof *due; answer++) {
         if (strcmp(lertxuno_refusal_word(answer), due[answer]) != 0) {
             printf("wrong: word of answer %u: %s\n", (unsigned)answer, lertxuno_refusal_word(answer));
@@ -73,6 +73,8 @@ static void longest_messages(void) {
     expect_message("longest block message", answer, LERTXUNO_BLOCK, LERTXUNO_MAX_BLOCK_MESSAGE_LENGTH);
     answer = lertxuno_update(image, longest, most, MODEL, SERIAL, 1, signature, sizeof signature, out, sizeof out, &written);
     expect_message("longest update", answer, LERTXUNO_UPDATE, LERTXUNO_MAX_UPDATE_LENGTH);
+    answer = lertxuno_path_update(image, longest, most, MODEL, SERIAL, 1, signature, sizeof signature, out, sizeof out, &written);
+    expect_message("longest path update", answer, LERTXUNO_PATH_UPDATE, LERTXUNO_MAX_PATH_UPDATE_LENGTH);
 }
 
 static void state_length(void) {

@@ -5,7 +5,7 @@
 //! the library.
 
 use crate::device::{Device, Stage, held_count};
-use crate::lms::number;
+use crate::lms::{hashes, number};
 use crate::manifest::{Manifest, Outcome, STATE};
 
 pub const STATE_LENGTH: usize = 496;
@@ -34,7 +34,7 @@ pub fn read(state: &[u8]) -> Outcome<Device> {
             Stage::Loading {
                 manifest,
                 next,
-                held: held.chunks(32).map(|h| h.try_into().unwrap()).collect(),
+                held: hashes(held),
             }
         }
         2 => Stage::Complete { manifest },

@@ -5,11 +5,12 @@ use std::collections::HashMap;
 
 use crate::capi::{self, Lent};
 use crate::compare::{Compared, same, same_answer};
-use crate::coverage::Coverage;
+use crate::coverage::{ALTERED, Coverage};
 use crate::craft::Author;
 use crate::damage::{damage, damage_state, noise, resize};
 use crate::device::{Device, Stage};
 use crate::layout::{self, MANIFEST_AT, STAGE_AT, STATE_LENGTH};
+use crate::lms::number;
 use crate::manifest::Manifest;
 use crate::plan::Plan;
 use crate::readers;
@@ -56,6 +57,11 @@ impl Pair {
         layout::read(&self.state).expect("fresh, or left by an accepted message")
     }
 
+    /// Whether the message would be accepted now.
+    fn takes(&self, message: &[u8]) -> bool {
+        self.device().receive(&self.flash, message).is_ok()
+    }
+
     /// The same pair with another state, another flash length or both.
     fn changed(&self, rng: &mut Rng) -> Pair {
         let mut other = self.clone();
@@ -73,6 +79,21 @@ impl Pair {
         if what >= 3 {
             damage_state(rng, &mut other.state);
             other.library_state = Lent::new(&other.state);
+        }
+        other
+    }
+
+    /// The same pair after somebody else wrote to the program's part of the flash: to the block
+    /// that an update names, or to any.
+    fn altered(&self, rng: &mut Rng, message: &[u8]) -> Pair {
+        let mut other = self.clone();
+        if let Some(manifest) = self.device().manifest() {
+            let (n, length) = (manifest.blocks(), manifest.block_length as usize);
+            let named = message.get(49..51).map_or(0, number) as usize;
+            let any = rng.range(1, n);
+            let i = rng.pick(&[any, named]).clamp(1, n);
+            other.flash[(i - 1) * length + rng.below(length)] ^= 1 << rng.below(8);
+            other.library_flash = Lent::new(&other.flash);
         }
         other
     }
@@ -121,9 +142,13 @@ impl<'a> List<'a> {
         let answer = self
             .call(&message, coverage)
             .map_err(|what| format!("kind {kind}, {} bytes: {what}", message.len()))?;
-        coverage.count(if kind <= 3 { kind } else { 0 }, answer);
+        coverage.count(if kind <= 4 { kind } else { 0 }, answer);
         if let Stage::Complete { manifest } = &self.pair.device().stage {
             coverage.completed(manifest.blocks());
+        }
+        if kind == 4 && answer == 0 {
+            let n = Manifest::read(&message[1..49]).blocks();
+            coverage.path_update(n, number(&message[49..51]) as usize);
         }
         self.history.push(message);
         Ok(())
@@ -134,8 +159,16 @@ impl<'a> List<'a> {
         if !rng.percent(self.author.plan.aside) {
             return self.pair.call(message, coverage);
         }
-        let mut other = self.pair.changed(rng);
+        let altered = rng.one_in(3);
+        let mut other = if altered {
+            self.pair.altered(rng, message)
+        } else {
+            self.pair.changed(rng)
+        };
         let answer = other.call(message, coverage)?;
+        if altered && self.pair.takes(message) {
+            coverage.count(ALTERED + message[0] as usize - 1, answer);
+        }
         // A device that went on from odd bytes is worth following, if it has its model, key and
         // whole flash.
         if answer == 0
@@ -166,7 +199,8 @@ impl<'a> List<'a> {
                 } else {
                     author.faulty(device)
                 };
-                resize(&mut author.rng, device, &mut message);
+                let p = &author.signer.parameters;
+                resize(&mut author.rng, p, device, &mut message);
                 message
             }
             8 | 9 if !self.history.is_empty() => {

@@ -117,7 +117,7 @@ pub fn top_hash(id: &[u8], mut node: u32, mut hash: Hash, path: &[Hash]) -> Hash
     hash
 }
 
-fn hashes(bytes: &[u8]) -> Vec<Hash> {
+pub fn hashes(bytes: &[u8]) -> Vec<Hash> {
     bytes.chunks(32).map(|h| h.try_into().unwrap()).collect()
 }
 

@@ -40,7 +40,7 @@ use signer::Signer;
 /// One list in so many has a large image.
 const LARGE: u64 = 300;
 
-/// With so many calls every answer is sure to occur; with fewer a rare one may not.
+/// With so many calls every case is sure to occur; with fewer a rare one may not.
 const ENOUGH: u64 = 100_000;
 
 struct Test<'a> {
@@ -151,11 +151,11 @@ impl Test<'_> {
         }
     }
 
-    /// Prints what occurred; each answer that never did counts as failed, where it had to.
+    /// Prints what occurred; each case that never did counts as failed, where it had to.
     fn report(&mut self, calls: u64) {
         let missing = self.coverage.report();
         if missing > 0 {
-            println!("{missing} answers of the rules never occurred");
+            println!("{missing} cases of the rules never occurred");
         }
         if calls >= ENOUGH {
             self.failed += missing;

@@ -7,7 +7,7 @@ use crate::sha256::Hash;
 pub const BLOCK_LENGTHS: [u32; 5] = [64, 128, 256, 512, 1024];
 pub const MOST_BLOCKS: usize = 4096;
 
-/// The numbers of document 01's table.
+/// The numbers of document 01's table, and of the changes.
 pub const STATE: u32 = 1;
 pub const KIND: u32 = 2;
 pub const SHORT: u32 = 3;
@@ -22,6 +22,7 @@ pub const TURN: u32 = 11;
 pub const LENGTH: u32 = 12;
 pub const UNLIKE: u32 = 13;
 pub const MISMATCH: u32 = 14;
+pub const PATH: u32 = 15;
 
 /// The first refusal that applies.
 pub type Outcome<T> = Result<T, u32>;

@@ -15,6 +15,8 @@ pub struct Plan {
     pub honest: usize,
     /// Percent of these that begin a new program while loading.
     pub restarts: usize,
+    /// Percent of these that are updates of a complete program.
+    pub updates: usize,
     /// Percent of calls that go to a changed copy of the device.
     pub aside: usize,
     /// Percent of accepted ones among these from which the list goes on.
@@ -39,7 +41,8 @@ impl Plan {
             filling: 30,
             honest: rng.pick(&[100, 85, 60, 30]),
             restarts: 2,
-            aside: rng.pick(&[0, 15, 30]),
+            updates: 80,
+            aside: rng.pick(&[0, 20, 50]),
             followed: 33,
         }
     }
@@ -59,6 +62,7 @@ impl Plan {
             filling: 95,
             honest: rng.pick(&[99, 100]),
             restarts: 0,
+            updates: 90,
             aside: 1,
             followed: 0,
         }

@@ -1,10 +1,11 @@
 //! The model against values known from outside, before it judges anything: FIPS 180-4's examples,
-//! two signatures of RFC 8554's appendix F, and the counts that document 01 works out by hand.
+//! two signatures of RFC 8554's appendix F, and the counts that document 01 works out by hand. And
+//! paths, against the tree.
 
 use crate::lms::verify;
 use crate::rfc8554::CASES;
 use crate::sha256::sha256;
-use crate::tree::{cover, siblings};
+use crate::tree::{cover, path, root, root_by_path, siblings};
 
 fn unhex(text: &str) -> Vec<u8> {
     let digits: Vec<u8> = text
@@ -60,10 +61,29 @@ fn counts() -> bool {
         && held(3) == [1, 2, 1, 0]
 }
 
-pub fn run() -> [(&'static str, bool); 3] {
+/// The leaves' depths, read off the tree's figure for n = 3 and off the rule for others; and that
+/// each block of small trees leads to the root.
+fn paths() -> bool {
+    let depths = |n| -> Vec<usize> { (1..=n).map(|i| path(n, i).len()).collect() };
+    let blocks = |n: usize| (1..=n).map(|i| vec![i as u8; 64]).collect::<Vec<_>>();
+    let leads = |n: usize, i: usize| {
+        let area = blocks(n).concat();
+        let hashes: Vec<_> = path(n, i).iter().map(|s| s.hash(&area, 64)).collect();
+        root_by_path(n, i, &blocks(n)[i - 1], &hashes) == root(&area, 64)
+    };
+    depths(1) == [0]
+        && depths(3) == [2, 2, 1]
+        && depths(5) == [3, 3, 3, 3, 1]
+        && depths(7) == [3, 3, 3, 3, 3, 3, 2]
+        && depths(8) == [3; 8]
+        && (1..=17).all(|n| (1..=n).all(|i| leads(n, i)))
+}
+
+pub fn run() -> [(&'static str, bool); 4] {
     [
         ("digests", digests()),
         ("signatures", signatures()),
         ("counts", counts()),
+        ("paths", paths()),
     ]
 }

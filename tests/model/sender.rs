@@ -1,8 +1,9 @@
-//! Document 01, the sender: the bare manifest and the messages of each kind. It refuses 5, 11, 8 in
-//! this order.
+//! Document 01 and change 1, the sender: the bare manifest and the messages of each kind. It refuses
+//! 5, 11, 8 in this order.
 
 use crate::manifest::{AREA, Manifest, Outcome, TURN, check_size, refuse_if};
-use crate::tree::{root, siblings};
+use crate::sha256::Hash;
+use crate::tree::{path, root, siblings};
 
 /// What the sender is given for every message.
 #[derive(Clone, Copy)]
@@ -54,12 +55,38 @@ impl Order<'_> {
         ))
     }
 
-    pub fn update(&self, number: u32, signature: &[u8]) -> Outcome<Vec<u8>> {
+    /// Kind 3 or 4.
+    pub fn update(&self, kind: u8, number: u32, signature: &[u8]) -> Outcome<Vec<u8>> {
         let manifest = self.manifest()?;
         self.check_number(number)?;
         let (area, length) = (self.filled(), self.block_length as usize);
-        let block = &area[(number as usize - 1) * length..][..length];
-        Ok(update_message(&manifest, number as u16, block, signature))
+        let change = Change::new(kind, &area, length, number as usize);
+        Ok(update_message(&manifest, &change, signature))
+    }
+}
+
+/// What kinds 3 and 4 carry between manifest and signature.
+pub struct Change {
+    pub kind: u8,
+    pub number: u16,
+    pub block: Vec<u8>,
+    /// Those of the path for kind 4, none for kind 3.
+    pub hashes: Vec<Hash>,
+}
+
+impl Change {
+    /// Block i as it is in this area.
+    pub fn new(kind: u8, area: &[u8], block_length: usize, i: usize) -> Change {
+        let mut path = path(area.len() / block_length, i);
+        if kind == 3 {
+            path.clear();
+        }
+        Change {
+            kind,
+            number: i as u16,
+            block: area[(i - 1) * block_length..i * block_length].to_vec(),
+            hashes: path.iter().map(|s| s.hash(area, block_length)).collect(),
+        }
     }
 }
 
@@ -77,8 +104,14 @@ pub fn block_message(area: &[u8], block_length: usize, i: usize) -> Vec<u8> {
     out
 }
 
-pub fn update_message(manifest: &[u8], number: u16, block: &[u8], signature: &[u8]) -> Vec<u8> {
-    [&[3], manifest, &number.to_be_bytes(), block, signature].concat()
+pub fn update_message(manifest: &[u8], change: &Change, signature: &[u8]) -> Vec<u8> {
+    let mut out = vec![change.kind];
+    out.extend(manifest);
+    out.extend(change.number.to_be_bytes());
+    out.extend(&change.block);
+    out.extend(change.hashes.concat());
+    out.extend(signature);
+    out
 }
 
 /// Writes to the start of the buffer, or refuses 8 and leaves it.

@@ -1,5 +1,5 @@
 //! Document 01, "Tree and labels": the tree over the blocks, what block message i carries and what
-//! the device holds. A label is a hash here.
+//! the device holds; and 02's path from a block to the root. A label is a hash here.
 //!
 //! All is worked out by walking the tree as it is defined, never by a formula over block numbers.
 //! Blocks count from 1.
@@ -69,6 +69,38 @@ pub fn siblings(n: usize, i: usize) -> Vec<Subtree> {
         subtree = left;
     }
     found
+}
+
+/// The siblings from block i's leaf up to the root, lowest first; the leaf's depth is their number.
+pub fn path(n: usize, i: usize) -> Vec<Subtree> {
+    let mut subtree = whole(n);
+    let mut found = Vec::new();
+    while subtree.count > 1 {
+        let (left, right) = subtree.halves();
+        let (inside, beside) = if i < right.first {
+            (left, right)
+        } else {
+            (right, left)
+        };
+        found.insert(0, beside);
+        subtree = inside;
+    }
+    found
+}
+
+/// The root that block i leads to with these siblings' hashes, as many as its leaf is deep.
+pub fn root_by_path(n: usize, i: usize, block: &[u8], hashes: &[Hash]) -> Hash {
+    let siblings = path(n, i);
+    siblings
+        .iter()
+        .zip(hashes)
+        .fold(sha256(block), |hash, (sibling, beside)| {
+            if sibling.first < i {
+                parent(beside, &hash)
+            } else {
+                parent(&hash, beside)
+            }
+        })
 }
 
 /// The fewest subtrees that cover exactly the blocks from `next` to n, in block order: what the
