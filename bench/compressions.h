@@ -16,10 +16,9 @@ size_t tree_depth(size_t n);
 /* Of a path update of a leaf at this depth: the old block and the new one, and the inner nodes above each. */
 size_t path_compressions(size_t depth, size_t block_length);
 
-typedef struct {
-    double seconds, ratio, one;
-} measured;
+/* The long digest, one of 1 MiB, to measure by turns with what is held to it. */
+side long_digest(void);
 
-/* The best time of one call, its ratio to that of so many compressions, and the time of one compression, measured by turns. */
-measured against_compressions(int rounds, const side *work, size_t count);
+/* Of a time to that of so many compressions, where the long digest took digest_seconds. */
+double ratio(double seconds, size_t count, double digest_seconds);
 #endif

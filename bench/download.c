@@ -22,16 +22,15 @@ static void update(const void *with) {
 
 static void verdict(const void *with) { judge(&made, with); }
 
-/* What the message that carries the signature starts, and how many compressions that takes beside its verdict's. */
+/* One call with the message that carries the signature, which takes so many compressions for the verdict and so many beside it. */
 static void measure(const char *name, void (*run)(const void *), const message *carrier, size_t of_verdict, size_t beside) {
-    const side work = {run, carrier, 1}, judging = {verdict, carrier, 1};
+    const side sides[] = {{run, carrier, 1}, {verdict, carrier, 1}, long_digest()};
+    double best[3];
+    turns(ROUNDS, 3, sides, best);
     size_t count = of_verdict + beside;
-    measured m = against_compressions(ROUNDS, &work, count);
-    double best[2];
-    turns(ROUNDS, &work, &judging, best);
     double rest = best[0] - best[1];
-    printf("%-12s %10zu %8u %8u %12.3f %12zu %12.2f %12.1f %12zu %12.2f\n", name, made.length, made.block_length, made.n, m.seconds * 1e3, count, m.ratio,
-           rest * 1e6, beside, rest / (m.one * (double)beside));
+    printf("%-12s %10zu %8u %8u %12.3f %12zu %12.2f %12.1f %12zu %12.2f\n", name, made.length, made.block_length, made.n, best[0] * 1e3, count,
+           ratio(best[0], count, best[2]), rest * 1e6, beside, ratio(rest, beside, best[2]));
 }
 
 static void measure_all(size_t length, uint32_t block_length) {
