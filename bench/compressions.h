@@ -10,10 +10,15 @@ size_t compressions_of(size_t length);
 /* Of the tree over n blocks: each block once, and each of the n - 1 inner nodes. */
 size_t tree_compressions(size_t n, size_t block_length);
 
-typedef struct {
-    double seconds, ratio;
-} measured;
+/* The depth of the tree over n blocks; where n is a power of two, that of every leaf. */
+size_t tree_depth(size_t n);
 
-/* The best time of one call, and its ratio to that of so many compressions, measured by turns. */
-measured against_compressions(int rounds, const side *work, size_t count);
+/* Of a path update of a leaf at this depth: the old block and the new one, and the inner nodes above each. */
+size_t path_compressions(size_t depth, size_t block_length);
+
+/* The long digest, one of 1 MiB, to measure by turns with what is held to it. */
+side long_digest(void);
+
+/* Of a time to that of so many compressions, where the long digest took digest_seconds. */
+double ratio(double seconds, size_t count, double digest_seconds);
 #endif

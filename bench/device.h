@@ -3,6 +3,7 @@
 #define DEVICE_H
 #include "accepted.h"
 #include "messages.h"
+#include <string.h>
 
 typedef struct {
     uint8_t state[LERTXUNO_STATE_LENGTH];
@@ -16,5 +17,18 @@ static inline void take(device_memory *d, const message *m) {
 static inline void take_blocks(device_memory *d, const messages *m) {
     for (uint32_t i = 0; i < m->n; i++)
         take(d, &m->blocks[i]);
+}
+
+/* Puts back what an update replaced: the program's manifest, and the old block. */
+static inline void undo_update(device_memory *d, const messages *m) {
+    size_t at = (size_t)(m->updated - 1) * m->block_length;
+    memcpy(d->state + LERTXUNO_STATE_MANIFEST, m->program.bytes + 1, LERTXUNO_MANIFEST_LENGTH);
+    memcpy(d->flash + at, m->image + at, m->block_length);
+}
+
+/* The verdict alone on a message that has one: its manifest stands behind the kind, its signature at the end. */
+static inline void judge(const messages *m, const message *carrier) {
+    accepted(lertxuno_verify(m->key.key, sizeof m->key.key, carrier->bytes + 1, LERTXUNO_MANIFEST_LENGTH,
+                             carrier->bytes + carrier->length - KEY_SIGNATURE_LENGTH, KEY_SIGNATURE_LENGTH));
 }
 #endif

@@ -59,8 +59,8 @@ static void run_job(const void *with) {
 
 static void both(const kind *a, const kind *b, int c, double best[2]) {
     const job x = {a, c}, y = {b, c};
-    const side first = {run_job, &x, cases[c].calls}, second = {run_job, &y, cases[c].calls};
-    turns(ROUNDS, &first, &second, best);
+    const side sides[] = {{run_job, &x, cases[c].calls}, {run_job, &y, cases[c].calls}};
+    turns(ROUNDS, 2, sides, best);
 }
 
 static void compare(const char *name, const kind *k) {

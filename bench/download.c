@@ -1,52 +1,59 @@
-/* The device: the time of a whole download, and of an update of one block, against the SHA-256 compressions that each cannot avoid: the signature's
-   verdict's, and each block and each inner node of the tree once. */
+/* The device: the time of a whole download, of an update of one block and of a path update of the same block, against the SHA-256 compressions that each
+   cannot avoid: the signature's verdict's, and of the tree each block and each inner node once, or for a path update those of the block's path, for the old
+   block and for the new one. And the same beside the verdict, which is most of what a path update takes. */
 #include "compressions.h"
 #include "device.h"
-#include <string.h>
 
 enum { ROUNDS = 400 };
 
 static messages made;
 static device_memory device;
 
-/* The state after the download: each update starts from it. */
-static uint8_t complete[LERTXUNO_STATE_LENGTH];
-
 static void download(const void *with) {
-    (void)with;
     lertxuno_fresh(MODEL, made.key.key, device.state);
-    take(&device, &made.program);
+    take(&device, with);
     take_blocks(&device, &made);
 }
 
 static void update(const void *with) {
-    (void)with;
-    memcpy(device.state, complete, sizeof complete);
-    take(&device, &made.update);
+    undo_update(&device, &made);
+    take(&device, with);
 }
 
-static void measure(const char *name, void (*run)(const void *), size_t verdict) {
-    const side work = {run, NULL, 1};
-    size_t count = verdict + tree_compressions(made.n, made.block_length);
-    measured m = against_compressions(ROUNDS, &work, count);
-    printf("%-10s %10zu %8u %8u %12.2f %12zu %12.2f\n", name, made.length, made.block_length, made.n, m.seconds * 1e3, count, m.ratio);
+static void verdict(const void *with) { judge(&made, with); }
+
+/* One call with the message that carries the signature, which takes so many compressions for the verdict and so many beside it. */
+static void measure(const char *name, void (*run)(const void *), const message *carrier, size_t of_verdict, size_t beside) {
+    const side sides[] = {{run, carrier, 1}, {verdict, carrier, 1}, long_digest()};
+    double best[3];
+    turns(ROUNDS, 3, sides, best);
+    size_t count = of_verdict + beside;
+    double rest = best[0] - best[1];
+    printf("%-12s %10zu %8u %8u %12.3f %12zu %12.2f %12.1f %12zu %12.2f\n", name, made.length, made.block_length, made.n, best[0] * 1e3, count,
+           ratio(best[0], count, best[2]), rest * 1e6, beside, ratio(rest, beside, best[2]));
 }
 
-static void measure_download(size_t length, uint32_t block_length) {
+static void measure_all(size_t length, uint32_t block_length) {
     make_messages(length, block_length, &made);
-    measure("download", download, made.key.compressions[0]);
-    memcpy(complete, device.state, sizeof complete);
+    const size_t *of_verdict = made.key.compressions;
+    size_t tree = tree_compressions(made.n, block_length);
+    measure("download", download, &made.program, of_verdict[0], tree);
     if (memcmp(device.flash, made.image, length) != 0) {
         puts("the flash does not begin with the image");
         exit(1);
     }
+    measure("update", update, &made.update, of_verdict[1], tree);
+    measure("path update", update, &made.path_update, of_verdict[1], path_compressions(tree_depth(made.n), block_length));
 }
 
 int main(void) {
-    printf("%-10s %10s %8s %8s %12s %12s %12s\n", "", "image", "L", "n", "milliseconds", "compressions", "ratio");
-    measure_download(1 << 20, 1024);
-    measure("update", update, made.key.compressions[1]);
-    measure_download(1 << 20, 256);
-    measure_download(1 << 18, 64);
+    printf("%84s %s\n", "", "beside the verdict");
+    printf("%-12s %10s %8s %8s %12s %12s %12s %12s %12s %12s\n", "", "image", "L", "n", "milliseconds", "compressions", "ratio", "microseconds",
+           "compressions", "ratio");
+    measure_all(1 << 16, 1024);
+    measure_all(1 << 18, 1024);
+    measure_all(1 << 20, 1024);
+    measure_all(1 << 20, 256);
+    measure_all(1 << 18, 64);
     return 0;
 }

@@ -2,10 +2,8 @@
 #include "accepted.h"
 #include "input.h"
 
-/* In the middle: the old block and the new one differ in a byte. */
-static uint32_t updated(const messages *m) { return m->n / 2 + 1; }
-
-static void toggle(messages *m) { m->image[(updated(m) - 1) * m->block_length] ^= 1; }
+/* The old block and the new one differ in a byte. */
+static void toggle(messages *m) { m->image[(m->updated - 1) * m->block_length] ^= 1; }
 
 static uint8_t *end(messages *m) { return m->room + m->used; }
 
@@ -31,13 +29,13 @@ static void make_block(messages *m, uint32_t number) {
     m->blocks[number - 1] = keep(m, answer, length);
 }
 
-static void make_update(messages *m) {
+static message make_update(messages *m, update_function *make) {
     size_t length;
     toggle(m);
-    uint32_t answer = lertxuno_update(m->image, m->length, m->block_length, MODEL, NEW_SERIAL, updated(m), m->key.signatures[1], KEY_SIGNATURE_LENGTH,
-                                      end(m), left(m), &length);
+    uint32_t answer = make(m->image, m->length, m->block_length, MODEL, NEW_SERIAL, m->updated, m->key.signatures[1], KEY_SIGNATURE_LENGTH,
+                           end(m), left(m), &length);
     toggle(m);
-    m->update = keep(m, answer, length);
+    return keep(m, answer, length);
 }
 
 static void make_key(messages *m) {
@@ -55,10 +53,12 @@ void make_messages(size_t length, uint32_t block_length, messages *m) {
     m->length = length;
     m->block_length = block_length;
     m->n = (uint32_t)((length + block_length - 1) / block_length);
+    m->updated = m->n / 2 + 1;
     m->used = 0;
     make_key(m);
     make_program(m);
     for (uint32_t number = 1; number <= m->n; number++)
         make_block(m, number);
-    make_update(m);
+    m->update = make_update(m, lertxuno_update);
+    m->path_update = make_update(m, lertxuno_path_update);
 }

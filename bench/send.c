@@ -1,7 +1,7 @@
 /* The sender: the time of all block messages of an image, as a multiple of the time of its manifest, which takes each block's digest once. */
 #include "accepted.h"
+#include "compressions.h"
 #include "input.h"
-#include "turns.h"
 
 enum { ROUNDS = 30, MODEL = 7, SERIAL = 1 };
 
@@ -27,13 +27,11 @@ static void send_blocks(const void *with) {
 
 static void measure(uint32_t block_length, size_t length) {
     const size s = {length, block_length, (uint32_t)((length + block_length - 1) / block_length)};
-    const side one = {send_manifest, &s, 1}, all = {send_blocks, &s, 1};
+    const side sides[] = {{send_manifest, &s, 1}, {send_blocks, &s, 1}};
     double best[2];
-    turns(ROUNDS, &one, &all, best);
-    int depth = 0;
-    while (1u << depth < s.n)
-        depth++;
-    printf("%10zu %8u %8u %12.2f %12.2f %12.2f %12.2f\n", length, block_length, s.n, best[0] * 1e3, best[1] * 1e3, best[1] / best[0], depth / 2.0);
+    turns(ROUNDS, 2, sides, best);
+    printf("%10zu %8u %8u %12.2f %12.2f %12.2f %12.2f\n", length, block_length, s.n, best[0] * 1e3, best[1] * 1e3, best[1] / best[0],
+           (double)tree_depth(s.n) / 2);
 }
 
 int main(void) {

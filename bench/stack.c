@@ -25,7 +25,14 @@ static void read_length(void) { accepted(lertxuno_block_message_length(device.st
 
 static void take_all_blocks(void) { take_blocks(&device, &made); }
 
-static void take_update(void) { take(&device, &made.update); }
+static void take_either(const message *update) {
+    undo_update(&device, &made);
+    take(&device, update);
+}
+
+static void take_update(void) { take_either(&made.update); }
+
+static void take_path_update(void) { take_either(&made.path_update); }
 
 static void send_manifest(void) {
     accepted(lertxuno_manifest(made.image, made.length, BLOCK_LENGTH, MODEL, OLD_SERIAL, out, sizeof out, &written));
@@ -41,15 +48,16 @@ static void send_all_blocks(void) {
         accepted(lertxuno_block(made.image, made.length, BLOCK_LENGTH, i, out, sizeof out, &written));
 }
 
-static void send_update(void) {
-    accepted(lertxuno_update(made.image, made.length, BLOCK_LENGTH, MODEL, NEW_SERIAL, made.n, made.key.signatures[1], KEY_SIGNATURE_LENGTH, out,
-                             sizeof out, &written));
+static void send_either(update_function *make) {
+    accepted(make(made.image, made.length, BLOCK_LENGTH, MODEL, NEW_SERIAL, made.n, made.key.signatures[1], KEY_SIGNATURE_LENGTH, out, sizeof out,
+                  &written));
 }
 
-static void verify(void) {
-    accepted(lertxuno_verify(made.key.key, sizeof made.key.key, made.program.bytes + 1, LERTXUNO_MANIFEST_LENGTH, made.key.signatures[0],
-                             KEY_SIGNATURE_LENGTH));
-}
+static void send_update(void) { send_either(lertxuno_update); }
+
+static void send_path_update(void) { send_either(lertxuno_path_update); }
+
+static void verify(void) { judge(&made, &made.program); }
 
 static void digest(void) { lertxuno_digest(made.image, made.length, out); }
 
@@ -79,10 +87,12 @@ int main(void) {
     measure("device, block_message_length", read_length);
     measure("device, all blocks", take_all_blocks);
     measure("device, update", take_update);
+    measure("device, path update", take_path_update);
     measure("sender, manifest", send_manifest);
     measure("sender, program", send_program);
     measure("sender, all blocks", send_all_blocks);
     measure("sender, update", send_update);
+    measure("sender, path update", send_path_update);
     measure("verify", verify);
     measure("digest", digest);
     return 0;

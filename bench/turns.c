@@ -17,10 +17,10 @@ static void take(const side *s, double *best) {
         *best = t;
 }
 
-void turns(int rounds, const side *a, const side *b, double best[2]) {
-    best[0] = best[1] = 1e9;
-    for (int r = 0; r < rounds; r++) {
-        take(a, &best[0]);
-        take(b, &best[1]);
-    }
+void turns(int rounds, int count, const side *sides, double *best) {
+    for (int i = 0; i < count; i++)
+        best[i] = 1e9;
+    for (int r = 0; r < rounds; r++)
+        for (int i = 0; i < count; i++)
+            take(&sides[i], &best[i]);
 }

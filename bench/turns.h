@@ -1,4 +1,4 @@
-/* Two things measured by turns, so that whatever else the machine does falls on both. */
+/* Things measured by turns, so that whatever else the machine does falls on all. */
 #ifndef TURNS_H
 #define TURNS_H
 
@@ -9,6 +9,6 @@ typedef struct {
     int calls;
 } side;
 
-/* The best time of one call of each in so many rounds, in seconds. */
-void turns(int rounds, const side *a, const side *b, double best[2]);
+/* The best time of one call of each of so many sides in so many rounds, in seconds. */
+void turns(int rounds, int count, const side *sides, double *best);
 #endif

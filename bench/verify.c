@@ -53,9 +53,10 @@ static void measure(const char *path, const char *name) {
     static sample s;
     read_sample(path, &s);
     size_t count = compressions(&s);
-    const side work = {verify, &s, 1};
-    measured m = against_compressions(ROUNDS, &work, count);
-    printf("%-24s %12.0f %12zu %12.2f\n", name, m.seconds * 1e6, count, m.ratio);
+    const side sides[] = {{verify, &s, 1}, long_digest()};
+    double best[2];
+    turns(ROUNDS, 2, sides, best);
+    printf("%-24s %12.0f %12zu %12.2f\n", name, best[0] * 1e6, count, ratio(best[0], count, best[1]));
 }
 
 int main(int count, char **words) {

@@ -58,9 +58,9 @@ static void make_bundle(void) {
 
 /* The device's side. */
 
-static uint32_t receive(uint32_t i) {
-    return lertxuno_receive(state, sizeof state, flash, sizeof flash, bundle + starts[i], starts[i + 1] - starts[i]);
-}
+static uint32_t take(const uint8_t *message, size_t length) { return lertxuno_receive(state, sizeof state, flash, sizeof flash, message, length); }
+
+static uint32_t receive(uint32_t i) { return take(bundle + starts[i], starts[i + 1] - starts[i]); }
 
 /* Where the device is: what it would tell the sender. */
 static void report(uint32_t stage, uint32_t next) {
@@ -86,13 +86,18 @@ static void take_block(uint32_t i) {
     expect("device, the same again", receive(i), (uint32_t)(i + 1 < BLOCKS ? LERTXUNO_TURN : LERTXUNO_STAGE));
 }
 
-/* An update with an old serial: the sender writes it, the device has that program already. */
+/* Two updates that the sender writes and the device refuses. */
 static void update(void) {
-    uint8_t message[LERTXUNO_MAX_UPDATE_LENGTH];
+    uint8_t message[LERTXUNO_MAX_PATH_UPDATE_LENGTH];
     size_t length;
+    /* With the old serial: the device has that program already. */
     expect("sender, update", lertxuno_update(image, sizeof image, BLOCK_LENGTH, MODEL, SERIAL, 2, sample_signature, sizeof sample_signature,
                                              message, sizeof message, &length), LERTXUNO_ACCEPTED);
-    expect("device, old update", lertxuno_receive(state, sizeof state, flash, sizeof flash, message, length), LERTXUNO_SERIAL);
+    expect("device, old update", take(message, length), LERTXUNO_SERIAL);
+    /* Of another block, by its path and with the next serial: the sample's signature is over the first manifest, not over this one. */
+    expect("sender, path update", lertxuno_path_update(image, sizeof image, BLOCK_LENGTH, MODEL, SERIAL + 1, 3, sample_signature, sizeof sample_signature,
+                                                       message, sizeof message, &length), LERTXUNO_ACCEPTED);
+    expect("device, unsigned update", take(message, length), LERTXUNO_UNSIGNED);
 }
 
 int main(void) {
