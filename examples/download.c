@@ -1,16 +1,16 @@
-/* A download, both sides in one program: the sender makes a bundle of all messages, and the device takes it block by block.
+/* A download and an update, both sides in one program: the sender makes a bundle of all messages, and the device takes it block by block, then a new block.
  *
  *     rt staticlib capi
  *     gcc -Wall -Wextra -Werror -Iinclude -o target/download examples/download.c target/staticlib/libcapi.a
  *
- * The key and the signature are samples. In the field the manifest is signed by whoever holds the key's secret part. */
+ * The key and the signatures are samples. In the field a manifest is signed by whoever holds the key's secret part. */
 #include "lertxuno.h"
 #include "sample.h"
 #include <stdio.h>
 #include <stdlib.h>
 #include <string.h>
 
-enum { IMAGE_LENGTH = 300, BLOCK_LENGTH = 64, BLOCKS = LERTXUNO_BLOCKS(IMAGE_LENGTH, BLOCK_LENGTH), MODEL = 7, SERIAL = 1 };
+enum { IMAGE_LENGTH = 300, BLOCK_LENGTH = 64, BLOCKS = LERTXUNO_BLOCKS(IMAGE_LENGTH, BLOCK_LENGTH), MODEL = 7, SERIAL = 1, UPDATED = 3 };
 
 static uint8_t image[IMAGE_LENGTH];
 
@@ -86,18 +86,18 @@ static void take_block(uint32_t i) {
     expect("device, the same again", receive(i), (uint32_t)(i + 1 < BLOCKS ? LERTXUNO_TURN : LERTXUNO_STAGE));
 }
 
-/* Two updates that the sender writes and the device refuses. */
+/* One byte of block UPDATED changes. The device reads that block of its flash, and no other. */
 static void update(void) {
     uint8_t message[LERTXUNO_MAX_PATH_UPDATE_LENGTH];
     size_t length;
-    /* With the old serial: the device has that program already. */
-    expect("sender, update", lertxuno_update(image, sizeof image, BLOCK_LENGTH, MODEL, SERIAL, 2, sample_signature, sizeof sample_signature,
-                                             message, sizeof message, &length), LERTXUNO_ACCEPTED);
-    expect("device, old update", take(message, length), LERTXUNO_SERIAL);
-    /* Of another block, by its path and with the next serial: the sample's signature is over the first manifest, not over this one. */
-    expect("sender, path update", lertxuno_path_update(image, sizeof image, BLOCK_LENGTH, MODEL, SERIAL + 1, 3, sample_signature, sizeof sample_signature,
-                                                       message, sizeof message, &length), LERTXUNO_ACCEPTED);
-    expect("device, unsigned update", take(message, length), LERTXUNO_UNSIGNED);
+    image[(UPDATED - 1) * BLOCK_LENGTH] ^= 1;
+    expect("sender, path update", lertxuno_path_update(image, sizeof image, BLOCK_LENGTH, MODEL, SERIAL + 1, UPDATED, sample_update_signature,
+                                                       sizeof sample_update_signature, message, sizeof message, &length), LERTXUNO_ACCEPTED);
+    expect("device, path update", take(message, length), LERTXUNO_ACCEPTED);
+    /* The same as an update, which has it read the whole flash: it has that program already. */
+    expect("sender, update", lertxuno_update(image, sizeof image, BLOCK_LENGTH, MODEL, SERIAL + 1, UPDATED, sample_update_signature,
+                                             sizeof sample_update_signature, message, sizeof message, &length), LERTXUNO_ACCEPTED);
+    expect("device, the same again", take(message, length), LERTXUNO_SERIAL);
 }
 
 int main(void) {

@@ -15,6 +15,7 @@ use std::fmt::Write;
 use std::fs;
 
 const MODEL: u32 = 7;
+const BLOCK_LENGTH: u32 = 64;
 
 fn array(name: &str, bytes: &[u8]) -> String {
     let mut text = format!("\nstatic const uint8_t {name}[{}] = {{\n", bytes.len());
@@ -28,18 +29,26 @@ fn array(name: &str, bytes: &[u8]) -> String {
 fn main() -> std::io::Result<()> {
     let folder = std::env::args().nth(1).expect("a folder");
     let image: Vec<u8> = (0..300u32).map(|i| (7 * i + 3) as u8).collect();
-    let order = sender::Order {
-        image: &image,
-        block_length: 64,
-        model: MODEL,
-        serial: 1,
-    };
+    let mut updated = image.clone();
+    updated[2 * BLOCK_LENGTH as usize] ^= 1;
     let mut rng = rng::Rng::new(1, 0);
     let signer = signer::Signer::new(&mut rng, 5, 4);
-    let signature = signer.sign(&mut rng, &order.manifest().expect("a manifest"));
-    let header = "/* A test key (LMS height 5, 8-bit digits), and its signature over the manifest of download.c's image. \
+    let mut sign = |image: &[u8], serial: u32| {
+        let order = sender::Order {
+            image,
+            block_length: BLOCK_LENGTH,
+            model: MODEL,
+            serial,
+        };
+        signer.sign(&mut rng, &order.manifest().expect("a manifest"))
+    };
+    let signature = sign(&image, 1);
+    let update_signature = sign(&updated, 2);
+    let header = "/* A test key (LMS height 5, 8-bit digits), and its signatures over the manifests of download.c's image and of its update. \
                   Made by tests/model/sample.rs. */\n#include <stdint.h>\n";
-    let arrays = array("sample_key", &signer.key) + &array("sample_signature", &signature);
+    let arrays = array("sample_key", &signer.key)
+        + &array("sample_signature", &signature)
+        + &array("sample_update_signature", &update_signature);
     fs::write(format!("{folder}/sample.h"), header.to_string() + &arrays)?;
     fs::create_dir_all(format!("{folder}/sample"))?;
     let key = [&signer.key[..], &MODEL.to_be_bytes()].concat();
