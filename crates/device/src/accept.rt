@@ -28,8 +28,7 @@ pub fn accept(device: Device, kind: Kind, flash: &mut [u8], message: &[u8]) -> D
     match kind {
         Kind::Program => accept_program(device, message),
         Kind::Block => accept_block(device, flash, message),
-        Kind::Update => accept_update(device, flash, message),
-        Kind::PathUpdate => accept_update(device, flash, message),
+        Kind::Update | Kind::PathUpdate => accept_update(device, flash, message),
         // Never accepted; the definition has this arm too.
         Kind::Unknown => device,
     }

@@ -1,12 +1,36 @@
-use mathlib.Core.Path.{refl, sym, _∙_}
+use mathlib.Core.Path.{_≡_, refl, sym, _∙_}
+use mathlib.Core.Logic.{_⊎_, inl, inr, ⊎-elim}
+use Prim.Native.Nat.{ℕ, _≤_, _<_}
+use native.Mathlib.Omega.{arith}
+use lib.ListN.{length}
+use denote.Enum.Declared.{tagOf}
 use Rattle.sha256.specs.Sha256.{digest}
 use Rattle.lms.specs.Lms.{valid}
+use Rattle.wire.specs.declared.kind.Kind.{Kind}
+use Rattle.wire.proofs.kind.Kind.{the-type}
+use Rattle.wire.specs.declared.kind.Kind.the-variants.{Program, Block, Update, PathUpdate, Unknown}
+use Rattle.wire.specs.Geometry.{countOf, programLength}
+use Rattle.wire.specs.Message.{manifestIn, updateNumber, leastUpdate}
 use Rattle.machine.specs.Step.{accept}
 use Rattle.machine.proofs.RefusalLaws.{program-passed, update-passed, path-passed, path-block}
 use Rattle.device.proofs.AcceptLaws.{program-is}
 use borrow.Author.Needs.{needs}
 use Rattle.device.proofs.accept.accept.Statement.{statement}
 use Rattle.device.proofs.accept.accept.Tie as tie
+
+-- the two kinds of the updates' arm
+updating : (k : Kind) → (tagOf the-type k ≡ 2) ⊎ (tagOf the-type k ≡ 3) → (k ≡ Update) ⊎ (k ≡ PathUpdate)
+updating Program e = absurd (⊎-elim (λ (z : _≡_ {A = ℕ} 0 2). omega arith) (λ (z : _≡_ {A = ℕ} 0 3). omega arith) e)
+updating Block e = absurd (⊎-elim (λ (z : _≡_ {A = ℕ} 1 2). omega arith) (λ (z : _≡_ {A = ℕ} 1 3). omega arith) e)
+updating Update e = inl refl
+updating PathUpdate e = inr refl
+updating Unknown e = absurd (⊎-elim (λ (z : _≡_ {A = ℕ} 4 2). omega arith) (λ (z : _≡_ {A = ℕ} 4 3). omega arith) e)
+
+-- An update of either kind has its block whole, and room for it.
+enough : (s : tie.Start) → (s .args .kind ≡ Update) ⊎ (s .args .kind ≡ PathUpdate)
+    → (let m = s .args .message .now in let s' = manifestIn m in (leastUpdate (s' .«block_len») (s' .«image_len») (updateNumber m) ≤ length m) × (programLength s' ≤ length (s .args .flash .now)) × (0 < updateNumber m) × (updateNumber m ≤ countOf s'))
+enough s (inl k) = let p = update-passed digest valid _ _ _ (sym (s .pre .0) ∙ k) (s .pre .1) .successor in (p .long, p .room, p .turn .0, p .turn .1)
+enough s (inr k) = let p = path-passed digest valid _ _ _ (sym (s .pre .0) ∙ k) (s .pre .1) in (path-block digest valid _ _ _ p, p .successor .room, p .successor .turn .0, p .successor .turn .1)
 
 enum-told : tie.Need-enum-told
 enum-told c = search needs
@@ -20,26 +44,11 @@ enum-told-2 c = search needs
 accept-block-requires : tie.Need-accept-block-requires
 accept-block-requires c κs = let s = c .before .before .before .before .before in (sym (s .pre .0) ∙ c .before .enum-told2 .given .1, s .pre .1)
 
+accept-update-requires : tie.Need-accept-update-requires
+accept-update-requires c κs = let s = c .before .before .before .before in enough s (updating _ (c .before .match .keys3))
+
 enum-told-3 : tie.Need-enum-told-3
 enum-told-3 c = search needs
-
-accept-update-requires : tie.Need-accept-update-requires
-accept-update-requires c κs =
-    let s = c .before .before .before .before .before in
-    let p = update-passed digest valid _ _ _ (sym (s .pre .0) ∙ c .before .enum-told3 .given .1) (s .pre .1) .successor in
-    (p .long, p .room, p .turn .0, p .turn .1)
-
-enum-told-4 : tie.Need-enum-told-4
-enum-told-4 c = search needs
-
-accept-update-requires-2 : tie.Need-accept-update-requires-2
-accept-update-requires-2 c κs =
-    let s = c .before .before .before .before .before in
-    let p = path-passed digest valid _ _ _ (sym (s .pre .0) ∙ c .before .enum-told4 .given .1) (s .pre .1) in
-    (path-block digest valid _ _ _ p, p .successor .room, p .successor .turn .0, p .successor .turn .1)
-
-enum-told-5 : tie.Need-enum-told-5
-enum-told-5 c = search needs
 
 returns : tie.Need-returns
 unfolding accept
@@ -57,18 +66,14 @@ same-length-2 c = search needs
 
 returns-3 : tie.Need-returns-3
 unfolding accept
-returns-3 c = rw (c .before .before .before .before .enum-told3 .given .1) (c .before .before .accept-update .ensures)
-
-same-length-3 : tie.Need-same-length-3
-same-length-3 c = search needs
+returns-3 c =
+    let u = c .before .before in
+    let k = u .before .before .before .before .before .args .kind in
+    ⊎-elim (λ (e : k ≡ Update). rw e (u .accept-update .ensures)) (λ (e : k ≡ PathUpdate). rw e (u .accept-update .ensures)) (updating k (u .before .before .match .keys3))
 
 returns-4 : tie.Need-returns-4
 unfolding accept
-returns-4 c = rw (c .before .before .before .before .enum-told4 .given .1) (c .before .before .accept-update2 .ensures)
-
-returns-5 : tie.Need-returns-5
-unfolding accept
-returns-5 c = rw (c .enum-told5 .given .1) refl
+returns-4 c = rw (c .enum-told3 .given .1) refl
 
 pub accept-spec : {M : Type 1} → statement M
 accept-spec =
@@ -78,16 +83,11 @@ accept-spec =
     accept-program-requires
     enum-told-2
     accept-block-requires
-    enum-told-3
     accept-update-requires
-    enum-told-4
-    accept-update-requires-2
-    enum-told-5
+    enum-told-3
     returns
     same-length
     returns-2
     same-length-2
     returns-3
-    same-length-3
-    returns-4
-    returns-5)
+    returns-4)
