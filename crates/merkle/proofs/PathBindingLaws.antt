@@ -3,15 +3,16 @@ use mathlib.Core.Path.{_≡_, refl, sym, ap, ap₂, _∙_}
 use mathlib.Core.Logic.{_⊎_, inl, inr, ⊎-elim}
 use mathlib.Core.Bool.{Bool, true, false}
 use mathlib.Core.List.{List, [], _∷_, _++_, List·Memᴰ·head, Memᴰ·append-left, Memᴰ·append-right, append-cancel-left, List-discrete}
-use Prim.Native.Nat.{ℕ, zero, suc, _+_, _<_}
+use Prim.Native.Nat.{ℕ, zero, suc, _+_}
 use native.Mathlib.Nat.{add-zero}
 use native.Mathlib.Omega.{arith}
 use native.Mathlib.Decide.{ℕ-discrete}
 use lib.ListN.{length, length-append}
 use Rattle.merkle.specs.Limits.{hashLength}
-use Rattle.merkle.specs.Shape.{Shape, leaf, node, size, Place}
+use Rattle.merkle.specs.Shape.{Shape, leaf, node, Place}
 use Rattle.merkle.specs.Hash.{Hashing, leafInput, leafHash, hash, hashes, input}
 use Rattle.merkle.specs.Path.{pathSiblings, way, besideInput, ascend, ascendInputs, pathHash, pathInputs, PathCollision}
+use Rattle.merkle.specs.Claims.{PathBinds}
 use Rattle.merkle.proofs.HashLaws.{append-inj, hashes-last, hash-input, length-hash}
 use Rattle.merkle.proofs.PathLaws.{Down, on-way, length-last, top, path-node, inputs-node}
 
@@ -96,12 +97,11 @@ module _ (H : Hashing) (sized : (x : List ℕ) → length (H .function x) ≡ ha
             }))
             (ih (sym (w .0)))
 
-  pub path-binding : (f : ℕ → List ℕ) (b : List ℕ) (o : ℕ) (s : Shape) (i : ℕ) → i < size s → (ys : List (List ℕ)) → length (way o s i) ≡ length ys
-      → pathHash H o s i b ys ≡ hash H f o s → Bound f b ys o s i
-  path-binding f b =
-      on-way (λ o s i. (ys : List (List ℕ)) → length (way o s i) ≡ length ys → pathHash H o s i b ys ≡ hash H f o s → Bound f b ys o s i)
-      (λ o ys n e. bound-leaf f b ys o n e)
-      (λ o l r i d ih ys n e.
-      let ws : List (Place × Bool) = way (d .start) (d .half) (d .index) in
-      let k = last-of ys (length ws) (sym n ∙ ap length (d .way-is) ∙ length-last ws ((o, node l r), d .right)) in
-      rw (k .2) (bound-node f b o l r i d (k .0) (k .1) (sym (k .3)) (rw (k .2) at e) (ih (k .0) (sym (k .3)))))
+pub path-binding : PathBinds
+path-binding H sized f b =
+    on-way (λ o s i. (ys : List (List ℕ)) → length (way o s i) ≡ length ys → pathHash H o s i b ys ≡ hash H f o s → Bound H sized f b ys o s i)
+    (λ o ys n e. bound-leaf H sized f b ys o n e)
+    (λ o l r i d ih ys n e.
+    let ws : List (Place × Bool) = way (d .start) (d .half) (d .index) in
+    let k = last-of ys (length ws) (sym n ∙ ap length (d .way-is) ∙ length-last ws ((o, node l r), d .right)) in
+    rw (k .2) (bound-node H sized f b o l r i d (k .0) (k .1) (sym (k .3)) (rw (k .2) at e) (ih (k .0) (sym (k .3)))))

@@ -12,6 +12,7 @@ use Rattle.merkle.specs.Blocks.{overlay}
 use Rattle.merkle.specs.Shape.{Shape, leaf, node, size, Place}
 use Rattle.merkle.specs.Hash.{Hashing, leafHash, hash, hashes, input}
 use Rattle.merkle.specs.Path.{pathSiblings, way, besideInput, ascend, ascendInputs, pathHash, pathInputs}
+use Rattle.merkle.specs.Claims.{PathLeads, PathOther}
 use Rattle.merkle.proofs.ShapeLaws.{lt-or-le, size-node}
 use Rattle.merkle.proofs.BlockLaws.{overlay-same, overlay-other, overlay-is}
 use Rattle.merkle.proofs.HashLaws.{length-hashes, hashes-last, hash-input, hash-same}
@@ -122,20 +123,21 @@ module _ (H : Hashing) where
     unfolding pathHash pathInputs
     inputs-node = rw (d .way-is, inputs-last (leafHash H b) (way (d .start) (d .half) (d .index)) ys ((o, node l r), d .right) y count, sym (d .block-is))
 
-  -- The root is worked out from a block and its siblings' hashes.
-  pub hash-path : (f : ℕ → List ℕ) (o : ℕ) (s : Shape) (i : ℕ) → i < size s → hash H f o s ≡ pathHash H o s i (f (o + i)) (hashes H f (pathSiblings o s i))
-  hash-path f =
-      on-way (λ o s i. hash H f o s ≡ pathHash H o s i (f (o + i)) (hashes H f (pathSiblings o s i)))
-      (λ o. unfold hash in unfold pathHash in unfold way in unfold ascend in (ap (λ k. leafHash H (f k)) (sym (add-zero o))))
-      (λ o l r i d e.
-      let ps : List Place = pathSiblings (d .start) (d .half) (d .index) in
-      hash-input H f o (node l r) ∙ ap (H .function) (d .input-is H f)
-      ∙ ap (λ x. H .function (besideInput H x (d .right) (hash H f (d .from) (d .beside))))
-      (e ∙ ap (λ k. pathHash H (d .start) (d .half) (d .index) (f k) (hashes H f ps)) (d .block-is))
-      ∙ sym (path-node o l r i d (f (o + i)) (hashes H f ps) (hash H f (d .from) (d .beside))
-      (length-way (d .start) (d .half) (d .index) (d .within) ∙ sym (length-hashes H f ps)))
-      ∙ ap (pathHash H o (node l r) i (f (o + i))) (sym (ap (hashes H f) (d .siblings-are) ∙ hashes-last H f ps (d .from) (d .beside))))
+-- The root is worked out from a block and its siblings' hashes.
+pub hash-path : PathLeads
+hash-path H f =
+    on-way (λ o s i. hash H f o s ≡ pathHash H o s i (f (o + i)) (hashes H f (pathSiblings o s i)))
+    (λ o. unfold hash in unfold pathHash in unfold way in unfold ascend in (ap (λ k. leafHash H (f k)) (sym (add-zero o))))
+    (λ o l r i d e.
+    let ps : List Place = pathSiblings (d .start) (d .half) (d .index) in
+    hash-input H f o (node l r) ∙ ap (H .function) (d .input-is H f)
+    ∙ ap (λ x. H .function (besideInput H x (d .right) (hash H f (d .from) (d .beside))))
+    (e ∙ ap (λ k. pathHash H (d .start) (d .half) (d .index) (f k) (hashes H f ps)) (d .block-is))
+    ∙ sym (path-node H o l r i d (f (o + i)) (hashes H f ps) (hash H f (d .from) (d .beside))
+    (length-way (d .start) (d .half) (d .index) (d .within) ∙ sym (length-hashes H f ps)))
+    ∙ ap (pathHash H o (node l r) i (f (o + i))) (sym (ap (hashes H f) (d .siblings-are) ∙ hashes-last H f ps (d .from) (d .beside))))
 
+module _ (H : Hashing) where
   -- A block's siblings do not depend on it.
   siblings-other : (f g : ℕ → List ℕ) (at : ℕ) → ((j : ℕ) → j ≢ at → f j ≡ g j) → (o : ℕ) (s : Shape) (i : ℕ) → i < size s → o + i ≡ at
       → hashes H f (pathSiblings o s i) ≡ hashes H g (pathSiblings o s i)
@@ -153,11 +155,10 @@ module _ (H : Hashing) where
       → hash H (overlay f at b) 0 s ≡ pathHash H 0 s at b (hashes H f (pathSiblings 0 s at))
   hash-replaced f s at b h =
       let z : 0 + at ≡ at = omega arith in
-      hash-path (overlay f at b) 0 s at h
+      hash-path H (overlay f at b) 0 s at h
       ∙ ap₂ (pathHash H 0 s at) (ap (overlay f at b) z ∙ overlay-same f at b) (siblings-other (overlay f at b) f at (overlay-other f at b) 0 s at h z)
 
-  -- A block's siblings lead to the root of every tree that differs in that block at most.
-  pub path-other : (f g : ℕ → List ℕ) (s : Shape) (i : ℕ) → i < size s → ((j : ℕ) → j < size s → j ≢ i → f j ≡ g j)
-      → pathHash H 0 s i (g i) (hashes H f (pathSiblings 0 s i)) ≡ hash H g 0 s
-  path-other f g s i h other =
-      sym (hash-replaced f s i (g i) h) ∙ hash-same H {o = 0} {u = 0} s (record { block = λ j k. let z : 0 + j ≡ j = omega arith in rw z (overlay-is f g i j (other j k)) })
+-- A block's siblings lead to the root of every tree that differs in that block at most.
+pub path-other : PathOther
+path-other H f g s i h other =
+    sym (hash-replaced H f s i (g i) h) ∙ hash-same H {o = 0} {u = 0} s (record { block = λ j k. let z : 0 + j ≡ j = omega arith in rw z (overlay-is f g i j (other j k)) })

@@ -1,9 +1,9 @@
 -- A block's siblings written from the highest down, on the way from the whole tree to the block.
 use mathlib.Core.Path.{_≡_, refl, sym, ap, ap₂, subst, _∙_}
-use mathlib.Core.Logic.{_≢_}
+use mathlib.Core.Logic.{_≢_, ⊎-elim}
 use mathlib.Core.Bool.{Bool, true, false, cond}
 use mathlib.Core.List.{List, [], _∷_, _++_}
-use Prim.Native.Nat.{ℕ, suc, _+_, _-_, _*_, _≤_, _<_}
+use Prim.Native.Nat.{ℕ, _+_, _-_, _*_, _≤_, _<_}
 use native.Mathlib.Omega.{arith}
 use lib.Dec.{ltb}
 use lib.ListN.{length, drop}
@@ -14,99 +14,68 @@ use Rattle.merkle.specs.Shape.{Shape, leaf, node, size, split, shape, Pl
 use Rattle.merkle.specs.Hash.{Hashing, hash, hashes, rootOver}
 use Rattle.merkle.specs.Path.{pathSiblings, leafDepth, sentPath, pathHash}
 use Rattle.merkle.specs.Held.{hashesIn}
-use Rattle.merkle.proofs.ShapeLaws.{size-shape, split-between}
-use Rattle.merkle.proofs.HashLaws.{Same, same-left, same-right, hash-same, length-hash, length-hashes, hashes-last}
+use Rattle.merkle.proofs.ShapeLaws.{lt-or-le, size-shape, split-between}
+use Rattle.merkle.proofs.HashLaws.{Same, same-left, same-right, hash-same, length-hashes, hashes-last}
 use Rattle.merkle.proofs.HeldLaws.{length-joined}
 use Rattle.merkle.proofs.FitsLaws.{sized-hashes, hashes-back}
 use Rattle.merkle.proofs.PathLaws.{path-other}
-use Rattle.merkle.proofs.WayLaws.{depth-some, depth-left, depth-right, siblings-left, siblings-right, siblings-none, depth-at}
+use Rattle.merkle.proofs.WayLaws.{siblings-left, siblings-right, siblings-none, depth-at}
 use Rattle.merkle.proofs.WritingLaws.{Filling, filling-none, filling-room, filling-one, filling-all}
 
-module _ (H : Hashing) (hash-long : (x : List ℕ) → length (H .function x) ≡ hashLength) (f : ℕ → List ℕ) (n before : ℕ) (out : List ℕ) where
-  abbrev all : List (List ℕ)
-  all = hashes H f (pathSiblings 0 (shape n) before)
-
+module _ (H : Hashing) (f : ℕ → List ℕ) (n before : ℕ) (out : List ℕ) where
   -- The block is block i of the subtree over m blocks that starts after `first`; the siblings within that are still to be written.
   pub record Inside (now : List ℕ) (first m i depth : ℕ) : Type 0 where
     pub low : i < m
     pub high : first + m ≤ n
-    pub count : depth ≡ leafDepth m i
-    pub filling : Filling all out now (hashes H f (pathSiblings first (shape m) i))
-
-  long : length all ≡ leafDepth n before
-  long = length-hashes H f (pathSiblings 0 (shape n) before) ∙ depth-at 0 n before
+    pub filling : Filling H f (pathSiblings 0 (shape n) before) out now (pathSiblings first (shape m) i) depth
 
   pub inside-all : before < n → (depth : ℕ) → depth ≡ leafDepth n before → hashLength * leafDepth n before ≤ length out → Inside out 0 n before depth
-  inside-all h depth e room = record { low = h; high = omega arith; count = e; filling = filling-none all out (omega (arith, long)) }
+  inside-all h depth e room =
+      record { low = h; high = omega arith; filling = filling-none H f (pathSiblings 0 (shape n) before) out depth (e ∙ sym (depth-at 0 n before)) (rw e room) }
 
-  module _ (now : List ℕ) (first m i depth k : ℕ) (w : Inside now first m i depth) (big : 1 < m) (is : k ≡ split m) where
-    -- one sibling, place p, is next; those below it are ps
-    module _ (ps : List Place) (o : ℕ) (c : ℕ) (same : pathSiblings first (shape m) i ≡ ps ++ ((o, shape c) ∷ [])) (few : leafDepth m i ≡ suc (length ps)) where
-      abbrev x : List ℕ
-      x = hash H f o (shape c)
-
-      next : Filling all out now (hashes H f ps ++ (x ∷ []))
-      next = subst (Filling all out now) (ap (hashes H f) same ∙ hashes-last H f ps o (shape c)) (w .filling)
-
-      index : hashLength * length (hashes H f ps) ≡ hashLength * (depth - 1)
-      index = let e = w .count in omega (arith, length-hashes H f ps, few)
-
-      space : hashLength * (depth - 1) + hashLength ≤ length now
-      space = omega (arith, filling-room all out now (hashes H f ps) x next, index)
-
-      written : Filling all out (paste now (hashLength * (depth - 1)) x hashLength) (hashes H f ps)
-      written =
-          let l : length x ≡ hashLength = length-hash H hash-long f o (shape c) in
-          subst (λ z. Filling all out z (hashes H f ps)) (ap₂ (λ j t. paste now j x t) index l) (filling-one all out now (hashes H f ps) x next l)
-
+module _ {H : Hashing} {f : ℕ → List ℕ} {n before : ℕ} {out now : List ℕ} {first m i depth : ℕ} (w : Inside H f n before out now first m i depth) where
+  module _ {k : ℕ} (is : k ≡ split m) (big : 1 < m) where
     between : (0 < k) × (k < m)
     between = split-between m k big is
 
     module _ (lt : i < k) where
-      fewer-left : leafDepth m i ≡ suc (length (pathSiblings first (shape k) i))
-      fewer-left = depth-left m i k big is lt ∙ ap suc (sym (depth-at first k i))
+      pub left-room : (0 < depth) × (hashLength * (depth - 1) + hashLength ≤ length now)
+      left-room = filling-room (w .filling) (pathSiblings first (shape k) i) (first + k) (shape (m - k)) (siblings-left first m i k big is lt)
 
-      pub left-space : hashLength * (depth - 1) + hashLength ≤ length now
-      left-space = space (pathSiblings first (shape k) i) (first + k) (m - k) (siblings-left first m i k big is lt) fewer-left
-
-      pub to-left : Inside (paste now (hashLength * (depth - 1)) (hash H f (first + k) (shape (m - k))) hashLength) first k i (depth - 1)
-      to-left =
+      pub to-left : ((x : List ℕ) → length (H .function x) ≡ hashLength)
+          → Inside H f n before out (paste now (hashLength * (depth - 1)) (hash H f (first + k) (shape (m - k))) hashLength) first k i (depth - 1)
+      to-left sized =
           let h = w .high in
-          let e = w .count in
           record {
             low = lt;
             high = omega (arith, between);
-            count = omega (arith, depth-left m i k big is lt);
-            filling = written (pathSiblings first (shape k) i) (first + k) (m - k) (siblings-left first m i k big is lt) fewer-left;
+            filling = filling-one (w .filling) (pathSiblings first (shape k) i) (first + k) (shape (m - k)) (siblings-left first m i k big is lt) sized;
           }
 
     module _ (le : k ≤ i) where
-      fewer-right : leafDepth m i ≡ suc (length (pathSiblings (first + k) (shape (m - k)) (i - k)))
-      fewer-right = depth-right m i k big is le (w .low) ∙ ap suc (sym (depth-at (first + k) (m - k) (i - k)))
+      pub right-room : (0 < depth) × (hashLength * (depth - 1) + hashLength ≤ length now)
+      right-room = filling-room (w .filling) (pathSiblings (first + k) (shape (m - k)) (i - k)) first (shape k) (siblings-right first m i k big is le (w .low))
 
-      pub right-space : hashLength * (depth - 1) + hashLength ≤ length now
-      right-space = space (pathSiblings (first + k) (shape (m - k)) (i - k)) first k (siblings-right first m i k big is le (w .low)) fewer-right
-
-      pub to-right : Inside (paste now (hashLength * (depth - 1)) (hash H f first (shape k)) hashLength) (first + k) (m - k) (i - k) (depth - 1)
-      to-right =
+      pub to-right : ((x : List ℕ) → length (H .function x) ≡ hashLength)
+          → Inside H f n before out (paste now (hashLength * (depth - 1)) (hash H f first (shape k)) hashLength) (first + k) (m - k) (i - k) (depth - 1)
+      to-right sized =
           let h = w .high in
-          let e = w .count in
           let l = w .low in
           record {
             low = omega arith;
             high = omega (arith, between);
-            count = omega (arith, depth-right m i k big is le (w .low));
-            filling = written (pathSiblings (first + k) (shape (m - k)) (i - k)) first k (siblings-right first m i k big is le (w .low)) fewer-right;
+            filling = filling-one (w .filling) (pathSiblings (first + k) (shape (m - k)) (i - k)) first (shape k) (siblings-right first m i k big is le l) sized;
           }
 
     pub some-left : 0 < depth
-    some-left = let e = w .count in omega (arith, depth-some m i k big is (w .low))
+    some-left = ⊎-elim (λ h. left-room h .0) (λ h. right-room h .0) (lt-or-le i k)
 
-  pub inside-done : (now : List ℕ) (first m i depth : ℕ) → m ≤ 1 → Inside now first m i depth → now ≡ sentPath H n f before ++ drop (hashLength * leafDepth n before) out
-  unfolding sentPath hashes
-  inside-done now first m i depth h w =
-      filling-all all out now (subst (λ ps. Filling all out now (hashes H f ps)) (siblings-none first m i h) (w .filling))
-      ∙ ap (λ c. joined all ++ drop (hashLength * c) out) long
+  pub inside-done : m ≤ 1 → now ≡ sentPath H n f before ++ drop (hashLength * leafDepth n before) out
+  unfolding sentPath
+  inside-done h =
+      let all : List Place = pathSiblings 0 (shape n) before in
+      filling-all (subst (λ ps. Filling H f all out now ps depth) (siblings-none first m i h) (w .filling))
+      ∙ ap (λ c. joined (hashes H f all) ++ drop (hashLength * c) out) (depth-at 0 n before)
 
 -- What the sender sends of a path depends on the blocks alone, and is as long as the leaf is deep.
 module _ (H : Hashing) where

@@ -1,11 +1,11 @@
 -- The largest subtree at a block found by halving, and its right siblings written from the highest down.
-use mathlib.Core.Path.{_≡_, refl, sym, ap, ap₂, _∙_}
-use mathlib.Core.List.{List, [], _∷_, _++_, append-assoc, append-nil}
+use mathlib.Core.Path.{_≡_, refl, sym, ap, subst, _∙_}
+use mathlib.Core.List.{List, [], _∷_, _++_}
 use Prim.Native.Nat.{ℕ, suc, _+_, _-_, _*_, _≤_, _<_}
 use native.Mathlib.Nat.{zero-add}
 use native.Mathlib.Omega.{arith}
-use lib.ListN.{length, take, drop, length-append, take-append-drop}
-use lib.Seq.{paste, length-paste, length-take-le, take-append-le, take-take, take-length, drop-at}
+use lib.ListN.{length, drop}
+use lib.Seq.{paste}
 use Rattle.octets.specs.Octets.{joined}
 use Rattle.merkle.specs.Limits.{hashLength}
 use Rattle.merkle.specs.Shape.{split, shape, Place}
@@ -14,7 +14,7 @@ use Rattle.merkle.specs.Frontier.{largest, rightSiblings, siblings, carr
 use Rattle.merkle.specs.Held.{sent}
 use Rattle.merkle.proofs.ShapeLaws.{shape-leaf, split-between, halves, size-left}
 use Rattle.merkle.proofs.FrontierLaws.{largest-zero, largest-left, largest-right}
-use Rattle.merkle.proofs.HashLaws.{hashes-last}
+use Rattle.merkle.proofs.WritingLaws.{Filling, filling-none, filling-room, filling-one, filling-all}
 
 -- The largest subtree that starts after `before` of n blocks is the largest after i of m blocks that stand within the n.
 pub record Within (n before m i : ℕ) : Type 0 where
@@ -76,93 +76,39 @@ siblings-halves : (o m k : ℕ) → 1 < m → k ≡ split m → rightSiblings o 
 siblings-halves o m k big is =
     rw (halves m k big is) (unfold rightSiblings in (ap (λ x. rightSiblings o (shape k) ++ ((o + x, shape (m - k)) ∷ [])) (size-left m k big is)))
 
-module _ (H : Hashing) (f : ℕ → List ℕ) (before many count : ℕ) (out : List ℕ) where
-  -- The hashes of the right siblings above the first m of `many` blocks are written; c are left.
+carried-is : (n before : ℕ) → carriedCount n (before + 1) ≡ length (siblings 0 (shape n) before)
+unfolding carriedCount
+carried-is n before = let z : before + 1 ≡ suc before = omega arith in rw z
+
+module _ (H : Hashing) (f : ℕ → List ℕ) (n before : ℕ) (out : List ℕ) where
+  -- The right siblings above the block in the subtree over m blocks that starts with it are still to be written.
   pub record Writing (now : List ℕ) (m c : ℕ) : Type 0 where
-    pub done : List (List ℕ)
-    pub some : 0 < m
-    pub most : m ≤ many
-    pub all : hashes H f (rightSiblings before (shape many)) ≡ hashes H f (rightSiblings before (shape m)) ++ done
-    pub left : c ≡ length (rightSiblings before (shape m))
-    pub room : hashLength * c ≤ length out
-    pub stands : now ≡ take (hashLength * c) out ++ (joined done ++ drop (hashLength * count) out)
-    pub same : length now ≡ length out
+    pub high : before + m ≤ n
+    pub filling : Filling H f (siblings 0 (shape n) before) out now (rightSiblings before (shape m)) c
 
-  pub writing-none : 0 < many → count ≡ length (rightSiblings before (shape many)) → hashLength * count ≤ length out → Writing out many count
-  unfolding joined
-  writing-none pos e h =
-      record {
-        done = [];
-        some = pos;
-        most = omega arith;
-        all = sym (append-nil (hashes H f (rightSiblings before (shape many))));
-        left = e;
-        room = h;
-        stands = sym (take-append-drop (hashLength * count) out);
-        same = refl;
-      }
+  pub writing-none : (m c : ℕ) → before + m ≤ n → largest 0 (shape n) before ≡ (before, shape m) → c ≡ carriedCount n (before + 1) → hashLength * c ≤ length out → Writing out m c
+  unfolding siblings
+  writing-none m c h e is room =
+      let all = filling-none H f (siblings 0 (shape n) before) out c (is ∙ carried-is n before) room in
+      record { high = h; filling = subst (λ (p : Place). Filling H f (siblings 0 (shape n) before) out out (rightSiblings (p .0) (p .1)) c) e all }
 
-  module _ (now : List ℕ) (m c k : ℕ) (w : Writing now m c) (big : 1 < m) (is : k ≡ split m) where
-    one-more : c ≡ suc (length (rightSiblings before (shape k)))
-    one-more = w .left ∙ ap length (siblings-halves before m k big is) ∙ length-append (rightSiblings before (shape k)) ((before + k, shape (m - k)) ∷ []) ∙ omega arith
-
-    -- there is one to write, and room for it
+module _ {H : Hashing} {f : ℕ → List ℕ} {n before : ℕ} {out now : List ℕ} {m c : ℕ} (w : Writing H f n before out now m c) where
+  module _ {k : ℕ} (is : k ≡ split m) (big : 1 < m) where
     pub writing-room : (0 < c) × (hashLength * (c - 1) + hashLength ≤ length now)
-    writing-room =
-        let e = one-more in
-        let r = w .room in
-        let s = w .same in
-        (omega arith, omega arith)
+    writing-room = filling-room (w .filling) (rightSiblings before (shape k)) (before + k) (shape (m - k)) (siblings-halves before m k big is)
 
-    pub writing-one : (x : List ℕ) → length x ≡ hashLength → x ≡ hash H f (before + k) (shape (m - k))
-        → Writing (paste now (hashLength * (c - 1)) x (length x)) k (c - 1)
-    unfolding joined
-    writing-one x lx e =
-        let s = split-between m k big is in
-        let most = w .most in
-        let one = one-more in
-        let r = w .room in
-        let rest = joined (w .done) ++ drop (hashLength * count) out in
-        let len : length (take (hashLength * c) out) ≡ hashLength * c = length-take-le (hashLength * c) out r in
-        let end : hashLength * (c - 1) + length x ≡ hashLength * c = omega arith in
-        let xs = hashes H f (rightSiblings before (shape k)) in
+    pub writing-one : ((x : List ℕ) → length (H .function x) ≡ hashLength)
+        → Writing H f n before out (paste now (hashLength * (c - 1)) (hash H f (before + k) (shape (m - k))) hashLength) k (c - 1)
+    writing-one sized =
+        let h = w .high in
         record {
-          done = x ∷ w .done;
-          some = s .0;
-          most = omega arith;
-          all = w .all ∙ ap (λ (ys : List (List ℕ)). ys ++ w .done)
-              (ap (hashes H f) (siblings-halves before m k big is) ∙ hashes-last H f (rightSiblings before (shape k)) (before + k) (shape (m - k)))
-              ∙ append-assoc xs (hash H f (before + k) (shape (m - k)) ∷ []) (w .done) ∙ ap (λ (y : List ℕ). xs ++ (y ∷ w .done)) (sym e);
-          left = omega arith;
-          room = omega arith;
-          stands = ap (λ (z : List ℕ). paste z (hashLength * (c - 1)) x (length x)) (w .stands)
-              ∙ rw (
-                end,
-                take-append-le (hashLength * (c - 1)) (take (hashLength * c) out) rest (omega arith),
-                take-take (hashLength * (c - 1)) (hashLength * c) out (omega arith),
-                drop-at (take (hashLength * c) out) rest (hashLength * c) len,
-                take-length x,
-              )
-              (append-assoc (take (hashLength * (c - 1)) out) x rest ∙ ap (λ (z : List ℕ). take (hashLength * (c - 1)) out ++ z) (sym (append-assoc x (joined (w .done)) (drop (hashLength * count) out))));
-          same = length-paste now (hashLength * (c - 1)) x (length x) (let v = writing-room in omega arith) (omega arith) ∙ w .same;
+          high = omega (arith, split-between m k big is);
+          filling = filling-one (w .filling) (rightSiblings before (shape k)) (before + k) (shape (m - k)) (siblings-halves before m k big is) sized;
         }
 
-  pub writing-all : (now : List ℕ) (m c : ℕ) → m ≤ 1 → Writing now m c → now ≡ joined (hashes H f (rightSiblings before (shape many))) ++ drop (hashLength * count) out
-  writing-all now m c h w =
-      let none : rightSiblings before (shape m) ≡ [] = ap (rightSiblings before) (shape-leaf m h) ∙ unfold rightSiblings in refl in
-      let z : hashLength * c ≡ 0 = ap (λ x. hashLength * x) (w .left ∙ ap length none) in
-      let d : hashes H f (rightSiblings before (shape many)) ≡ w .done =
-      w .all ∙ ap (λ ps. hashes H f ps ++ w .done) none ∙ unfold hashes in refl in
-      w .stands ∙ ap₂ {C = List ℕ} (λ x y. take x out ++ (joined y ++ drop (hashLength * count) out)) z (sym d)
-
--- They are what the sender puts into the message.
-pub sent-is : (H : Hashing) (n : ℕ) (f : ℕ → List ℕ) (before many : ℕ) → largest 0 (shape n) before ≡ (before, shape many)
-    → sent H n f before ≡ joined (hashes H f (rightSiblings before (shape many)))
-unfolding sent siblings
-sent-is H n f before many e = ap (λ (x : Place). joined (hashes H f (rightSiblings (x .0) (x .1)))) e
-
-pub carried-is : (n before many : ℕ) → largest 0 (shape n) before ≡ (before, shape many) → carriedCount n (before + 1) ≡ length (rightSiblings before (shape many))
-unfolding carriedCount siblings
-carried-is n before many e =
-    let z : before + 1 ≡ suc before = omega arith in
-    rw z (ap (λ (x : Place). length (rightSiblings (x .0) (x .1))) e)
+  pub writing-done : m ≤ 1 → now ≡ sent H n f before ++ drop (hashLength * carriedCount n (before + 1)) out
+  unfolding sent rightSiblings
+  writing-done h =
+      let all : List Place = siblings 0 (shape n) before in
+      filling-all (subst (λ s. Filling H f all out now (rightSiblings before s) c) (shape-leaf m h) (w .filling))
+      ∙ ap (λ x. joined (hashes H f all) ++ drop (hashLength * x) out) (sym (carried-is n before))

@@ -9,10 +9,11 @@ use lib.Dec.{ltb, lit≤}
 use lib.ListN.{length, take, drop, length-drop, take-append-drop}
 use lib.Seq.{take-all, length-take-le}
 use Rattle.merkle.specs.Limits.{maxBlocks, maxHeld, hashLength}
-use Rattle.merkle.specs.Shape.{Shape, leaf, node, size, height, split, shape, Place}
+use Rattle.merkle.specs.Shape.{Shape, leaf, node, size, height, leastFrom, depth, split, build, shape, Place}
 use Rattle.merkle.specs.Hash.{Hashing, leafHash, nodeHash}
 use Rattle.merkle.specs.Path.{pathSiblings, leafDepth, way, besideInput, ascend, pathHash}
 use Rattle.merkle.specs.Held.{hashesIn}
+use Rattle.merkle.specs.Claims.{LeafDepths}
 use Rattle.merkle.proofs.ShapeLaws.{lt-or-le, depth-known, shape-leaf, halves, size-left, size-shape}
 use Rattle.merkle.proofs.HeldLaws.{length-hashesIn, hashesIn-append}
 use Rattle.merkle.proofs.PathLaws.{down-left, down-right, length-last, length-way, path-node}
@@ -52,7 +53,7 @@ module _ (n i k : ℕ) (big : 1 < n) (is : k ≡ split n) where
 pub depth-some : (n i k : ℕ) → 1 < n → k ≡ split n → i < n → 0 < leafDepth n i
 depth-some n i k big is lt = ⊎-elim (λ h. omega (arith, depth-left n i k big is h)) (λ h. omega (arith, depth-right n i k big is h lt)) (lt-or-le i k)
 
--- There are no more than the tree is high, so at most as many as hashes are held.
+-- There are no more than the tree is high.
 path-height : (o : ℕ) (s : Shape) (i : ℕ) → length (pathSiblings o s i) ≤ height s
 unfolding pathSiblings height
 path-height o leaf i = omega arith
@@ -63,9 +64,13 @@ path-height o (node l r) i = go (ltb i (size l)) (path-height o l i) (path-heigh
     go true e f = omega (arith, length-last (pathSiblings o l i) (o + size l, r))
     go false e f = omega (arith, length-last (pathSiblings (o + size l) r (i - size l)) (o, l))
 
+pub leaf-depths : LeafDepths
+unfolding size leastFrom depth split build shape pathSiblings leafDepth
+leaf-depths = ((refl, refl, refl), λ n i pos. omega (arith, path-height 0 (shape n) i, depth-known n .2 pos))
+
+-- So there are at most as many as hashes are held.
 pub depth-few : (n i : ℕ) → 0 < n → n ≤ maxBlocks → leafDepth n i ≤ maxHeld
-unfolding leafDepth
-depth-few n i pos h = omega (arith, path-height 0 (shape n) i, depth-known n .2 pos, depth-known n .1 maxHeld (omega (arith, limit)))
+depth-few n i pos h = omega (arith, leaf-depths .1 n i pos, depth-known n .1 maxHeld (omega (arith, limit)))
   where
     limit : maxBlocks ≤ 2 ^ maxHeld
     limit = lit≤ tt

@@ -1,6 +1,6 @@
 -- What is shown of the definitions (in proofs/), in 01's order.
 use mathlib.Core.Path.{_≡_}
-use mathlib.Core.Logic.{_↔_}
+use mathlib.Core.Logic.{_⊎_, _↔_, _≢_}
 use mathlib.Core.List.{List, [], _∷_, _++_, List·Memᴰ}
 use Prim.Native.Nat.{ℕ, suc, _+_, _-_, _*_, _^_, max, _≤_, _<_}
 use lib.ListN.{length}
@@ -9,6 +9,7 @@ use Rattle.merkle.specs.Blocks.{blockCount}
 use Rattle.merkle.specs.Shape.{Shape, leaf, node, size, height, depth, split, shape, Place, places}
 use Rattle.merkle.specs.Hash.{Hashing, hash, hashes, climb}
 use Rattle.merkle.specs.Frontier.{largest, rightSiblings, siblings, carriedCount, frontier, heldCount}
+use Rattle.merkle.specs.Path.{pathSiblings, leafDepth, way, pathHash, PathCollision}
 use Rattle.merkle.specs.Held.{hashesIn, heldIn, nextHeld, begun, advanced}
 
 -- "Its count n is T/L rounded up": n blocks hold the T bytes, and n - 1 do not.
@@ -112,3 +113,26 @@ RootAlone = ((o : ℕ) (s : Shape) → frontier o s 0 ≡ (o, s) ∷ []) × ((n 
 -- "Up to 12 labels are held": never more than the tree's depth, or one at depth 0
 abbrev pub HeldAtMost : Type 0
 HeldAtMost = (n i : ℕ) → 0 < n → (heldCount n i ≤ max 1 (depth n)) × (n ≤ maxBlocks → heldCount n i ≤ maxHeld)
+
+-- Change 1 of 02: "The old block with these siblings must give the held root": a block and its tree's own siblings lead to the tree's hash.
+abbrev pub PathLeads : Type 0
+PathLeads =
+    (H : Hashing) (f : ℕ → List ℕ) (o : ℕ) (s : Shape) (i : ℕ) → i < size s → hash H f o s ≡ pathHash H o s i (f (o + i)) (hashes H f (pathSiblings o s i))
+
+-- "and the new block with the same ones the new root": with the same siblings the block of every tree that differs in that block at most leads to that tree's root.
+abbrev pub PathOther : Type 0
+PathOther =
+    (H : Hashing) (f g : ℕ → List ℕ) (s : Shape) (i : ℕ) → i < size s → ((j : ℕ) → j < size s → j ≢ i → f j ≡ g j)
+    → pathHash H 0 s i (g i) (hashes H f (pathSiblings 0 s i)) ≡ hash H g 0 s
+
+-- Binding: where a block and siblings, one for each node above it, lead to a tree's hash, they are the tree's own at that place and along the way, or at one place on
+-- the way the tree's hash input and the path's differ and have the same hash.
+abbrev pub PathBinds : Type 0
+PathBinds =
+    (H : Hashing) → ((x : List ℕ) → length (H .function x) ≡ hashLength) → (f : ℕ → List ℕ) (block : List ℕ) (o : ℕ) (s : Shape) (i : ℕ) → i < size s
+    → (ys : List (List ℕ)) → length (way o s i) ≡ length ys → pathHash H o s i block ys ≡ hash H f o s
+    → ((block ≡ f (o + i)) × (ys ≡ hashes H f (pathSiblings o s i))) ⊎ PathCollision H f o s i block ys
+
+-- "32 × the leaf's depth": in the tree over 3 blocks the leaves are 2, 2 and 1 deep, and no leaf is deeper than its tree.
+abbrev pub LeafDepths : Type 0
+LeafDepths = ((leafDepth 3 0 ≡ 2) × (leafDepth 3 1 ≡ 2) × (leafDepth 3 2 ≡ 1)) × ((n i : ℕ) → 0 < n → leafDepth n i ≤ depth n)

@@ -3,8 +3,7 @@ use crate::counting::count;
 use crate::limits::HASH_LEN;
 use crate::node::node;
 use crate::node::split;
-use crate::tree::subtree_hash;
-use octets::copy;
+use crate::tree::put_subtree;
 use sha256::digest;
 ghost use mathlib.Core.Path.{_≡_};
 ghost use mathlib.Core.List.{_++_};
@@ -71,12 +70,8 @@ pub fn write_siblings(
     let mut c = counts.carried;
     while 1 < m {
         let k = split(m);
-        let first = before + k;
-        let from = first * len;
-        let right = subtree_hash(&flash[from..], len, first, m - k, at, block);
         c -= 1;
-        let to = HASH_LEN * c;
-        copy(out, to, &right);
+        put_subtree(out, c, flash, len, before + k, m - k, at, block);
         m = k;
     }
 }

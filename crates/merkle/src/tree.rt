@@ -1,12 +1,16 @@
-// The hash of the tree over blocks in the flash, one of them replaced. Nothing is copied or written.
+// The hash of the tree over blocks in the flash, one of them replaced, and of its subtrees. No block is copied or written.
+use crate::limits::HASH_LEN;
 use crate::node::node;
 use crate::node::split;
+use octets::copy;
 use sha256::digest;
 ghost use mathlib.Core.Path.{_≡_};
 ghost use mathlib.Core.List.{List};
 ghost use Prim.Native.Nat.{ℕ, _+_, _-_, _*_, _^_, _≤_, _<_};
 ghost use lib.ListN.{length, take, drop};
+ghost use lib.Seq.{paste};
 ghost use Rattle.sha256.specs.Sha256 as sha;
+ghost use Rattle.merkle.specs.Limits.{hashLength};
 ghost use Rattle.merkle.specs.Blocks.{cut, overlay};
 ghost use Rattle.merkle.specs.Shape.{shape};
 ghost use Rattle.merkle.specs.Hash.{plain, leafHash, hash, rootOver};
@@ -23,7 +27,7 @@ fn leaf(part: &[u8], len: usize) -> [u8; 32]
 
 // The hash of the subtree over n blocks of len bytes that starts with block `first` (blocks before it), with block `at` replaced if it is one of these. The part
 // is what the flash has from block `first` on, and the answer is the same for every flash that goes on so. Block numbers fit a usize.
-pub fn subtree_hash(
+fn subtree_hash(
     part: &[u8],
     len: usize,
     first: usize,
@@ -53,4 +57,23 @@ pub fn root_with(flash: &[u8], len: usize, n: usize, at: usize, block: &[u8]) ->
     ensures { λ r. ⌜ r ≡ rootOver (plain sha.digest) (overlay (cut len (now (flash .entry))) at (now (block .entry))) n ⌝ }
 {
     subtree_hash(flash, len, 0, n, at, block)
+}
+
+// Puts the hash of a subtree over the same blocks as `root_with` to place `index` of the hashes in `out`.
+pub fn put_subtree(
+    out: &mut [u8],
+    index: usize,
+    flash: &[u8],
+    len: usize,
+    first: usize,
+    n: usize,
+    at: usize,
+    block: &[u8],
+)
+    requires { ⌜ (0 < n) × (first + n < 2 ^ 64) × ((first + n - 1) * len ≤ length (now flash)) × (hashLength * index + hashLength ≤ length (now out)) ⌝ }
+    ensures { λ _. ⌜ now (out .exit) ≡ paste (now (out .entry)) (hashLength * index) (hash (plain sha.digest) (overlay (cut len (now (flash .entry))) at (now (block .entry))) first (shape n)) hashLength ⌝ }
+{
+    let from = first * len;
+    let hash = subtree_hash(&flash[from..], len, first, n, at, block);
+    copy(out, HASH_LEN * index, &hash);
 }

@@ -2,19 +2,17 @@
 use crate::limits::HASH_LEN;
 use crate::node::node;
 use crate::node::split;
-use crate::tree::subtree_hash;
-use octets::copy;
+use crate::tree::put_subtree;
 use sha256::digest;
 ghost use mathlib.Core.Path.{_≡_};
 ghost use mathlib.Core.List.{_++_};
-ghost use Prim.Native.Nat.{_+_, _-_, _*_, _^_, _≤_, _<_};
+ghost use Prim.Native.Nat.{_-_, _*_, _≤_, _<_};
 ghost use lib.ListN.{length, drop};
-ghost use lib.Seq.{paste};
 ghost use Rattle.sha256.specs.Sha256 as sha;
 ghost use Rattle.merkle.specs.Limits.{maxBlocks, hashLength};
 ghost use Rattle.merkle.specs.Blocks.{cut, overlay};
 ghost use Rattle.merkle.specs.Shape.{shape};
-ghost use Rattle.merkle.specs.Hash.{plain, hash};
+ghost use Rattle.merkle.specs.Hash.{plain};
 ghost use Rattle.merkle.specs.Path.{leafDepth, sentPath, pathHash};
 ghost use Rattle.merkle.specs.Held.{hashesIn};
 
@@ -56,25 +54,6 @@ pub fn path_hash(n: usize, before: usize, block: &[u8], siblings: &[u8]) -> [u8;
     }
     let right = path_hash(n - k, before - k, block, &siblings[..below]);
     node(highest, &right)
-}
-
-// Puts the hash of a subtree over the same blocks as `root_with` to place `index` of the hashes in `out`.
-fn put_subtree(
-    out: &mut [u8],
-    index: usize,
-    flash: &[u8],
-    len: usize,
-    first: usize,
-    n: usize,
-    at: usize,
-    block: &[u8],
-)
-    requires { ⌜ (0 < n) × (first + n < 2 ^ 64) × ((first + n - 1) * len ≤ length (now flash)) × (hashLength * index + hashLength ≤ length (now out)) ⌝ }
-    ensures { λ _. ⌜ now (out .exit) ≡ paste (now (out .entry)) (hashLength * index) (hash (plain sha.digest) (overlay (cut len (now (flash .entry))) at (now (block .entry))) first (shape n)) hashLength ⌝ }
-{
-    let from = first * len;
-    let hash = subtree_hash(&flash[from..], len, first, n, at, block);
-    copy(out, HASH_LEN * index, &hash);
 }
 
 // Writes the siblings of the block after `before` of n, over the same blocks as `root_with`. The highest comes first, to its place at the end.

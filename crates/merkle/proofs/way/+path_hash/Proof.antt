@@ -87,7 +87,7 @@ module _ (t : ℕ) where
   slice-node c = search needs
 
   node-requires : lts.Need-node-requires (claims t) (here t) path-hash.Post
-  node-requires c κs = (search needs, high (c .before .before .before .before .before))
+  node-requires c κs = let h = high (c .before .before .before .before .before) in (search needs, search needs)
 
   returns-2 : lts.Need-returns-2 (claims t) (here t) path-hash.Post
   returns-2 c =
@@ -112,7 +112,7 @@ module _ (t : ℕ) where
   slice-node-2 c = search needs
 
   node-requires-2 : lts.Need-node-requires-2 (claims t) (here t) path-hash.Post
-  node-requires-2 c κs = (high (c .before .before .before .before .before), search needs)
+  node-requires-2 c κs = let h = high (c .before .before .before .before .before) in (search needs, search needs)
 
   returns-3 : lts.Need-returns-3 (claims t) (here t) path-hash.Post
   returns-3 c =

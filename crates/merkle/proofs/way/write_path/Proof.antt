@@ -1,33 +1,29 @@
 -- `merkle::way::write_path` meets its contract. The loop's invariant: the siblings within the subtree over m blocks that has the block are still to be written.
-use Prim.Native.Nat.{ℕ, _+_, _-_, _*_, _≤_, _<_}
-use native.Mathlib.Nat.{mul-le-mul-right}
+use Prim.Native.Nat.{_+_, _-_, _<_}
 use native.Mathlib.Omega.{arith}
 use Rattle.sha256.specs.Sha256.{digest}
 use Rattle.sha256.proofs.DigestLaws.{length-digest}
 use Rattle.merkle.specs.Blocks.{cut, overlay}
 use Rattle.merkle.specs.Hash.{plain}
 use Rattle.merkle.proofs.ShapeLaws.{split-between}
-use Rattle.merkle.proofs.PathWritingLaws.{Inside, inside-all, left-space, to-left, right-space, to-right, some-left, inside-done}
+use Rattle.merkle.proofs.TreeLaws.{left-fits}
+use Rattle.merkle.proofs.PathWritingLaws.{Inside, inside-all, left-room, to-left, right-room, to-right, some-left, inside-done}
 use Rattle.merkle.proofs.way.write_path.Statement.{statement}
 use Rattle.merkle.proofs.way.write_path.Tie as tie
 use Rattle.merkle.proofs.way.write_path.Reads as reads
 use Rattle.merkle.proofs.way.write_path.Lts as lts
 use Rattle.merkle.proofs.node.split.Reads as split-reads
 use Rattle.merkle.proofs.way.leaf_depth.Reads as leaf-depth-reads
-use Rattle.merkle.proofs.way.put_subtree.Reads as put-subtree-reads
+use Rattle.merkle.proofs.tree.put_subtree.Reads as put-subtree-reads
 
 abbrev Inv-loop : tie.InvT-loop
-Inv-loop out₀ flash len n before at block first₀ m₀ i₀ depth₀ out first m i depth = Inside (plain digest) length-digest (overlay (cut len flash) at block) n before out₀ out first m i depth
+Inv-loop out₀ flash len n before at block first₀ m₀ i₀ depth₀ out first m i depth = Inside (plain digest) (overlay (cut len flash) at block) n before out₀ out first m i depth
 
 abbrev μ-loop : tie.MeasureT-loop
 μ-loop out₀ flash len n before at block first₀ m₀ i₀ depth₀ out first m i depth = m
 
 abbrev claims : lts.Claims
 claims = (leaf-depth-reads.Asked, leaf-depth-reads.Learnt, split-reads.Asked, split-reads.Learnt, put-subtree-reads.Asked, put-subtree-reads.Learnt)
-
--- the blocks of the subtrees stand in the flash
-whole : (len total n m : ℕ) → m ≤ n → (n - 1) * len ≤ total → (m - 1) * len ≤ total
-whole len total n m h q = let e : m - 1 ≤ n - 1 = omega arith in omega (arith, mul-le-mul-right len e)
 
 known : (c : lts.After-split claims reads.Pre reads.Post Inv-loop μ-loop) → (0 < c .split .result) × (c .split .result < c .before .before .loop .m)
 known c = split-between (c .before .before .loop .m) (c .split .result) (omega arith) (c .split .ensures)
@@ -38,7 +34,7 @@ leaf-depth-requires c κs = c .before .before .before .pre .0
 loop-holds : tie.Need-loop-holds Inv-loop μ-loop
 loop-holds c =
     let s = c .before .before .before .before in
-    inside-all (plain digest) length-digest _ (s .args .n) (s .args .before) (s .args .out .now) (s .pre .0) (c .leaf-depth .result) (c .leaf-depth .ensures) (s .pre .3)
+    inside-all (plain digest) _ (s .args .n) (s .args .before) (s .args .out .now) (s .pre .0) (c .leaf-depth .result) (c .leaf-depth .ensures) (s .pre .3)
 
 split-requires : tie.Need-split-requires Inv-loop μ-loop
 split-requires c κs = omega arith
@@ -46,7 +42,7 @@ split-requires c κs = omega arith
 sub-depth : tie.Need-sub-depth Inv-loop μ-loop
 sub-depth c =
     let l = c .before .before .loop in
-    some-left (plain digest) length-digest _ _ _ _ (l .out) (l .first) (l .m) (l .i) (l .depth) (c .split .result) (l .inv) (omega arith) (c .split .ensures)
+    some-left (l .inv) (c .split .ensures) (omega arith)
 
 add-put-subtree : tie.Need-add-put-subtree Inv-loop μ-loop
 add-put-subtree c = let l = c .before .before .before .before .loop in omega (arith, known (c .before .before), l .inv .high, c .before .before .before .before .before .before .before .before .before .pre .1)
@@ -62,8 +58,8 @@ put-subtree-requires c κs =
     let k = known x in (
       omega arith,
       omega (arith, l .inv .high, s .pre .1),
-      whole (s .args .len) _ (s .args .n) (l .first + x .split .result + (l .m - x .split .result)) (omega (arith, l .inv .high)) (s .pre .2),
-      left-space (plain digest) length-digest _ _ _ _ (l .out) (l .first) (l .m) (l .i) (l .depth) (x .split .result) (l .inv) (omega arith) (x .split .ensures) (omega arith),
+      left-fits (s .args .len) _ (s .args .n) (l .first + x .split .result + (l .m - x .split .result) - 1) (omega (arith, l .inv .high)) (s .pre .2),
+      left-room (l .inv) (x .split .ensures) (omega arith) (omega arith) .1,
     )
 
 loop-less : tie.Need-loop-less Inv-loop μ-loop
@@ -74,7 +70,7 @@ loop-again c =
     let x = c .before .before .before .before .before in
     let l = x .before .before .loop in
     rw (c .before .before .put-subtree .ensures)
-    (to-left (plain digest) length-digest _ _ _ _ (l .out) (l .first) (l .m) (l .i) (l .depth) (x .split .result) (l .inv) (omega arith) (x .split .ensures) (omega arith))
+    (to-left (l .inv) (x .split .ensures) (omega arith) (omega arith) length-digest)
 
 put-subtree-requires-2 : tie.Need-put-subtree-requires-2 Inv-loop μ-loop
 put-subtree-requires-2 c κs =
@@ -84,8 +80,8 @@ put-subtree-requires-2 c κs =
     let k = known x in (
       k .0,
       omega (arith, l .inv .high, s .pre .1),
-      whole (s .args .len) _ (s .args .n) (l .first + x .split .result) (omega (arith, l .inv .high)) (s .pre .2),
-      right-space (plain digest) length-digest _ _ _ _ (l .out) (l .first) (l .m) (l .i) (l .depth) (x .split .result) (l .inv) (omega arith) (x .split .ensures) (omega arith),
+      left-fits (s .args .len) _ (s .args .n) (l .first + x .split .result - 1) (omega (arith, l .inv .high)) (s .pre .2),
+      right-room (l .inv) (x .split .ensures) (omega arith) (omega arith) .1,
     )
 
 add-first : tie.Need-add-first Inv-loop μ-loop
@@ -102,13 +98,13 @@ loop-again-2 c =
     let x = c .before .before .before .before .before in
     let l = x .before .before .loop in
     rw (c .before .before .put-subtree2 .ensures)
-    (to-right (plain digest) length-digest _ _ _ _ (l .out) (l .first) (l .m) (l .i) (l .depth) (x .split .result) (l .inv) (omega arith) (x .split .ensures) (omega arith))
+    (to-right (l .inv) (x .split .ensures) (omega arith) (omega arith) length-digest)
 
 same-length : tie.Need-same-length Inv-loop μ-loop
 same-length c = c .before .loop .inv .filling .same
 
 returns : tie.Need-returns Inv-loop μ-loop
-returns c = let l = c .before .loop in inside-done (plain digest) length-digest _ _ _ _ (l .out) (l .first) (l .m) (l .i) (l .depth) (omega arith) (l .inv)
+returns c = let l = c .before .loop in inside-done (l .inv) (omega arith)
 
 pub write-path-spec : {M : Type 1} → statement M
 write-path-spec =

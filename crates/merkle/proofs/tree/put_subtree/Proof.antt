@@ -1,3 +1,4 @@
+-- `merkle::tree::put_subtree` meets its contract.
 use mathlib.Core.Path.{_≡_, sym, ap₂, _∙_}
 use Prim.Native.Nat.{_+_, _*_}
 use native.Mathlib.Omega.{arith}
@@ -7,17 +8,18 @@ use borrow.Author.Needs.{needs}
 use Rattle.octets.proofs.CopyLaws.{part-from}
 use Rattle.merkle.specs.Limits.{hashLength}
 use Rattle.merkle.proofs.TreeLaws.{left-fits, right-fits}
-use Rattle.merkle.proofs.way.put_subtree.Statement.{statement}
-use Rattle.merkle.proofs.way.put_subtree.Tie as tie
+use Rattle.merkle.proofs.tree.put_subtree.Statement.{statement}
+use Rattle.merkle.proofs.tree.put_subtree.Tie as tie
 
-mul-from : tie.Need-mul-from
-mul-from c = let s = c .before .before .before in let a = s .args in omega (arith, left-fits (a .len) (length (a .flash .now)) (a .first + a .n) (a .first) (omega (arith, s .pre .0)) (s .pre .2))
-
+-- the subtree starts within the flash
 sub-subtree-hash : tie.Need-sub-subtree-hash
 sub-subtree-hash c = let s = c .before .before .before in let a = s .args in left-fits (a .len) (length (a .flash .now)) (a .first + a .n) (a .first) (omega (arith, s .pre .0)) (s .pre .2)
 
+mul-from : tie.Need-mul-from
+mul-from c = omega (arith, sub-subtree-hash c)
+
 part-subtree-hash-start : tie.Need-part-subtree-hash-start
-part-subtree-hash-start c = let s = c .before .before .before in let a = s .args in search (needs, left-fits (a .len) (length (a .flash .now)) (a .first + a .n) (a .first) (omega (arith, s .pre .0)) (s .pre .2))
+part-subtree-hash-start c = search (needs, sub-subtree-hash c)
 
 part-subtree-hash-end : tie.Need-part-subtree-hash-end
 part-subtree-hash-end c = search needs
