@@ -1,8 +1,8 @@
 -- The blocks that the sender takes from the image and its filled last block.
-use mathlib.Core.Path.{_≡_, sym, ap, ap₂, subst, _∙_}
-use mathlib.Core.Bool.{Bool, false}
+use mathlib.Core.Path.{_≡_, refl, sym, ap, ap₂, subst, _∙_}
+use mathlib.Core.Bool.{Bool, true, false, cond}
 use mathlib.Core.List.{List, _++_, append-assoc}
-use Prim.Native.Nat.{ℕ, suc, _+_, _-_, _*_, _≤_, _<_}
+use Prim.Native.Nat.{ℕ, suc, pred, _+_, _-_, _*_, _≤_, _<_}
 use native.Mathlib.Nat.{mul-le-mul-right, zero-add}
 use native.Mathlib.Omega.{arith}
 use lib.ListN.{length, take, drop, replicate, length-append, length-drop, length-replicate, replicate-append-replicate}
@@ -14,7 +14,7 @@ use Rattle.merkle.specs.Blocks.{blockCount, cut, overlay}
 use Rattle.merkle.specs.Shape.{shape}
 use Rattle.merkle.specs.Hash.{plain, rootOver}
 use Rattle.merkle.specs.Frontier.{carriedCount}
-use Rattle.merkle.specs.Path.{sentPath}
+use Rattle.merkle.specs.Path.{leafDepth, sentPath}
 use Rattle.merkle.specs.Held.{sent}
 use Rattle.merkle.proofs.ShapeLaws.{size-shape}
 use Rattle.merkle.proofs.HashLaws.{Same, hash-same}
@@ -22,13 +22,16 @@ use Rattle.merkle.proofs.FitsLaws.{sent-same}
 use Rattle.merkle.proofs.PathWritingLaws.{sent-path-same}
 use Rattle.merkle.proofs.BlockLaws.{overlay-is}
 use Rattle.wire.specs.declared.kind.Kind.the-variants.{Block}
+use Rattle.wire.specs.declared.refusal.Refusal.the-variants.{Size, Turn}
 use Rattle.wire.specs.Size.{wrongSize, outside}
 use Rattle.wire.specs.Geometry.{blockLength}
 use Rattle.wire.specs.Image.{imageBlocks}
-use Rattle.wire.specs.Message.{leastLength, dueLength}
+use Rattle.wire.specs.Message.{leastLength, dueLength, leastUpdate, leastPath}
 use Rattle.wire.proofs.SizeLaws.{Sized, sized, inside}
 use Rattle.wire.proofs.ImageLaws.{length-block, block-early, block-last}
 use Rattle.wire.proofs.MessageLaws.{due-length}
+use Rattle.sender.specs.declared.send.Numbered.{Numbered}
+use Rattle.sender.specs.declared.send.Numbered.the-variants.{Blocks, Refused}
 use Rattle.sender.specs.Job.{inBlocks, count, blockFor}
 use Rattle.sender.proofs.JobLaws as job
 
@@ -92,23 +95,33 @@ module _ (L : ℕ) (image : List ℕ) (n : ℕ) (z : Sized L (length image)) (c 
     pub same-sent : (i : ℕ) → sent (plain H) n (overlay (cut L image) (n - 1) b) i ≡ sent (plain H) n (imageBlocks L image) i
     same-sent i = sent-same (plain H) n i (same-blocks b e)
 
+-- what `count_for` answers
+abbrev pub countFor : (L T i : ℕ) → Numbered
+countFor L T i = cond (wrongSize L T) (Refused Size) (cond (outside (blockCount L T) i) (Refused Turn) (Blocks (blockCount L T)))
+
 -- What the tests of size and number leave: n blocks, and a number among them.
 module _ (image : List ℕ) (len number n : ℕ) where
   pub record Tested : Type 0 where
     pub size : wrongSize len (length image) ≡ false
     pub sized : Sized len (length image)
     pub count : n ≡ blockCount len (length image)
-    pub inside : outside n number ≡ false
+    pub inside : outside (blockCount len (length image)) number ≡ false
     pub low : 0 < number
     pub high : number ≤ n
     pub few : n ≤ maxBlocks
+    pub held : (n - 1) * len ≤ length image
 
-  pub tested : {w o : Bool} → w ≡ wrongSize len (length image) → w ≡ false → n ≡ blockCount len (length image) → o ≡ outside n number → o ≡ false → Tested
-  tested ew w e eo o =
-      let size = sym ew ∙ w in
-      let z = sized len (length image) size in
-      let i = inside n number (sym eo ∙ o) in
-      record { size = size; sized = z; count = e; inside = sym eo ∙ o; low = i .0; high = i .1; few = rw e (z .count) }
+  counted : (w o : Bool) {k : ℕ} → Blocks n ≡ cond w (Refused Size) (cond o (Refused Turn) (Blocks k)) → (w ≡ false) × (o ≡ false) × (n ≡ k)
+  counted true o e = (cc, cc, cc)
+  counted false true e = (cc, cc, cc)
+  counted false false e = (refl, refl, cc)
+
+  pub tested : Blocks n ≡ countFor len (length image) number → Tested
+  tested e =
+      let k = counted (wrongSize len (length image)) (outside (blockCount len (length image)) number) e in
+      let z = sized len (length image) (k .0) in
+      let i = inside (blockCount len (length image)) number (k .1) in
+      record { size = k .0; sized = z; count = k .2; inside = k .1; low = i .0; high = rw (k .2) (i .1); few = rw (k .2) (z .count); held = rw (k .2) (omega (arith, z .below)) }
 
   -- the block's length, the message's, and the hashes in it
   module _ (t : Tested) where
@@ -123,3 +136,8 @@ module _ (image : List ℕ) (len number n : ℕ) where
 
     pub parts : dueLength len (length image) number ≡ leastLength Block + blockLength len (length image) number + hashLength * carriedCount n (number - 1 + 1)
     parts = sym (due-length len (length image) number (carriedCount n (number - 1 + 1)) (t .low) (ap (λ (x : ℕ). carriedCount x (number - 1 + 1)) (t .count)))
+
+    -- the length of an update by a path, from the siblings that the code writes
+    pub path-parts : leastPath len (length image) number ≡ leastUpdate len (length image) number + hashLength * leafDepth n (number - 1)
+    unfolding leastPath
+    path-parts = let e : number - 1 ≡ pred number = omega (arith, t .low) in rw (e, t .count)

@@ -1,6 +1,7 @@
 -- The lengths of what the sender writes: manifest and messages are as long as 01 says.
 use mathlib.Core.Path.{_≡_, ap, _∙_}
-use mathlib.Core.List.{List}
+use mathlib.Core.Bool.{Bool, true, false, cond}
+use mathlib.Core.List.{List, [], _++_, append-nil}
 use Prim.Native.Nat.{ℕ, suc, pred, _+_, _-_, _≤_, _<_}
 use native.Mathlib.Omega.{arith}
 use lib.ListN.{length}
@@ -17,13 +18,14 @@ use Rattle.merkle.proofs.HashLaws.{length-hash}
 use Rattle.merkle.proofs.FitsLaws.{length-sent}
 use Rattle.merkle.proofs.PathWritingLaws.{length-sent-path}
 use Rattle.wire.specs.declared.kind.Kind.the-variants.{Program}
+use Rattle.wire.specs.declared.manifest.Manifest.{Manifest}
 use Rattle.wire.specs.Manifest.{manifestLength, written}
 use Rattle.wire.specs.Geometry.{blockLength}
-use Rattle.wire.specs.Message.{leastLength, dueLength, leastUpdate, leastPath, blockMessage, updateMessage, pathMessage}
+use Rattle.wire.specs.Message.{leastLength, dueLength, leastUpdate, leastPath, successorHead, blockMessage}
 use Rattle.wire.proofs.SizeLaws.{Sized, sized, inside}
 use Rattle.wire.proofs.ManifestLaws.{length-written}
 use Rattle.wire.proofs.ImageLaws as image
-use Rattle.wire.proofs.MessageLaws.{program-size, block-size, update-size, path-size}
+use Rattle.wire.proofs.MessageLaws.{program-size, block-size, update-size, path-size, update-whole, path-whole}
 use Rattle.sender.specs.Job.{Image, Job, count, blocks, rootOf, manifestFor, programFor, blockFor, updateFor, pathFor}
 use Rattle.sender.specs.Claims.{AllLengths}
 
@@ -85,12 +87,20 @@ pub block-is : (x : Image) (n i : ℕ) (block hashes : List ℕ) → n ≡ count
 unfolding blockFor
 block-is x n i block hashes e f g = let p : pred i ≡ i - 1 = omega arith in rw p (cc)
 
-pub update-is : (j : Job) (i : ℕ) (block signature : List ℕ) → block ≡ blocks (j .image) (i - 1)
-    → updateMessage (manifestFor digest j) i block signature ≡ updateFor digest j i signature
-unfolding updateFor
-update-is j i block signature f = let p : pred i ≡ i - 1 = omega arith in rw p (cc)
+-- an update, by a path or not: kinds 4 and 3
+abbrev pub successorFor : Bool → Job → ℕ → List ℕ → List ℕ
+successorFor path = cond path (pathFor digest) (updateFor digest)
 
-pub path-is : (j : Job) (n i : ℕ) (block siblings signature : List ℕ) → n ≡ count (j .image) → block ≡ blocks (j .image) (i - 1)
-    → siblings ≡ sentPath (plain digest) n (blocks (j .image)) (i - 1) → pathMessage (manifestFor digest j) i block siblings signature ≡ pathFor digest j i signature
-unfolding pathFor
-path-is j n i block siblings signature e f g = let p : pred i ≡ i - 1 = omega arith in rw p (cc)
+pub successor-is : (path : Bool) (j : Job) (n i k : ℕ) (m : Manifest) (block siblings signature : List ℕ) → k ≡ cond path 4 3 → m ≡ manifestFor digest j → n ≡ count (j .image)
+    → block ≡ blocks (j .image) (i - 1) → siblings ≡ cond path (sentPath (plain digest) n (blocks (j .image)) (i - 1)) []
+    → (successorHead k m i block ++ siblings) ++ signature ≡ successorFor path j i signature
+unfolding pathFor updateFor
+successor-is true j n i k m block siblings signature ek em en eb es = let p : pred i ≡ i - 1 = omega arith in rw p (cc (path-whole m i block siblings signature))
+successor-is false j n i k m block siblings signature ek em en eb es =
+    let p : pred i ≡ i - 1 = omega arith in
+    rw p (cc (append-nil (successorHead 3 m i block), update-whole m i block signature))
+
+pub length-successor : (path : Bool) (j : Job) → Sized (j .image .«block_len») (length (j .image .bytes)) → (i : ℕ) → 0 < i → i ≤ count (j .image) → (signature : List ℕ)
+    → length (successorFor path j i signature) ≡ cond path leastPath leastUpdate (j .image .«block_len») (length (j .image .bytes)) i + length signature
+length-successor true = length-path
+length-successor false = length-update

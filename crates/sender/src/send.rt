@@ -15,9 +15,12 @@ use wire::put_block;
 use wire::put_manifest;
 use wire::put_program;
 use wire::put_successor;
-use wire::put_update;
 use wire::too_short;
 use wire::wrong_size;
+ghost use mathlib.Core.Path.{_≡_};
+ghost use mathlib.Core.Bool.{cond};
+ghost use Rattle.merkle.specs.Blocks.{blockCount};
+ghost use Rattle.wire.specs.Size as spec;
 ghost use Rattle.sender.specs.Job.{inBlocks, job};
 ghost use Rattle.sender.specs.Send.{Does, asIs, sendManifest, sendProgram, sendBlock, sendUpdate, sendPath};
 
@@ -63,36 +66,90 @@ pub fn program(
     Sent::Written(least + signature.len())
 }
 
+// What the tests of a message with a number leave.
+enum Numbered {
+    // n.
+    Blocks(usize),
+    Refused(Refusal),
+}
+
+// Refusals 5 and 11.
+fn count_for(block_len: usize, image_len: usize, number: usize) -> Numbered
+    ensures { λ r. ⌜ r ≡ cond (spec.wrongSize «block_len» «image_len») (Numbered.Refused Refusal.Size)
+        (cond (spec.outside (blockCount «block_len» «image_len») number) (Numbered.Refused Refusal.Turn) (Numbered.Blocks (blockCount «block_len» «image_len»))) ⌝ }
+{
+    if wrong_size(block_len, image_len) {
+        return Numbered::Refused(Refusal::Size);
+    }
+    let n = block_count(block_len, image_len);
+    if outside(n, number) {
+        return Numbered::Refused(Refusal::Turn);
+    }
+    Numbered::Blocks(n)
+}
+
 // Kind 2, block `number`, from 1. It has neither model nor serial.
 pub fn block(image: &[u8], len: u32, number: u32, out: &mut [u8]) -> Sent
     ensures { λ r. ⌜ Does asIs (sendBlock (inBlocks (now (image .entry)) len) number (now (out .entry))) r (now (out .exit)) ⌝ }
 {
     let block_len = len as usize;
-    if wrong_size(block_len, image.len()) {
-        return Sent::Refused(Refusal::Size);
-    }
-    let n = block_count(block_len, image.len());
     let i = number as usize;
-    if outside(n, i) {
-        return Sent::Refused(Refusal::Turn);
+    match count_for(block_len, image.len(), i) {
+        Numbered::Refused(refusal) => Sent::Refused(refusal),
+        Numbered::Blocks(n) => {
+            let due = due_len(block_len, image.len(), i);
+            if out.len() < due {
+                return Sent::Refused(Refusal::Area);
+            }
+            let filled = last_block(image, block_len, n);
+            let last = &filled[..block_len];
+            let block = block_of(image, last, block_len, n, i - 1);
+            let from = put_block(number as u16, block, out);
+            merkle::write_siblings(&mut out[from..], image, block_len, n, i - 1, n - 1, last);
+            Sent::Written(due)
+        }
     }
-    let due = due_len(block_len, image.len(), i);
-    if out.len() < due {
-        return Sent::Refused(Refusal::Area);
+}
+
+// Kinds 3 and 4: an update without a path, and with one.
+fn successor(
+    path: bool,
+    image: &[u8],
+    len: u32,
+    model: u32,
+    serial: u32,
+    number: u32,
+    signature: &[u8],
+    out: &mut [u8],
+) -> Sent
+    ensures { λ r. ⌜ Does asIs ((cond path sendPath sendUpdate) (job (inBlocks (now (image .entry)) len) model serial) number (now (signature .entry)) (now (out .entry))) r (now (out .exit)) ⌝ }
+{
+    let block_len = len as usize;
+    let i = number as usize;
+    match count_for(block_len, image.len(), i) {
+        Numbered::Refused(refusal) => Sent::Refused(refusal),
+        Numbered::Blocks(n) => {
+            let least = if path {
+                least_path(block_len, image.len(), i)
+            } else {
+                least_update(block_len, image.len(), i)
+            };
+            if too_short(out.len(), least, signature.len()) {
+                return Sent::Refused(Refusal::Area);
+            }
+            let filled = last_block(image, block_len, n);
+            let last = &filled[..block_len];
+            let block = block_of(image, last, block_len, n, i - 1);
+            let manifest = manifest_for(image, len, model, serial);
+            let kind = if path { 4 } else { 3 };
+            let from = put_successor(kind, manifest, number as u16, block, out);
+            if path {
+                merkle::write_path(&mut out[from..], image, block_len, n, i - 1, n - 1, last);
+            }
+            octets::copy(out, least, signature);
+            Sent::Written(least + signature.len())
+        }
     }
-    let last = last_block(image, block_len, n);
-    let block = block_of(image, &last[..block_len], block_len, n, i - 1);
-    let from = put_block(number as u16, block, out);
-    merkle::write_siblings(
-        &mut out[from..],
-        image,
-        block_len,
-        n,
-        i - 1,
-        n - 1,
-        &last[..block_len],
-    );
-    Sent::Written(due)
 }
 
 // Kind 3, the update to this image of block `number`, from 1.
@@ -107,29 +164,7 @@ pub fn update(
 ) -> Sent
     ensures { λ r. ⌜ Does asIs (sendUpdate (job (inBlocks (now (image .entry)) len) model serial) number (now (signature .entry)) (now (out .entry))) r (now (out .exit)) ⌝ }
 {
-    let block_len = len as usize;
-    if wrong_size(block_len, image.len()) {
-        return Sent::Refused(Refusal::Size);
-    }
-    let n = block_count(block_len, image.len());
-    let i = number as usize;
-    if outside(n, i) {
-        return Sent::Refused(Refusal::Turn);
-    }
-    let least = least_update(block_len, image.len(), i);
-    if too_short(out.len(), least, signature.len()) {
-        return Sent::Refused(Refusal::Area);
-    }
-    let total = least + signature.len();
-    let last = last_block(image, block_len, n);
-    put_update(
-        manifest_for(image, len, model, serial),
-        number as u16,
-        block_of(image, &last[..block_len], block_len, n, i - 1),
-        signature,
-        out,
-    );
-    Sent::Written(total)
+    successor(false, image, len, model, serial, number, signature, out)
 }
 
 // Kind 4, the same update with the siblings of its block.
@@ -144,33 +179,5 @@ pub fn path_update(
 ) -> Sent
     ensures { λ r. ⌜ Does asIs (sendPath (job (inBlocks (now (image .entry)) len) model serial) number (now (signature .entry)) (now (out .entry))) r (now (out .exit)) ⌝ }
 {
-    let block_len = len as usize;
-    if wrong_size(block_len, image.len()) {
-        return Sent::Refused(Refusal::Size);
-    }
-    let n = block_count(block_len, image.len());
-    let i = number as usize;
-    if outside(n, i) {
-        return Sent::Refused(Refusal::Turn);
-    }
-    let least = least_path(block_len, image.len(), i);
-    if too_short(out.len(), least, signature.len()) {
-        return Sent::Refused(Refusal::Area);
-    }
-    let total = least + signature.len();
-    let last = last_block(image, block_len, n);
-    let manifest = manifest_for(image, len, model, serial);
-    let block = block_of(image, &last[..block_len], block_len, n, i - 1);
-    let from = put_successor(4, manifest, number as u16, block, out);
-    merkle::write_path(
-        &mut out[from..],
-        image,
-        block_len,
-        n,
-        i - 1,
-        n - 1,
-        &last[..block_len],
-    );
-    octets::copy(out, least, signature);
-    Sent::Written(total)
+    successor(true, image, len, model, serial, number, signature, out)
 }

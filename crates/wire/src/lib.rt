@@ -42,4 +42,3 @@ pub use writing::put_block;
 pub use writing::put_manifest;
 pub use writing::put_program;
 pub use writing::put_successor;
-pub use writing::put_update;

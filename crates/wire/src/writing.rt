@@ -13,7 +13,7 @@ ghost use Prim.Native.Nat.{_+_, _≤_};
 ghost use lib.ListN.{length};
 ghost use Rattle.wire.specs.declared.kind.Kind.the-variants.{Program, Block, Update};
 ghost use Rattle.wire.specs.Manifest.{manifestLength, written};
-ghost use Rattle.wire.specs.Message.{leastLength, programMessage, blockMessage, successorHead, updateMessage, atStart};
+ghost use Rattle.wire.specs.Message.{leastLength, programMessage, blockMessage, successorHead, atStart};
 
 // The bare manifest.
 pub fn put_manifest(manifest: Manifest, out: &mut [u8])
@@ -67,13 +67,4 @@ pub fn put_successor(
     copy(out, PROGRAM_LEAST, &digits);
     copy(out, UPDATE_LEAST, block);
     UPDATE_LEAST + block.len()
-}
-
-// Kind 3.
-pub fn put_update(manifest: Manifest, number: u16, block: &[u8], signature: &[u8], out: &mut [u8])
-    requires { ⌜ leastLength Update + length (now block) + length (now signature) ≤ length (now out) ⌝ }
-    ensures { λ _. ⌜ now (out .exit) ≡ atStart (updateMessage manifest number (now (block .entry)) (now (signature .entry))) (now (out .entry)) ⌝ }
-{
-    let from = put_successor(3, manifest, number, block, out);
-    copy(out, from, signature);
 }
