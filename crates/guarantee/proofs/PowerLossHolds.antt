@@ -11,6 +11,7 @@ use borrow.Author.Tests.{lt-ltb, le-ltb}
 use Rattle.merkle.specs.Shape.{shape}
 use Rattle.merkle.specs.Hash.{plain}
 use Rattle.merkle.proofs.ShapeLaws.{lt-or-le}
+use Rattle.merkle.proofs.PathBindingLaws.{two-paths}
 use Rattle.wire.specs.declared.kind.Kind.the-variants.{Block, Update, PathUpdate}
 use Rattle.wire.specs.declared.manifest.Manifest.{Manifest}
 use Rattle.wire.specs.declared.refusal.Refusal.{Refusal}
@@ -31,7 +32,6 @@ use Rattle.machine.specs.Step.{stageAfter, acceptBlock, acceptUpdate, accept, a
 use Rattle.machine.proofs.RefusalLaws.{BlockPassed, block-passed, UpdatePassed, update-passed, newLength, newDepth, ledTo, path-passed}
 use Rattle.guarantee.specs.Run.{Messages, empty, _▷_, after, answerTo, siblingsIn}
 use Rattle.guarantee.specs.PowerLoss.{OnlyBlocks, Agree, SameLoad, TornLoad, TornUpdate, PathReads, TornPath}
-use Rattle.guarantee.proofs.PathLaws.{two-paths}
 use Rattle.guarantee.proofs.RunLaws.{accepted-step, now, refusalAt, answered, none-at, more, same}
 
 module _ (H : List ℕ → List ℕ) (valid : (key message signature : List ℕ) → Bool) where

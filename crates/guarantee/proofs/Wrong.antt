@@ -1,5 +1,4 @@
 -- None of the wrong devices meets demand 3; the right device does, with the same hash function and verdicts (`meets`, `meets-nobody` in Toy).
-use mathlib.Core.List.{[]}
 use lib.ListN.{replicate}
 use Rattle.guarantee.specs.Demand3.{Demand3}
 use Rattle.guarantee.proofs.Toy.{toy, any, nobody, fresh, flash, taking, is-fresh}

@@ -1,14 +1,14 @@
 -- Power loss: after a power cut the stored state and the flash may be of different moments. What holds then of the device's step, from every state, reached by a
 -- list or not.
 use mathlib.Core.Path.{_≡_}
-use mathlib.Core.Logic.{_⊎_, _≢_}
+use mathlib.Core.Logic.{_⊎_}
 use mathlib.Core.Bool.{Bool}
-use mathlib.Core.List.{List, List·Memᴰ}
+use mathlib.Core.List.{List}
 use Prim.Native.Nat.{ℕ, suc, pred, _+_}
 use lib.ListN.{length, take, drop}
 use Rattle.merkle.specs.Shape.{Place, shape}
-use Rattle.merkle.specs.Hash.{Hashing, plain}
-use Rattle.merkle.specs.Path.{pathInputs}
+use Rattle.merkle.specs.Hash.{plain}
+use Rattle.merkle.specs.Path.{pathInputs, PathsCollide}
 use Rattle.wire.specs.declared.kind.Kind.the-variants.{Block, Update, PathUpdate}
 use Rattle.wire.specs.declared.manifest.Manifest.{Manifest}
 use Rattle.wire.specs.declared.refusal.Refusal.the-variants as refusal
@@ -24,16 +24,6 @@ use Rattle.guarantee.specs.Run.{Messages, empty, _▷_, after, answerTo,
 unfoldable pub OnlyBlocks : Messages → Type 0
 OnlyBlocks empty = Unit {0}
 OnlyBlocks (ms ▷ m) = OnlyBlocks ms × (kind m ≡ Block)
-
--- Two paths: at one place the hash inputs differ and have the same hash.
-pub record PathsCollide (H : Hashing) (inputs others : List (Place × List ℕ)) : Type 0 where
-  pub place : Place
-  pub one : List ℕ
-  pub other : List ℕ
-  pub within : List·Memᴰ (place, one) inputs
-  pub within-other : List·Memᴰ (place, other) others
-  pub differ : one ≢ other
-  pub agree : H .function one ≡ H .function other
 
 -- Two flashes of one length that agree in the first k blocks of the manifest's program and behind it.
 pub record Agree (s : Manifest) (k : ℕ) (f g : List ℕ) : Type 0 where
@@ -67,7 +57,7 @@ module _ (H : List ℕ → List ℕ) (valid : (key message signature : List ℕ)
       → (step H valid d f m .answer ≡ step H valid d g m .answer) × (step H valid d f m .device ≡ step H valid d g m .device)
 
   -- A path update that is accepted over f is refused 15 over another flash of that length, or accepted there too; then the numbered block is the same, or the two
-  -- paths collide. So unlike an update it is not taken again over its own block, torn or whole, where that is not the old one.
+  -- paths collide. So unlike an update it is not taken again over its own block, torn or whole, where that is not the old one, short of a collision.
   abbrev pub TornPath : Type 0
   TornPath = (d : Device) (f g m : List ℕ) → kind m ≡ PathUpdate → length f ≡ length g → step H valid d f m .answer ≡ Accepted
       → (let s = manifestIn m in let i = pred (updateNumber m) in let inputs : List ℕ → List (Place × List ℕ) = λ block. pathInputs (plain H) 0 (shape (countOf s)) i block (siblingsIn m) in

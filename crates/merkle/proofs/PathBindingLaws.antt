@@ -2,7 +2,7 @@
 use mathlib.Core.Path.{_≡_, refl, sym, ap, ap₂, _∙_}
 use mathlib.Core.Logic.{_⊎_, inl, inr, ⊎-elim}
 use mathlib.Core.Bool.{Bool, true, false}
-use mathlib.Core.List.{List, [], _∷_, _++_, List·Memᴰ·head, Memᴰ·append-left, Memᴰ·append-right, append-cancel-left, List-discrete}
+use mathlib.Core.List.{List, [], _∷_, _++_, List·Memᴰ·head, List·Memᴰ·tail, Memᴰ·append-left, Memᴰ·append-right, append-cancel-left, append-cancel-right, List-discrete}
 use Prim.Native.Nat.{ℕ, zero, suc, _+_}
 use native.Mathlib.Nat.{add-zero}
 use native.Mathlib.Omega.{arith}
@@ -11,7 +11,7 @@ use lib.ListN.{length, length-append}
 use Rattle.merkle.specs.Limits.{hashLength}
 use Rattle.merkle.specs.Shape.{Shape, leaf, node, Place}
 use Rattle.merkle.specs.Hash.{Hashing, leafInput, leafHash, hash, hashes, input}
-use Rattle.merkle.specs.Path.{pathSiblings, way, besideInput, ascend, ascendInputs, pathHash, pathInputs, PathCollision}
+use Rattle.merkle.specs.Path.{pathSiblings, way, besideInput, ascend, ascendInputs, pathHash, pathInputs, PathCollision, PathsCollide}
 use Rattle.merkle.specs.Claims.{PathBinds}
 use Rattle.merkle.proofs.HashLaws.{append-inj, hashes-last, hash-input, length-hash}
 use Rattle.merkle.proofs.PathLaws.{Down, on-way, length-last, top, path-node, inputs-node}
@@ -105,3 +105,32 @@ path-binding H sized f b =
     let ws : List (Place × Bool) = way (d .start) (d .half) (d .index) in
     let k = last-of ys (length ws) (sym n ∙ ap length (d .way-is) ∙ length-last ws ((o, node l r), d .right)) in
     rw (k .2) (bound-node H sized f b o l r i d (k .0) (k .1) (sym (k .3)) (rw (k .2) at e) (ih (k .0) (sym (k .3)))))
+
+-- Two blocks with the same siblings that lead to one hash: they are the same, or the paths collide.
+module _ (H : Hashing) where
+  -- .. already below, or here, where the inputs x and y at the place p have one hash
+  met : {p : Place} {x y : List ℕ} {es fs : List (Place × List ℕ)} → (H .function x ≡ H .function y) ⊎ PathsCollide H es fs → (x ≡ y) ⊎ PathsCollide H ((p, x) ∷ es) ((p, y) ∷ fs)
+  met {p} {x} {y} {es} {fs} (inl e) = go (List-discrete ℕ-discrete x y)
+    where
+      go : Dec (x ≡ y) → (x ≡ y) ⊎ PathsCollide H ((p, x) ∷ es) ((p, y) ∷ fs)
+      go (yes q) = inl q
+      go (no n) = inr (record { place = p; one = x; other = y; within = List·Memᴰ·head refl; within-other = List·Memᴰ·head refl; differ = n; agree = e })
+  met (inr c) =
+      inr (record { place = c .place; one = c .one; other = c .other; within = List·Memᴰ·tail (c .within); within-other = List·Memᴰ·tail (c .within-other); differ = c .differ; agree = c .agree })
+
+  beside-same : (right : Bool) (x x' y : List ℕ) → besideInput H x right y ≡ besideInput H x' right y → x ≡ x'
+  unfolding besideInput
+  beside-same true x x' y e = append-cancel-right x x' y (append-cancel-left (H .nodePrefix) (x ++ y) (x' ++ y) e)
+  beside-same false x x' y e = append-cancel-left y x x' (append-cancel-left (H .nodePrefix) (y ++ x) (y ++ x') e)
+
+  ways : (x x' : List ℕ) (ws : List (Place × Bool)) (ys : List (List ℕ)) → ascend H x ws ys ≡ ascend H x' ws ys → (x ≡ x') ⊎ PathsCollide H (ascendInputs H x ws ys) (ascendInputs H x' ws ys)
+  unfolding ascend ascendInputs
+  ways x x' [] ys e = inl e
+  ways x x' (w ∷ ws) [] e = inl e
+  ways x x' (w ∷ ws) (y ∷ ys) e =
+      ⊎-elim (λ q. inl (beside-same (w .1) x x' y q)) (λ c. inr c) (met (ways (H .function (besideInput H x (w .1) y)) (H .function (besideInput H x' (w .1) y)) ws ys e))
+
+  pub two-paths : (o : ℕ) (s : Shape) (i : ℕ) (b b' : List ℕ) (ys : List (List ℕ)) → pathHash H o s i b ys ≡ pathHash H o s i b' ys
+      → (b ≡ b') ⊎ PathsCollide H (pathInputs H o s i b ys) (pathInputs H o s i b' ys)
+  unfolding pathHash pathInputs
+  two-paths o s i b b' ys e = ⊎-elim (λ q. inl (append-cancel-left (H .leafPrefix) b b' q)) (λ c. inr c) (met (ways (leafHash H b) (leafHash H b') (way o s i) ys e))

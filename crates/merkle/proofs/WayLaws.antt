@@ -66,11 +66,15 @@ path-height o (node l r) i = go (ltb i (size l)) (path-height o l i) (path-heigh
 
 pub leaf-depths : LeafDepths
 unfolding size leastFrom depth split build shape pathSiblings leafDepth
-leaf-depths = ((refl, refl, refl), λ n i pos. omega (arith, path-height 0 (shape n) i, depth-known n .2 pos))
+leaf-depths = (
+  (refl, refl, refl),
+  λ n i h. length-way 0 (shape n) i (rw (size-shape n (omega arith)) h),
+  λ n i pos. omega (arith, path-height 0 (shape n) i, depth-known n .2 pos),
+)
 
 -- So there are at most as many as hashes are held.
 pub depth-few : (n i : ℕ) → 0 < n → n ≤ maxBlocks → leafDepth n i ≤ maxHeld
-depth-few n i pos h = omega (arith, leaf-depths .1 n i pos, depth-known n .1 maxHeld (omega (arith, limit)))
+depth-few n i pos h = omega (arith, leaf-depths .2 n i pos, depth-known n .1 maxHeld (omega (arith, limit)))
   where
     limit : maxBlocks ≤ 2 ^ maxHeld
     limit = lit≤ tt

@@ -133,6 +133,9 @@ PathBinds =
     → (ys : List (List ℕ)) → length (way o s i) ≡ length ys → pathHash H o s i block ys ≡ hash H f o s
     → ((block ≡ f (o + i)) × (ys ≡ hashes H f (pathSiblings o s i))) ⊎ PathCollision H f o s i block ys
 
--- "32 × the leaf's depth": in the tree over 3 blocks the leaves are 2, 2 and 1 deep, and no leaf is deeper than its tree.
+-- "32 × the leaf's depth": in the tree over 3 blocks the leaves are 2, 2 and 1 deep; a leaf's depth is the number of nodes above it, and none is deeper than its tree.
 abbrev pub LeafDepths : Type 0
-LeafDepths = ((leafDepth 3 0 ≡ 2) × (leafDepth 3 1 ≡ 2) × (leafDepth 3 2 ≡ 1)) × ((n i : ℕ) → 0 < n → leafDepth n i ≤ depth n)
+LeafDepths =
+    ((leafDepth 3 0 ≡ 2) × (leafDepth 3 1 ≡ 2) × (leafDepth 3 2 ≡ 1))
+    × ((n i : ℕ) → i < n → length (way 0 (shape n) i) ≡ leafDepth n i)
+    × ((n i : ℕ) → 0 < n → leafDepth n i ≤ depth n)

@@ -63,3 +63,13 @@ module _ (H : Hashing) where
     pub within : List·Memᴰ (place, given) (pathInputs o s i block ys)
     pub differ : input H f (place .0) (place .1) ≢ given
     pub agree : H .function (input H f (place .0) (place .1)) ≡ H .function given
+
+  -- Of two paths: at one place their hash inputs differ and have the same hash.
+  pub record PathsCollide (inputs others : List (Place × List ℕ)) : Type 0 where
+    pub place : Place
+    pub one : List ℕ
+    pub other : List ℕ
+    pub within : List·Memᴰ (place, one) inputs
+    pub within-other : List·Memᴰ (place, other) others
+    pub differ : one ≢ other
+    pub agree : H .function one ≡ H .function other

@@ -2,7 +2,7 @@
 use crate::counting::count;
 use crate::limits::HASH_LEN;
 use crate::limits::HELD_LEN;
-use crate::path::climb;
+use crate::siblings::climb;
 use octets::copy;
 use octets::equal;
 ghost use mathlib.Core.Path.{_≡_};

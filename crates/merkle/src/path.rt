@@ -1,5 +1,4 @@
-// The hashes of a block message: the climb over them, and the sender's writing of them.
-use crate::counting::count;
+// A block's whole way up to the root: how many siblings stand beside it, the root worked out from the block and these, and the sender's writing of them.
 use crate::limits::HASH_LEN;
 use crate::node::node;
 use crate::node::split;
@@ -7,41 +6,27 @@ use crate::tree::put_subtree;
 use sha256::digest;
 ghost use mathlib.Core.Path.{_≡_};
 ghost use mathlib.Core.List.{_++_};
-ghost use Prim.Native.Nat.{_+_, _-_, _*_, _/_, _≤_, _<_};
+ghost use Prim.Native.Nat.{_-_, _*_, _≤_, _<_};
 ghost use lib.ListN.{length, drop};
 ghost use Rattle.sha256.specs.Sha256 as sha;
 ghost use Rattle.merkle.specs.Limits.{maxBlocks, hashLength};
 ghost use Rattle.merkle.specs.Blocks.{cut, overlay};
 ghost use Rattle.merkle.specs.Shape.{shape};
-ghost use Rattle.merkle.specs.Hash as spec;
 ghost use Rattle.merkle.specs.Hash.{plain};
-ghost use Rattle.merkle.specs.Frontier.{largest, carriedCount};
-ghost use Rattle.merkle.specs.Held.{hashesIn, sent};
+ghost use Rattle.merkle.specs.Path.{leafDepth, sentPath, pathHash};
+ghost use Rattle.merkle.specs.Held.{hashesIn};
 
-// The hash worked out from a block and the right siblings above it, lowest first.
-pub fn climb(block: &[u8], siblings: &[u8]) -> [u8; 32]
-    ensures { λ r. ⌜ r ≡ spec.climb (plain sha.digest) (now (block .entry)) (hashesIn (length (now (siblings .entry)) / hashLength) (now (siblings .entry))) ⌝ }
-{
-    let mut x = digest(block);
-    let mut at: usize = 0;
-    while HASH_LEN <= siblings.len() - at {
-        let end = at + HASH_LEN;
-        let y = node(&x, &siblings[at..end]);
-        x = y;
-        at = end;
-    }
-    x
-}
-
-// How many blocks the largest subtree has that starts after `before` of n blocks.
-fn subtree(n: usize, before: usize) -> usize
+// The depth of the leaf that has `before` of the n blocks before it.
+pub fn leaf_depth(n: usize, before: usize) -> usize
     requires { ⌜ before < n ⌝ }
-    ensures { λ r. ⌜ (0 < r) × (before + r ≤ n) × (largest 0 (shape n) before ≡ (before, shape r)) ⌝ }
+    ensures { λ r. ⌜ r ≡ leafDepth n before ⌝ }
 {
     let mut m = n;
     let mut i = before;
-    while 0 < i {
+    let mut depth: usize = 0;
+    while 1 < m {
         let k = split(m);
+        depth += 1;
         if i < k {
             m = k;
         } else {
@@ -49,11 +34,30 @@ fn subtree(n: usize, before: usize) -> usize
             i -= k;
         }
     }
-    m
+    depth
 }
 
-// Writes the hashes that go with the block after `before` of n, over the same blocks as `root_with`. The highest sibling comes first, to its place at the end.
-pub fn write_siblings(
+// The root over n blocks, worked out from the block that has `before` blocks before it and the siblings on its way up, lowest first.
+pub fn path_hash(n: usize, before: usize, block: &[u8], siblings: &[u8]) -> [u8; 32]
+    requires { ⌜ (before < n) × (length (now siblings) ≡ hashLength * leafDepth n before) ⌝ }
+    ensures { λ r. ⌜ r ≡ pathHash (plain sha.digest) 0 (shape n) before (now (block .entry)) (hashesIn (leafDepth n before) (now (siblings .entry))) ⌝ }
+{
+    if n == 1 {
+        return digest(block);
+    }
+    let k = split(n);
+    let below = siblings.len() - HASH_LEN;
+    let highest = &siblings[below..];
+    if before < k {
+        let left = path_hash(k, before, block, &siblings[..below]);
+        return node(&left, highest);
+    }
+    let right = path_hash(n - k, before - k, block, &siblings[..below]);
+    node(highest, &right)
+}
+
+// Writes the siblings of the block after `before` of n, over the same blocks as `root_with`. The highest comes first, to its place at the end.
+pub fn write_path(
     out: &mut [u8],
     flash: &[u8],
     len: usize,
@@ -62,16 +66,24 @@ pub fn write_siblings(
     at: usize,
     block: &[u8],
 )
-    requires { ⌜ (before < n) × (n ≤ maxBlocks) × ((n - 1) * len ≤ length (now flash)) × (hashLength * carriedCount n (before + 1) ≤ length (now out)) ⌝ }
-    ensures { λ _. ⌜ now (out .exit) ≡ sent (plain sha.digest) n (overlay (cut len (now (flash .entry))) at (now (block .entry))) before ++ drop (hashLength * carriedCount n (before + 1)) (now (out .entry)) ⌝ }
+    requires { ⌜ (before < n) × (n ≤ maxBlocks) × ((n - 1) * len ≤ length (now flash)) × (hashLength * leafDepth n before ≤ length (now out)) ⌝ }
+    ensures { λ _. ⌜ now (out .exit) ≡ sentPath (plain sha.digest) n (overlay (cut len (now (flash .entry))) at (now (block .entry))) before ++ drop (hashLength * leafDepth n before) (now (out .entry)) ⌝ }
 {
-    let mut m = subtree(n, before);
-    let counts = count(n, before);
-    let mut c = counts.carried;
+    let mut first: usize = 0;
+    let mut m = n;
+    let mut i = before;
+    let mut depth = leaf_depth(n, before);
     while 1 < m {
         let k = split(m);
-        c -= 1;
-        put_subtree(out, c, flash, len, before + k, m - k, at, block);
-        m = k;
+        depth -= 1;
+        if i < k {
+            put_subtree(out, depth, flash, len, first + k, m - k, at, block);
+            m = k;
+        } else {
+            put_subtree(out, depth, flash, len, first, k, at, block);
+            first += k;
+            m -= k;
+            i -= k;
+        }
     }
 }

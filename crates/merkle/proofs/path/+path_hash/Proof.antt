@@ -1,4 +1,4 @@
--- `merkle::way::path_hash` meets its contract. The measure is the number of blocks, which falls at both calls.
+-- `merkle::path::path_hash` meets its contract. The measure is the number of blocks, which falls at both calls.
 use mathlib.Core.Path.{_≡_, sym, ap, _∙_}
 use Prim.Native.Nat.{ℕ, _-_, _≤_, _<_}
 use native.Mathlib.Omega.{arith}
@@ -13,14 +13,14 @@ use Rattle.merkle.specs.Hash.{plain, nodeHash}
 use Rattle.merkle.specs.Held.{hashesIn}
 use Rattle.merkle.proofs.ShapeLaws.{split-between}
 use Rattle.merkle.proofs.WayLaws.{depth-one, path-one, whole-left, whole-right, left-long, right-long, some-left}
-use Rattle.merkle.proofs.way.path_hash.Reads as path-hash
-use Rattle.merkle.proofs.way.path_hash.Kinds as kinds
-use Rattle.merkle.proofs.way.+path_hash.Lts-path_hash as lts
+use Rattle.merkle.proofs.path.path_hash.Reads as path-hash
+use Rattle.merkle.proofs.path.path_hash.Kinds as kinds
+use Rattle.merkle.proofs.path.+path_hash.Lts-path_hash as lts
 use Rattle.merkle.proofs.node.node.Reads as node-reads
 use Rattle.merkle.proofs.node.split.Reads as split-reads
 use Rattle.sha256.proofs.digest.Reads as digest-reads
-use Rattle.merkle.proofs.way.+path_hash.{statement}
-use Rattle.merkle.proofs.way.+path_hash.Tie.{close}
+use Rattle.merkle.proofs.path.+path_hash.{statement}
+use Rattle.merkle.proofs.path.+path_hash.Tie.{close}
 
 abbrev μ : Measures 2 kinds.ps ℕ
 μ κs a = a .0

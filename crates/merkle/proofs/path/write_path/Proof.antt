@@ -1,4 +1,4 @@
--- `merkle::way::write_path` meets its contract. The loop's invariant: the siblings within the subtree over m blocks that has the block are still to be written.
+-- `merkle::path::write_path` meets its contract. The loop's invariant: the siblings within the subtree over m blocks that has the block are still to be written.
 use Prim.Native.Nat.{_+_, _-_, _<_}
 use native.Mathlib.Omega.{arith}
 use Rattle.sha256.specs.Sha256.{digest}
@@ -8,12 +8,12 @@ use Rattle.merkle.specs.Hash.{plain}
 use Rattle.merkle.proofs.ShapeLaws.{split-between}
 use Rattle.merkle.proofs.TreeLaws.{left-fits}
 use Rattle.merkle.proofs.PathWritingLaws.{Inside, inside-all, left-room, to-left, right-room, to-right, some-left, inside-done}
-use Rattle.merkle.proofs.way.write_path.Statement.{statement}
-use Rattle.merkle.proofs.way.write_path.Tie as tie
-use Rattle.merkle.proofs.way.write_path.Reads as reads
-use Rattle.merkle.proofs.way.write_path.Lts as lts
+use Rattle.merkle.proofs.path.write_path.Statement.{statement}
+use Rattle.merkle.proofs.path.write_path.Tie as tie
+use Rattle.merkle.proofs.path.write_path.Reads as reads
+use Rattle.merkle.proofs.path.write_path.Lts as lts
 use Rattle.merkle.proofs.node.split.Reads as split-reads
-use Rattle.merkle.proofs.way.leaf_depth.Reads as leaf-depth-reads
+use Rattle.merkle.proofs.path.leaf_depth.Reads as leaf-depth-reads
 use Rattle.merkle.proofs.tree.put_subtree.Reads as put-subtree-reads
 
 abbrev Inv-loop : tie.InvT-loop

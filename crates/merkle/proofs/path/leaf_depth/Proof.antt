@@ -1,14 +1,14 @@
--- `merkle::way::leaf_depth` meets its contract. The loop's invariant: the steps taken so far and the depth of the leaf in the subtree over m blocks make up the whole.
+-- `merkle::path::leaf_depth` meets its contract. The loop's invariant: the steps taken so far and the depth of the leaf in the subtree over m blocks make up the whole.
 use mathlib.Core.Path.{_≡_}
 use Prim.Native.Nat.{_+_, _≤_, _<_}
 use native.Mathlib.Omega.{arith}
 use Rattle.merkle.specs.Path.{leafDepth}
 use Rattle.merkle.proofs.ShapeLaws.{split-between}
 use Rattle.merkle.proofs.WayLaws.{depth-one, depth-left, depth-right}
-use Rattle.merkle.proofs.way.leaf_depth.Statement.{statement}
-use Rattle.merkle.proofs.way.leaf_depth.Tie as tie
-use Rattle.merkle.proofs.way.leaf_depth.Reads as reads
-use Rattle.merkle.proofs.way.leaf_depth.Lts as lts
+use Rattle.merkle.proofs.path.leaf_depth.Statement.{statement}
+use Rattle.merkle.proofs.path.leaf_depth.Tie as tie
+use Rattle.merkle.proofs.path.leaf_depth.Reads as reads
+use Rattle.merkle.proofs.path.leaf_depth.Lts as lts
 use Rattle.merkle.proofs.node.split.Reads as split-reads
 
 abbrev Inv-loop : tie.InvT-loop

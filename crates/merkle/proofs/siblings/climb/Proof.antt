@@ -1,4 +1,4 @@
--- `merkle::path::climb` meets its contract. The loop's invariant: the top from the hash so far, with the siblings still to come, is the one asked for.
+-- `merkle::siblings::climb` meets its contract. The loop's invariant: the top from the hash so far, with the siblings still to come, is the one asked for.
 use mathlib.Core.Path.{_≡_, refl, sym, ap, _∙_}
 use mathlib.Core.List.{_++_}
 use Prim.Native.Nat.{_+_, _-_, _≤_}
@@ -11,8 +11,8 @@ use Rattle.merkle.specs.Limits.{hashLength}
 use Rattle.merkle.specs.Hash.{plain, climb}
 use Rattle.merkle.proofs.ClimbLaws.{rest, climb-more, climb-done, climb-all}
 use Rattle.sha256.proofs.DigestLaws.{length-digest}
-use Rattle.merkle.proofs.path.climb.Statement.{statement}
-use Rattle.merkle.proofs.path.climb.Tie as tie
+use Rattle.merkle.proofs.siblings.climb.Statement.{statement}
+use Rattle.merkle.proofs.siblings.climb.Tie as tie
 
 abbrev Inv-loop : tie.InvT-loop
 Inv-loop block siblings x₀ at₀ x at = (at ≤ length siblings) × (rest (plain digest) siblings x at ≡ rest (plain digest) siblings x₀ 0) × (length x ≡ hashLength)

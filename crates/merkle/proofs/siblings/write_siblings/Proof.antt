@@ -1,4 +1,4 @@
--- `merkle::path::write_siblings` meets its contract. The loop's invariant: the right siblings within the subtree over m blocks are still to be written.
+-- `merkle::siblings::write_siblings` meets its contract. The loop's invariant: the right siblings within the subtree over m blocks are still to be written.
 use Prim.Native.Nat.{_+_, _-_, _<_}
 use native.Mathlib.Omega.{arith}
 use borrow.Author.Needs.{needs}
@@ -9,13 +9,13 @@ use Rattle.merkle.specs.Hash.{plain}
 use Rattle.merkle.proofs.ShapeLaws.{split-between}
 use Rattle.merkle.proofs.TreeLaws.{left-fits}
 use Rattle.merkle.proofs.SiblingLaws.{Writing, writing-none, writing-room, writing-one, writing-done}
-use Rattle.merkle.proofs.path.write_siblings.Statement.{statement}
-use Rattle.merkle.proofs.path.write_siblings.Tie as tie
-use Rattle.merkle.proofs.path.write_siblings.Reads as reads
-use Rattle.merkle.proofs.path.write_siblings.Lts as lts
+use Rattle.merkle.proofs.siblings.write_siblings.Statement.{statement}
+use Rattle.merkle.proofs.siblings.write_siblings.Tie as tie
+use Rattle.merkle.proofs.siblings.write_siblings.Reads as reads
+use Rattle.merkle.proofs.siblings.write_siblings.Lts as lts
 use Rattle.merkle.proofs.counting.count.Reads as count-reads
 use Rattle.merkle.proofs.node.split.Reads as split-reads
-use Rattle.merkle.proofs.path.subtree.Reads as subtree-reads
+use Rattle.merkle.proofs.siblings.subtree.Reads as subtree-reads
 use Rattle.merkle.proofs.tree.put_subtree.Reads as put-subtree-reads
 
 abbrev Inv-loop : tie.InvT-loop

@@ -1,13 +1,13 @@
--- `merkle::path::subtree` meets its contract. The loop's invariant: what is looked for is the largest subtree after i blocks of a tree over m, which
+-- `merkle::siblings::subtree` meets its contract. The loop's invariant: what is looked for is the largest subtree after i blocks of a tree over m, which
 -- has the other blocks before it.
 use Prim.Native.Nat.{_<_}
 use native.Mathlib.Omega.{arith}
 use Rattle.merkle.proofs.ShapeLaws.{split-between}
 use Rattle.merkle.proofs.SiblingLaws.{Within, within-all, within-left, within-right, within-found}
-use Rattle.merkle.proofs.path.subtree.Statement.{statement}
-use Rattle.merkle.proofs.path.subtree.Tie as tie
-use Rattle.merkle.proofs.path.subtree.Reads as reads
-use Rattle.merkle.proofs.path.subtree.Lts as lts
+use Rattle.merkle.proofs.siblings.subtree.Statement.{statement}
+use Rattle.merkle.proofs.siblings.subtree.Tie as tie
+use Rattle.merkle.proofs.siblings.subtree.Reads as reads
+use Rattle.merkle.proofs.siblings.subtree.Lts as lts
 use Rattle.merkle.proofs.node.split.Reads as split-reads
 
 abbrev Inv-loop : tie.InvT-loop
