@@ -94,7 +94,7 @@ static void update(void) {
     expect("sender, path update", lertxuno_path_update(image, sizeof image, BLOCK_LENGTH, MODEL, SERIAL + 1, UPDATED, sample_update_signature,
                                                        sizeof sample_update_signature, message, sizeof message, &length), LERTXUNO_ACCEPTED);
     expect("device, path update", take(message, length), LERTXUNO_ACCEPTED);
-    /* The same as an update, which has it read the whole flash: it has that program already. */
+    /* The same as kind 3, for which a device reads its whole flash. This one has that serial already, and does not come so far. */
     expect("sender, update", lertxuno_update(image, sizeof image, BLOCK_LENGTH, MODEL, SERIAL + 1, UPDATED, sample_update_signature,
                                              sizeof sample_update_signature, message, sizeof message, &length), LERTXUNO_ACCEPTED);
     expect("device, the same again", take(message, length), LERTXUNO_SERIAL);

@@ -58,10 +58,10 @@ unfolding ofManifest testOf
 size-passed d s e q = clear refusal.Size (ofManifest d s) (answer-none (firstThatApplies (ofManifest d s)) (sym e ∙ q))
 
 -- So has an update's that passed its first tests, and it has room and a number within.
-pub successor-passed : (d : Device) (f : List ℕ) (s : Manifest) (i : ℕ) {a : Answer} → a ≡ answerOf (firstThatApplies (ofSuccessor d f s i)) → a ≡ Accepted
+pub successor-known : (d : Device) (f : List ℕ) (s : Manifest) (i : ℕ) {a : Answer} → a ≡ answerOf (firstThatApplies (ofSuccessor d f s i)) → a ≡ Accepted
     → (wrongSize (s .«block_len») (s .«image_len») ≡ false) × (tooSmall s f ≡ false) × (outside (countOf s) i ≡ false)
 unfolding ofSuccessor ofManifest testOf
-successor-passed d f s i e q =
+successor-known d f s i e q =
     let a = answer-none (firstThatApplies (ofSuccessor d f s i)) (sym e ∙ q) in
     (clear refusal.Size (ofSuccessor d f s i) a, clear refusal.Area (ofSuccessor d f s i) a, clear refusal.Turn (ofSuccessor d f s i) a)
 

@@ -187,7 +187,7 @@ pub fn wrong_length(manifest: Manifest, next: u16, message: &[u8]) -> bool
 }
 
 // 12, kind 3.
-pub fn short_update(manifest: Manifest, number: u16, message: &[u8]) -> bool
+pub fn cut_update(manifest: Manifest, number: u16, message: &[u8]) -> bool
     requires { ⌜ wrongSize (manifest .«block_len») (manifest .«image_len») ≡ false ⌝ }
     ensures { λ r. ⌜ r ≡ ltb (length (now (message .entry))) (leastUpdate (manifest .«block_len») (manifest .«image_len») number) ⌝ }
 {
@@ -200,7 +200,7 @@ pub fn short_update(manifest: Manifest, number: u16, message: &[u8]) -> bool
 }
 
 // 12, kind 4.
-pub fn short_path(manifest: Manifest, number: u16, message: &[u8]) -> bool
+pub fn cut_path(manifest: Manifest, number: u16, message: &[u8]) -> bool
     requires { ⌜ (wrongSize (manifest .«block_len») (manifest .«image_len») ≡ false) × (size.outside (countOf manifest) number ≡ false) ⌝ }
     ensures { λ r. ⌜ r ≡ ltb (length (now (message .entry))) (leastPath (manifest .«block_len») (manifest .«image_len») number) ⌝ }
 {

@@ -1,7 +1,9 @@
-// The first refusal that applies, if any: the tests of each kind in 01's order. Nothing is written here. Only `judge` calls the others, and meets
-// their `requires`.
+// The first refusal that applies, if any: the tests of each kind in the papers' order. Nothing is written here. What the
+// functions require their callers meet, which all stand here.
 use crate::conditions::block_len;
 use crate::conditions::count;
+use crate::conditions::cut_path;
+use crate::conditions::cut_update;
 use crate::conditions::lacks_root;
 use crate::conditions::leaf_depth;
 use crate::conditions::mismatch;
@@ -13,8 +15,6 @@ use crate::conditions::not_next;
 use crate::conditions::old_block;
 use crate::conditions::other_model;
 use crate::conditions::senseless;
-use crate::conditions::short_path;
-use crate::conditions::short_update;
 use crate::conditions::strays;
 use crate::conditions::too_small;
 use crate::conditions::unlike;
@@ -164,7 +164,7 @@ fn judge_update(device: Device, flash: &[u8], message: &[u8]) -> Answer
     let Answer::Accepted = first else {
         return first;
     };
-    if short_update(manifest, number, message) {
+    if cut_update(manifest, number, message) {
         return Answer::Refused(Refusal::Length);
     }
     let len = block_len(manifest, number);
@@ -183,7 +183,7 @@ fn judge_update(device: Device, flash: &[u8], message: &[u8]) -> Answer
 
 // Kind 4: the same, then 12, 9, 15, 14.
 fn judge_path_update(device: Device, flash: &[u8], message: &[u8]) -> Answer
-    requires { ⌜ leastLength kinds.Update ≤ length (now message) ⌝ }
+    requires { ⌜ leastLength kinds.PathUpdate ≤ length (now message) ⌝ }
     ensures { λ r. ⌜ r ≡ answerOf (firstThatApplies (ofPathUpdate digest valid device (now (flash .entry)) (now (message .entry)) (manifestIn (now (message .entry))) (updateNumber (now (message .entry))))) ⌝ }
 {
     let manifest = wire::manifest_in(message);
@@ -192,7 +192,7 @@ fn judge_path_update(device: Device, flash: &[u8], message: &[u8]) -> Answer
     let Answer::Accepted = first else {
         return first;
     };
-    if short_path(manifest, number, message) {
+    if cut_path(manifest, number, message) {
         return Answer::Refused(Refusal::Length);
     }
     let len = block_len(manifest, number);

@@ -16,4 +16,5 @@ pub mod Toy
 pub mod WrongCalls
 pub mod WrongFirst
 pub mod WrongSecond
+pub mod MisledRun
 pub mod Wrong

@@ -45,7 +45,7 @@ data Standing (taken : Messages) : Type 0 where
   complete : (s : Manifest) (m : List ℕ) → lastProgram taken ≡ some s → lastCarrier taken ≡ some m → wrongVersion (manifestIn m) ≡ false
       → Sized (manifestIn m .«block_len») (manifestIn m .«image_len») → blocksSince taken ≡ countOf s → Standing taken
 
--- a stage that the tests of kinds 2 and 3 let pass
+-- a stage that the tests of kinds 2, 3 and 4 let pass
 not-idle : (t : Stage) → notLoading t ≡ false → t ≡ Idle → ⊥
 unfolding notLoading
 not-idle t e q = true≢false (rw q at e)

@@ -1,9 +1,10 @@
 -- None of the wrong devices meets demand 3; the right device does, with the same hash function and verdicts (`meets`, `meets-nobody` in Toy).
+use mathlib.Core.List.{[]}
 use lib.ListN.{replicate}
 use Rattle.guarantee.specs.Demand3.{Demand3}
 use Rattle.guarantee.proofs.Toy.{toy, any, nobody, fresh, flash, taking, is-fresh}
 use Rattle.guarantee.proofs.WrongCalls.{closed, closed-caught, unaware, unaware-caught, hasty, hasty-caught, rash, rash-caught, scribbling, scribbling-caught, turning, turning-caught, rekeying, rekeying-caught, leaking, leaking-caught, spilling, spilling-caught, reordering, reordering-caught, swapping, swapping-caught}
-use Rattle.guarantee.proofs.WrongFirst.{careless, careless-caught, blind, blind-caught, keeping, keeping-caught, clinging, clinging-caught, forgetting, forgetting-caught, idling, idling-caught, early, early-caught, endless, endless-caught, unwritten, unwritten-caught, untouched, untouched-caught, trusting, trusting-caught, doubling, doubling-caught, nearsighted, nearsighted-caught, taking-caught, smearing, smearing-caught, shrinking, shrinking-caught}
+use Rattle.guarantee.proofs.WrongFirst.{careless, careless-caught, blind, blind-caught, keeping, keeping-caught, clinging, clinging-caught, stuck, stuck-caught, forgetting, forgetting-caught, idling, idling-caught, early, early-caught, endless, endless-caught, unwritten, unwritten-caught, untouched, untouched-caught, trusting, trusting-caught, doubling, doubling-caught, nearsighted, nearsighted-caught, taking-caught, smearing, smearing-caught, shrinking, shrinking-caught}
 use Rattle.guarantee.proofs.WrongSecond.{deaf, deaf-caught, still, still-caught, hoarding, hoarding-caught, skipping, skipping-caught, mislaying, mislaying-caught, garbling, garbling-caught}
 
 pub none-meets : (Demand3 toy any careless → ⊥)
@@ -35,6 +36,7 @@ pub none-meets : (Demand3 toy any careless → ⊥)
     × (Demand3 toy any swapping → ⊥)
     × (Demand3 toy any rash → ⊥)
     × (Demand3 toy any clinging → ⊥)
+    × (Demand3 toy any stuck → ⊥)
     × (Demand3 toy any untouched → ⊥)
     × (Demand3 toy any trusting → ⊥)
     × (Demand3 toy any doubling → ⊥)
@@ -69,6 +71,7 @@ none-meets = (
   λ c. swapping-caught (c fresh is-fresh flash _ .calls),
   λ c. rash-caught (c fresh is-fresh flash _ .calls),
   λ c. clinging-caught (c fresh is-fresh flash _ .first),
+  λ c. stuck-caught (c fresh is-fresh flash _ .first),
   λ c. untouched-caught (c fresh is-fresh flash _ .first),
   λ c. trusting-caught (c fresh is-fresh flash _ .first),
   λ c. doubling-caught (c fresh is-fresh flash _ .first),

@@ -2,7 +2,7 @@
 use mathlib.Core.Path.{_≡_, refl, sym, ap, _∙_}
 use mathlib.Core.Logic.{⊎-elim}
 use mathlib.Core.Bool.{false, cond, _&&_, _||_, true≢false, false≢true}
-use mathlib.Core.List.{List, [], _∷_, _++_}
+use mathlib.Core.List.{List, [], _∷_, _++_, List·Memᴰ·head, List·Memᴰ·tail}
 use mathlib.Core.Option.{none, some}
 use Prim.Native.Nat.{ℕ, pred, _-_}
 use native.Mathlib.Omega.{arith}
@@ -10,6 +10,7 @@ use lib.Dec.{eqb, ltb, lit<}
 use lib.ListN.{length, getD, set, take, drop, replicate}
 use Rattle.octets.specs.Octets.{number, equal}
 use Rattle.octets.proofs.EqualLaws.{equal-self}
+use Rattle.merkle.specs.Shape.{leaf, node}
 use Rattle.wire.specs.declared.manifest.Manifest.{Manifest}
 use Rattle.wire.specs.declared.refusal.Refusal.the-variants as refusal
 use Rattle.wire.specs.Refusal.{refusalNumber}
@@ -24,7 +25,7 @@ use Rattle.machine.specs.Readers.{numberOf}
 use Rattle.machine.specs.Step.{acceptUpdate, outcome}
 use Rattle.machine.proofs.RefusalLaws.{ledTo}
 use Rattle.guarantee.specs.Run.{Messages, empty, _▷_, after, accepted, lastProgram, blocksSince, pathsSince, lastCarrier, Completed}
-use Rattle.guarantee.specs.Demand3.{Clash, Misled, FirstHalf}
+use Rattle.guarantee.specs.Demand3.{Clash, here, Misled, FirstHalf}
 use Rattle.guarantee.proofs.MisledLaws.{unmisled, first-path}
 use Rattle.guarantee.proofs.Toy.{Step, toy, any, nobody, job, newer, unfilled, fresh, flash, program, manifestWith, nobodys, noImage, right, taking, but, butFlash, byKind, computing, loaded, none-collides, at}
 
@@ -55,13 +56,37 @@ pub careless-caught : FirstHalf toy any careless fresh flash careless-list → �
 unfolding computing careless careless-list
 careless-caught = unrooted careless careless-list (unmisled toy any careless fresh flash careless-list refl) (record { manifest = manifestFor toy job; last = refl; all = refl }) refl
 
--- It does not compare an update's root.
+-- It does not compare an update's root. Before that a path update clashed, with a sibling whose last byte the toy hash does not see: that is no excuse.
 pub blind : Step
 blind = byKind right right taking right
 
-pub blind-caught : FirstHalf toy any blind fresh flash (loaded ▷ updateFor toy newer 1 []) → ⊥
-unfolding computing blind
-blind-caught = unrooted blind (loaded ▷ updateFor toy newer 1 []) (unmisled toy any blind fresh flash (loaded ▷ updateFor toy newer 1 []) refl) (record { manifest = manifestFor toy job; last = refl; all = refl }) refl
+pub clashing : List ℕ
+clashing = pathMessage (manifestFor toy (record { image = job .image; model = 7; serial = 2 })) 1 (replicate 64 3) (set (toy (replicate 64 3)) 31 9) []
+
+pub clashing-misleads : Misled toy any blind fresh flash (loaded ▷ clashing)
+unfolding computing blind clashing
+clashing-misleads =
+    record {
+      before = loaded;
+      message = clashing;
+      path = refl;
+      taken = refl;
+      since = here;
+      clash = record {
+        place = (0, node leaf leaf);
+        given = toy (replicate 64 3) ++ set (toy (replicate 64 3)) 31 9;
+        within = List·Memᴰ·tail (List·Memᴰ·head refl);
+        differ = λ e. let z : _≡_ {A = ℕ} 3 9 = ap (λ (l : List ℕ). getD l 63 0) e in omega arith;
+        agree = refl;
+      };
+    }
+
+pub blind-list : Messages
+blind-list = loaded ▷ clashing ▷ updateFor toy (record { image = newer .image; model = 7; serial = 3 }) 1 []
+
+pub blind-caught : FirstHalf toy any blind fresh flash blind-list → ⊥
+unfolding computing blind clashing blind-list
+blind-caught = unrooted blind blind-list (unmisled toy any blind fresh flash blind-list refl) (record { manifest = manifestFor toy job; last = refl; all = refl }) refl
 
 -- Its manifest is not the last accepted message's.
 other-serial : (wrong : Step) (ms : Messages) (m : List ℕ) → lastCarrier (accepted wrong fresh flash ms) ≡ some m
@@ -97,6 +122,14 @@ clinging = byKind right right right sameSerial
 pub clinging-caught : FirstHalf toy any clinging fresh flash (loaded ▷ pathFor toy newer 2 []) → ⊥
 unfolding computing clinging sameSerial withManifest
 clinging-caught = other-serial clinging (loaded ▷ pathFor toy newer 2 []) (pathFor toy newer 2 []) refl (λ (e : _≡_ {A = ℕ} 1 2). omega arith)
+
+-- It keeps the whole old manifest when it takes a path update.
+pub stuck : Step
+stuck = byKind right right right (λ d f m. let o = right d f m in but o d)
+
+pub stuck-caught : FirstHalf toy any stuck fresh flash (loaded ▷ pathFor toy newer 2 []) → ⊥
+unfolding computing stuck
+stuck-caught = other-serial stuck (loaded ▷ pathFor toy newer 2 []) (pathFor toy newer 2 []) refl (λ (e : _≡_ {A = ℕ} 1 2). omega arith)
 
 -- It forgets the serial while it loads, so that older programs are taken again.
 pub forgetting : Step

@@ -41,7 +41,7 @@ thenBlocks H image ms zero = ms
 thenBlocks H image ms (suc j) = thenBlocks H image ms j ▷ blockFor H image (suc j)
 
 module _ (H : List ℕ → List ℕ) where
-  -- "the tree over the area before it and the message's path held two different hash inputs with one digest": of a kind 4 message m and the flash that it finds. Its
+  -- 02, change 1: "the tree over the area before it and the message's path held two different hash inputs with one digest": of a kind 4 message m and the flash that it finds. Its
   -- path is the old block there, with the message's siblings.
   abbrev pub Clash : (flash m : List ℕ) → Type 0
   Clash flash m =
@@ -90,7 +90,7 @@ module _ (H : List ℕ → List ℕ) (valid : (key message signature : List ℕ)
     here : Since start start
     later : {ms : Messages} {x : List ℕ} → Since start ms → (answer ms x ≡ Accepted → carries (kind x) ≡ true → kind x ≡ PathUpdate) → Since start (ms ▷ x)
 
-  -- "at one of the kind 4 messages taken since the last accepted slip in a message of another kind the tree over the area before it and the message's path held two
+  -- 02, change 1: "at one of the kind 4 messages taken since the last accepted slip in a message of another kind the tree over the area before it and the message's path held two
   -- different hash inputs with one digest": the list begins with `before` and that message
   pub record Misled (ms : Messages) : Type 0 where
     pub before : Messages
@@ -108,7 +108,7 @@ module _ (H : List ℕ → List ℕ) (valid : (key message signature : List ℕ)
     pub signed : valid (d .key) (manifestBytes carrier) (signatureIn carrier) ≡ true
     -- the area has all of its tree's blocks
     pub room : programLength s ≤ length f
-    -- "the tree over the area has it, or" a kind 4 message misled the device; "in this second case no image need equal the area"
+    -- "the tree over the area has it, or" a kind 4 message misled the device; 02, change 1: "in this second case no image need equal the area"
     pub tree : Intact H s f ⊎ Misled ms
 
   -- The first half.

@@ -23,7 +23,7 @@ module _ (H : List ℕ → List ℕ) where
     pub manifest : d .manifest ≡ manifestFor H job
     pub image : flash ≡ atStart (filled (job .image .«block_len») (job .image .bytes)) old
 
-  -- It accepted a message, and then is so.
+  -- The message was accepted, and device and flash are then as above, for this job.
   pub record Updated (job : Job) (old : List ℕ) (o : Outcome) : Type 0 where
     pub taken : o .answer ≡ Accepted
     pub installed : Installed job old (o .device) (o .flash)

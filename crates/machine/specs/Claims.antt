@@ -25,6 +25,7 @@ numbers (e ∷ es) = refusalNumber (e .0) ∷ numbers es
 
 module _ (H : List ℕ → List ℕ) (valid : (key message signature : List ℕ) → Bool) (d : Device) (flash m : List ℕ) where
   -- "Order, first that applies: always 1, 2, 3; then kind 1: 4, 5, 6, 7, 8, 9. Kind 2: 10, 8, 11, 12, 14. Kind 3: 10, 4, 5, 6, 7, 13, 8, 11, 12, 9, 14."
+  -- Kind 4 (02, change 1): "All of kind 3's checks apply", and 15 "after 9 and before 14".
   pub record Orders : Type 0 where
     pub program : numbers (refusals H valid Program d flash m) ≡ 1 ∷ 2 ∷ 3 ∷ 4 ∷ 5 ∷ 6 ∷ 7 ∷ 8 ∷ 9 ∷ []
     pub block : numbers (refusals H valid Block d flash m) ≡ 1 ∷ 2 ∷ 3 ∷ 10 ∷ 8 ∷ 11 ∷ 12 ∷ 14 ∷ []

@@ -9,7 +9,7 @@ use Rattle.wire.specs.Message.{blockIn, updateNumber, updateBlock}
 unfoldable pub stored : Manifest → (i : ℕ) → (flash m : List ℕ) → List ℕ
 stored s i flash m = withBlock (s .«block_len») flash i (blockIn (blockLength (s .«block_len») (s .«image_len») i) m)
 
--- "Accepting kind 3 writes that one block"
+-- "Accepting kind 3 writes that one block"; so does kind 4
 unfoldable pub updated : Manifest → (flash m : List ℕ) → List ℕ
 updated s flash m =
     let i = updateNumber m in

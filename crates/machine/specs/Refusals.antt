@@ -148,7 +148,7 @@ module _ (H : List ℕ → List ℕ) (valid : (key message signature : List ℕ)
       ∷ (refusal.Mismatch, lacksRoot H s (updated s flash m))
       ∷ [])
 
-  -- "All of kind 3's checks apply"; 15 "if the old block doesn't lead to the held root, after 9 and before 14, here for the new root"
+  -- Kind 4 (02, change 1): "All of kind 3's checks apply"; 15 "if the old block doesn't lead to the held root, after 9 and before 14, here for the new root"
   unfoldable pub ofPathUpdate : Device → (flash m : List ℕ) → Manifest → ℕ → List (Refusal × Bool)
   ofPathUpdate d flash m s i =
       let k = blockLength (s .«block_len») (s .«image_len») i in

@@ -4,7 +4,9 @@ use crate::image::last_block;
 use crate::image::manifest_for;
 use wire::Kind;
 use wire::MANIFEST_LEN;
+use wire::PATH_UPDATE;
 use wire::Refusal;
+use wire::UPDATE;
 use wire::block_count;
 use wire::due_len;
 use wire::least_len;
@@ -141,7 +143,7 @@ fn successor(
             let last = &filled[..block_len];
             let block = block_of(image, last, block_len, n, i - 1);
             let manifest = manifest_for(image, len, model, serial);
-            let kind = if path { 4 } else { 3 };
+            let kind = if path { PATH_UPDATE } else { UPDATE };
             let from = put_successor(kind, manifest, number as u16, block, out);
             if path {
                 merkle::write_path(&mut out[from..], image, block_len, n, i - 1, n - 1, last);

@@ -56,7 +56,7 @@ UpdateBack =
     (s : Manifest) → length (s .root) ≡ hashLength → (signature : List ℕ) (i : ℕ) (block : List ℕ) → i < 256 ^ numberLength
     → OfUpdate s i block signature (updateMessage s i block signature)
 
--- Kind 4: "kind, new slip, number, new block, the siblings from that block's leaf to the root (lowest first), signature"; d siblings
+-- Kind 4 (02, change 1): "kind, new slip, number, new block, the siblings from that block's leaf to the root (lowest first), signature"; d siblings
 pub record OfPath (s : Manifest) (i : ℕ) (block siblings signature : List ℕ) (d : ℕ) (m : List ℕ) : Type 0 where
   pub is : kind m ≡ PathUpdate
   pub manifest : manifestBytes m ≡ written s
@@ -64,7 +64,7 @@ pub record OfPath (s : Manifest) (i : ℕ) (block siblings signature : List ℕ)
   pub blocks : updateBlock (length block) m ≡ block
   pub path : pathIn (length block) d m ≡ siblings
   pub signed : pathSignature (length block) d m ≡ signature
-  pub size : length m ≡ leastLength Update + length block + hashLength * d + length signature
+  pub size : length m ≡ leastLength PathUpdate + length block + hashLength * d + length signature
 
 abbrev pub PathBack : Type 0
 PathBack =

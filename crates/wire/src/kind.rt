@@ -10,6 +10,11 @@ pub enum Kind {
     Unknown,
 }
 
+// The first byte of an update, and of a path update, for whoever writes one.
+pub const UPDATE: u8 = 3;
+
+pub const PATH_UPDATE: u8 = 4;
+
 // The kind that the first byte says; an empty message has none that is known.
 pub fn kind_of(message: &[u8]) -> Kind
     ensures { λ r. ⌜ r ≡ spec.kind (now (message .entry)) ⌝ }

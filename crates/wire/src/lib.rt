@@ -8,6 +8,8 @@ mod sizes;
 mod writing;
 
 pub use kind::Kind;
+pub use kind::PATH_UPDATE;
+pub use kind::UPDATE;
 pub use kind::kind_of;
 pub use manifest::MANIFEST_LEN;
 pub use manifest::Manifest;

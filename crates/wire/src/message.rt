@@ -21,7 +21,7 @@ pub const KIND_LEN: usize = 1;
 
 pub const NUMBER_LEN: usize = 2;
 
-// The parts before the signature of kind 1, and before the block of kinds 2 and 3.
+// The parts before the signature of kind 1, and before the block of kinds 2, 3 and 4.
 pub const PROGRAM_LEAST: usize = KIND_LEN + MANIFEST_LEN;
 
 pub const BLOCK_LEAST: usize = KIND_LEN + NUMBER_LEN;

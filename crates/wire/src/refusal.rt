@@ -1,4 +1,4 @@
-// The refusals of 01, by their words.
+// The refusals of 01, with those of 02's changes, by their words.
 ghost use mathlib.Core.Path.{_≡_};
 ghost use Rattle.wire.specs.Refusal as spec;
 
@@ -20,7 +20,7 @@ pub enum Refusal {
     Path,
 }
 
-// 01's number.
+// Its number there.
 pub fn refusal_number(refusal: Refusal) -> u8
     ensures { λ r. ⌜ r ≡ spec.refusalNumber refusal ⌝ }
 {

@@ -53,7 +53,7 @@ pub fn wrong_size(block_len: usize, image_len: usize) -> bool
     true
 }
 
-// Refusal 11 for kind 3 and for the sender: the number is outside 1..n.
+// Refusal 11 for kinds 3 and 4 and for the sender: the number is outside 1..n.
 pub fn outside(n: usize, number: usize) -> bool
     ensures { λ r. ⌜ r ≡ spec.outside n number ⌝ }
 {

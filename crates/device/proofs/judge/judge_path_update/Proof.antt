@@ -19,7 +19,7 @@ use Rattle.wire.specs.Message.{leastLength, manifestBytes, manifestIn, updateNu
 use Rattle.wire.proofs.MessageLaws.{length-path-in}
 use Rattle.machine.specs.Refusals.{tooSmall, strays, unsigned, ofManifest, ofSuccessor, ofPathUpdate}
 use Rattle.machine.proofs.RefusalLaws.{Passes, _past_}
-use Rattle.device.proofs.JudgeLaws.{behind, retold, refused, accepted, refused-in, past-all, successor-passed}
+use Rattle.device.proofs.JudgeLaws.{behind, retold, refused, accepted, refused-in, past-all, successor-known}
 use borrow.Author.Needs.{needs}
 use Rattle.device.proofs.judge.judge_path_update.Statement.{statement}
 use Rattle.device.proofs.judge.judge_path_update.Tie as tie
@@ -66,12 +66,12 @@ turn c =
 
 long : (c : tie.Else1) → Past refusal.Length (c .before .before .before .before)
 unfolding ofPathUpdate ofSuccessor ofManifest behind
-long c = turn (c .before .before) past (sym (c .before .short-path .ensures) ∙ c .if1 .left)
+long c = turn (c .before .before) past (sym (c .before .cut-path .ensures) ∙ c .if1 .left)
 
 -- the message has the block and its siblings whole
 enough : (c : tie.After-leaf-depth) → leastLength Update + c .before .block-len .result + hashLength * c .leaf-depth .result ≤ length (message (c .before .before .before .before .before .before))
 unfolding leastUpdate leastPath countOf
-enough c = rw (c .before .block-len .ensures, c .leaf-depth .ensures) (ltb-false _ _ (sym (c .before .before .before .short-path .ensures) ∙ c .before .before .if1 .left))
+enough c = rw (c .before .block-len .ensures, c .leaf-depth .ensures) (ltb-false _ _ (sym (c .before .before .before .cut-path .ensures) ∙ c .before .before .if1 .left))
 
 -- the verdict on manifest and signature, as they stand in the message
 verdict : (c : tie.After-unsigned) → let j = c .before .before .before .before .before .before .before .before .before in c .unsigned .result ≡ unsigned valid (start-of j .args .device) (manifestBytes (message j)) (pathSignature (size j) (depth j) (message j))
@@ -103,7 +103,7 @@ to c =
 -- what the first tests have shown
 known : (c : tie.After-enum-told) → let j = c .before .before in
     (wrongSize (manifest j .«block_len») (manifest j .«image_len») ≡ false) × (tooSmall (manifest j) (start-of j .args .flash .now) ≡ false) × (outside (countOf (manifest j)) (number j) ≡ false)
-known c = successor-passed _ _ _ _ (c .before .before .judge-successor .ensures) (c .enum-told .given .1)
+known c = successor-known _ _ _ _ (c .before .before .judge-successor .ensures) (c .enum-told .given .1)
 
 strays-needs : (c : tie.After-path-in) → let j = c .before .before .before .before .before .before .before .before .before .before .before in
     (wrongSize (manifest j .«block_len») (manifest j .«image_len») ≡ false) × (outside (countOf (manifest j)) (number j) ≡ false) × (length (c .path-in .result .now) ≡ hashLength * depth j)
@@ -134,12 +134,12 @@ returns c =
     let e = c .enum-told2 .given .1 in
     e ∙ refused-in (ofSuccessor (start-of j .args .device) (start-of j .args .flash .now) (manifest j) (number j)) _ (told j) (sym e ∙ j .judge-successor .ensures)
 
-short-path-requires : tie.Need-short-path-requires
-short-path-requires c κs = let p = known c in (p .0, p .2)
+cut-path-requires : tie.Need-cut-path-requires
+cut-path-requires c κs = let p = known c in (p .0, p .2)
 
 returns-2 : tie.Need-returns-2
 unfolding ofPathUpdate ofSuccessor ofManifest behind
-returns-2 c = refused (turn (c .before .before)) (sym (c .before .short-path .ensures) ∙ c .if1 .taken)
+returns-2 c = refused (turn (c .before .before)) (sym (c .before .cut-path .ensures) ∙ c .if1 .taken)
 
 block-len-requires : tie.Need-block-len-requires
 block-len-requires c κs = search needs
@@ -197,7 +197,7 @@ judge-path-update-spec =
     enum-told
     enum-told-2
     returns
-    short-path-requires
+    cut-path-requires
     returns-2
     block-len-requires
     leaf-depth-requires

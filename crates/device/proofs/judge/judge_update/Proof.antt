@@ -16,7 +16,7 @@ use Rattle.wire.proofs.MessageLaws.{length-update-block}
 use Rattle.machine.specs.Flash.{updated}
 use Rattle.machine.specs.Refusals.{lacksRoot, unsigned, ofManifest, ofSuccessor, ofUpdate}
 use Rattle.machine.proofs.RefusalLaws.{Passes, _past_}
-use Rattle.device.proofs.JudgeLaws.{behind, retold, refused, accepted, refused-in, past-all, successor-passed}
+use Rattle.device.proofs.JudgeLaws.{behind, retold, refused, accepted, refused-in, past-all, successor-known}
 use borrow.Author.Needs.{needs}
 use Rattle.device.proofs.judge.judge_update.Statement.{statement}
 use Rattle.device.proofs.judge.judge_update.Tie as tie
@@ -53,12 +53,12 @@ turn c =
 
 long : (c : tie.Else1) → Past refusal.Length (c .before .before .before .before)
 unfolding ofUpdate ofSuccessor ofManifest behind
-long c = turn (c .before .before) past (sym (c .before .short-update .ensures) ∙ c .if1 .left)
+long c = turn (c .before .before) past (sym (c .before .cut-update .ensures) ∙ c .if1 .left)
 
 -- the message has the block whole
 enough : (c : tie.After-block-len) → leastLength Update + c .block-len .result ≤ length (message (c .before .before .before .before .before))
 unfolding leastUpdate
-enough c = rw (c .block-len .ensures) (ltb-false _ _ (sym (c .before .before .short-update .ensures) ∙ c .before .if1 .left))
+enough c = rw (c .block-len .ensures) (ltb-false _ _ (sym (c .before .before .cut-update .ensures) ∙ c .before .if1 .left))
 
 -- the verdict on manifest and signature, as they stand in the message
 verdict : (c : tie.After-unsigned) → let j = c .before .before .before .before .before .before .before .before in let s = manifest j in
@@ -105,12 +105,12 @@ returns c =
     let e = c .enum-told2 .given .1 in
     e ∙ refused-in (ofSuccessor (start-of j .args .device) (start-of j .args .flash .now) (manifest j) (number j)) _ (told j) (sym e ∙ j .judge-successor .ensures)
 
-short-update-requires : tie.Need-short-update-requires
-short-update-requires c κs = successor-passed _ _ _ _ (c .before .before .judge-successor .ensures) (c .enum-told .given .1) .0
+cut-update-requires : tie.Need-cut-update-requires
+cut-update-requires c κs = successor-known _ _ _ _ (c .before .before .judge-successor .ensures) (c .enum-told .given .1) .0
 
 returns-2 : tie.Need-returns-2
 unfolding ofUpdate ofSuccessor ofManifest behind
-returns-2 c = refused (turn (c .before .before)) (sym (c .before .short-update .ensures) ∙ c .if1 .taken)
+returns-2 c = refused (turn (c .before .before)) (sym (c .before .cut-update .ensures) ∙ c .if1 .taken)
 
 block-len-requires : tie.Need-block-len-requires
 block-len-requires c κs = search needs
@@ -135,7 +135,7 @@ lacks-root-requires : tie.Need-lacks-root-requires
 lacks-root-requires c κs =
     let k = c .before .before .before .before .before in
     let t = k .before .before .before in
-    let p = successor-passed _ _ _ _ (t .before .before .judge-successor .ensures) (t .enum-told .given .1) in
+    let p = successor-known _ _ _ _ (t .before .before .judge-successor .ensures) (t .enum-told .given .1) in
     (p .0, p .1, p .2, ap length (c .update-block .ensures) ∙ length-update-block _ (message (t .before .before)) (enough k) ∙ k .block-len .ensures)
 
 returns-4 : tie.Need-returns-4
@@ -156,7 +156,7 @@ judge-update-spec =
     enum-told
     enum-told-2
     returns
-    short-update-requires
+    cut-update-requires
     returns-2
     block-len-requires
     manifest-bytes-requires

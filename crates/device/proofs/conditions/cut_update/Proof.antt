@@ -2,8 +2,8 @@ use mathlib.Core.Path.{ap}
 use lib.Dec.{ltb}
 use lib.ListN.{length}
 use borrow.Author.Needs.{needs}
-use Rattle.device.proofs.conditions.short_update.Statement.{statement}
-use Rattle.device.proofs.conditions.short_update.Tie as tie
+use Rattle.device.proofs.conditions.cut_update.Statement.{statement}
+use Rattle.device.proofs.conditions.cut_update.Tie as tie
 
 cast-least-update : tie.Need-cast-least-update
 cast-least-update c = search needs
@@ -17,5 +17,5 @@ least-update-requires c κs = search needs
 returns : tie.Need-returns
 returns c = ap (λ k. ltb (length (c .before .before .before .before .args .message .now)) k) (c .least-update .ensures)
 
-pub short-update-spec : {M : Type 1} → statement M
-short-update-spec = tie.close (tie.spec cast-least-update cast-least-update-2 least-update-requires returns)
+pub cut-update-spec : {M : Type 1} → statement M
+cut-update-spec = tie.close (tie.spec cast-least-update cast-least-update-2 least-update-requires returns)
