@@ -1,4 +1,5 @@
-/* The sender: the time of all block messages of an image, as a multiple of the time of its manifest, which takes each block's digest once. */
+/* The sender: the time of all block messages of an image, and of a path update of its first block, each as a multiple of the time of its manifest, which takes
+   each block's digest once. */
 #include "accepted.h"
 #include "compressions.h"
 #include "input.h"
@@ -25,18 +26,24 @@ static void send_blocks(const void *with) {
         accepted(lertxuno_block(image, s->length, s->block_length, i, out, sizeof out, &written));
 }
 
+static void send_path_update(const void *with) {
+    const size *s = with;
+    size_t written;
+    accepted(lertxuno_path_update(image, s->length, s->block_length, MODEL, SERIAL, 1, image, 0, out, sizeof out, &written));
+}
+
 static void measure(uint32_t block_length, size_t length) {
     const size s = {length, block_length, (uint32_t)((length + block_length - 1) / block_length)};
-    const side sides[] = {{send_manifest, &s, 1}, {send_blocks, &s, 1}};
-    double best[2];
-    turns(ROUNDS, 2, sides, best);
-    printf("%10zu %8u %8u %12.2f %12.2f %12.2f %12.2f\n", length, block_length, s.n, best[0] * 1e3, best[1] * 1e3, best[1] / best[0],
-           (double)tree_depth(s.n) / 2);
+    const side sides[] = {{send_manifest, &s, 1}, {send_blocks, &s, 1}, {send_path_update, &s, 1}};
+    double best[3];
+    turns(ROUNDS, 3, sides, best);
+    printf("%10zu %8u %8u %12.2f %12.2f %12.2f %12.2f %12.2f %12.2f\n", length, block_length, s.n, best[0] * 1e3, best[1] * 1e3, best[1] / best[0],
+           (double)tree_depth(s.n) / 2, best[2] * 1e3, best[2] / best[0]);
 }
 
 int main(void) {
     fill(image, sizeof image);
-    printf("%10s %8s %8s %12s %12s %12s %12s\n", "image", "L", "n", "manifest, ms", "messages, ms", "ratio", "log2(n) / 2");
+    printf("%10s %8s %8s %12s %12s %12s %12s %12s %12s\n", "image", "L", "n", "manifest, ms", "messages, ms", "ratio", "log2(n) / 2", "path, ms", "ratio");
     measure(1024, 1 << 20);
     measure(256, 1 << 20);
     measure(64, 1 << 18);

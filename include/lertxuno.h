@@ -11,7 +11,7 @@
  * 1.1 KB for lertxuno_digest, 100 bytes for the others. Time goes into SHA-256 compressions, one for each 64 bytes hashed: a signature's verdict takes about
  * 4,400 (signature type 4, height 5) or 600 (type 3, height 10), at the device a block takes those of its bytes and two for each hash that it carries, a path
  * update those of two blocks and four for each hash, an update those of the whole image; the sender's functions take those of the whole image,
- * lertxuno_path_update nearly twice as many, and lertxuno_block those of the part that its hashes stand for. Measured stack, code and time: README.
+ * lertxuno_path_update twice as many, and lertxuno_block those of the part that its hashes stand for. Measured stack, code and time: README.
  *
  * Words: a program is an image, cut into blocks, and its manifest, which is signed. Numbers are big-endian.
  */

@@ -1,7 +1,7 @@
 -- What an accepted kind 4 message does to the tree: with the old root before, the new root after, or its path clashes with the tree.
-use mathlib.Core.Path.{_≡_, refl, sym, ap, ap₂, _∙_}
+use mathlib.Core.Path.{_≡_, sym, ap, ap₂, _∙_}
 use mathlib.Core.Logic.{_⊎_, inl, inr}
-use mathlib.Core.Bool.{Bool, true, false, _&&_, true≢false}
+use mathlib.Core.Bool.{Bool, false}
 use mathlib.Core.List.{List}
 use Prim.Native.Nat.{ℕ, suc, pred, _+_, _<_}
 use native.Mathlib.Omega.{arith}
@@ -22,6 +22,7 @@ use Rattle.merkle.proofs.WayLaws.{leaf-depths}
 use Rattle.wire.specs.declared.manifest.Manifest.{Manifest}
 use Rattle.wire.specs.Geometry.{countOf, blockLength, blocksOf, withBlock, treeOver}
 use Rattle.wire.specs.Message.{manifestIn, updateNumber, updateBlock, leastUpdate}
+use Rattle.wire.proofs.SizeLaws.{and-true}
 use Rattle.wire.proofs.GeometryLaws.{with-blocks}
 use Rattle.wire.proofs.MessageLaws.{length-update-block}
 use Rattle.machine.specs.declared.state.Device.{Device}
@@ -31,15 +32,11 @@ use Rattle.machine.proofs.RefusalLaws.{PathPassed, path-block}
 use Rattle.guarantee.specs.Run.{siblingsIn}
 use Rattle.guarantee.specs.Demand3.{Clash}
 
-both : (a b : Bool) → a && b ≡ true → (a ≡ true) × (b ≡ true)
-both true b e = (refl, e)
-both false b e = absurd (true≢false (sym e))
-
 -- manifests that refusal 13 does not tell apart have the same blocks and the same tree
 alike-tree : (H : List ℕ → List ℕ) (s old : Manifest) (f : List ℕ) → unlike s old ≡ false → treeOver H s f ≡ treeOver H old f
 unfolding unlike treeOver blocksOf countOf
 alike-tree H s old f e =
-    let q = both (eqb (s .«block_len») (old .«block_len»)) (eqb (s .«image_len») (old .«image_len»)) (not-false _ e) in
+    let q = and-true (eqb (s .«block_len») (old .«block_len»)) (eqb (s .«image_len») (old .«image_len»)) (not-false _ e) in
     ap₂ (λ L T. rootOver (plain H) (cut L f) (blockCount L T)) (eqb-true (s .«block_len») (old .«block_len») (q .0)) (eqb-true (s .«image_len») (old .«image_len») (q .1))
 
 module _ (H : List ℕ → List ℕ) (hash-long : (x : List ℕ) → length (H x) ≡ hashLength) (valid : (key message signature : List ℕ) → Bool) (d : Device) (flash m : List ℕ) (p : PathPassed H valid d flash m) where

@@ -1,6 +1,6 @@
 -- Reading a number in base ten, digit by digit.
 use mathlib.Core.Path.{_≡_, refl, sym, ap, _∙_}
-use mathlib.Core.Bool.{Bool, true, false, not, _&&_, _||_, true≢false}
+use mathlib.Core.Bool.{Bool, true, false, not, _||_}
 use mathlib.Core.List.{List, [], _∷_, _++_}
 use Prim.Native.Nat.{ℕ, zero, suc, _+_, _-_, _*_, _/_, _%_, _≤_, _<_}
 use native.Mathlib.Numerals.{add-one}
@@ -10,6 +10,7 @@ use lib.Dec.{ltb}
 use lib.ListN.{length, length-append, drop, getD, drop-of-length-le}
 use lib.Seq.{drop-cons}
 use borrow.Author.Tests.{lt-ltb, le-ltb, eq-eqb, ne-eqb}
+use Rattle.wire.proofs.SizeLaws.{and-true}
 use Rattle.bundle.specs.Text.{decimal}
 use Rattle.bundle.proofs.TextLaws.{decimal-small, decimal-large}
 use Rattle.pack.specs.declared.decimal.Parsed.the-variants.{Number, Wrong}
@@ -21,10 +22,6 @@ value-grows : (v : ℕ) (ds : List ℕ) → v ≤ value v ds
 unfolding value
 value-grows v [] = omega arith
 value-grows v (d ∷ ds) = omega (arith, value-grows (v * 10 + (d - 48)) ds)
-
-and-true : (a b : Bool) → a && b ≡ true → (a ≡ true) × (b ≡ true)
-and-true true b e = (refl, e)
-and-true false b e = absurd (true≢false (sym e))
 
 or-last : (b : Bool) → b || true ≡ true
 or-last true = refl

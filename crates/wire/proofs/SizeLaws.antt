@@ -1,7 +1,7 @@
 -- What an allowed size says of block length, image length and block count.
 use mathlib.Core.Path.{_≡_, refl, sym}
 use mathlib.Core.Logic.{_⊎_, inl, inr}
-use mathlib.Core.Bool.{Bool, true, false, not, _||_, true≢false}
+use mathlib.Core.Bool.{Bool, true, false, not, _&&_, _||_, true≢false}
 use Prim.Native.Nat.{ℕ, _+_, _-_, _*_, _/_, _≤_, _<_}
 use native.Mathlib.Nat.{le-trans, mul-le-mul-left, mul-le-mul-right, add-div-right}
 use native.Mathlib.Omega.{arith}
@@ -43,6 +43,10 @@ or-true false t e = inr e
 pub or-false : (s t : Bool) → s || t ≡ false → (s ≡ false) × (t ≡ false)
 or-false true t e = absurd (true≢false e)
 or-false false t e = (refl, e)
+
+pub and-true : (s t : Bool) → s && t ≡ true → (s ≡ true) × (t ≡ true)
+and-true true t e = (refl, e)
+and-true false t e = absurd (true≢false (sym e))
 
 pub length-range : (L : ℕ) → allowedLength L ≡ true → (64 ≤ L) × (L ≤ 1024)
 unfolding allowedLength
