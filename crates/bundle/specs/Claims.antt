@@ -7,8 +7,6 @@ use lib.ListN.{length}
 use Rattle.sha256.specs.Sha256.{digest}
 use Rattle.lms.specs.Lms.{valid}
 use Rattle.wire.specs.Size.{wrongSize}
-use Rattle.wire.specs.Geometry.{programLength}
-use Rattle.wire.specs.Image.{filled}
 use Rattle.wire.specs.Manifest.{written}
 use Rattle.wire.specs.Message.{messagesLength, atStart}
 use Rattle.sender.specs.Job.{Image, Job, count, manifestFor}
@@ -33,7 +31,7 @@ pub record Loadable (key flash : List ℕ) (job : Job) (filler signature : List 
   pub sendable : Sendable job
   pub model : job .model ≡ deviceFor key .model
   pub serial : 0 < job .serial
-  pub room : programLength (manifestFor digest job) ≤ length flash
+  pub room : length (job .image .bytes) ≤ length flash
   pub signed : valid (deviceFor key .key) (written (manifestFor digest job)) signature ≡ true
   pub fits : length (bundleFor digest job filler signature) ≤ maxBundle
 
@@ -48,7 +46,7 @@ pub record Whole (job : Job) (bundle flash : List ℕ) (p : Printed) : Type 0 wh
   pub text : p .text ≡ bundleLine (length bundle) ++ slipLine 0 ++ acceptedFrom (count (job .image)) 1 ++ line (ascii "state complete ") (count (job .image))
   pub stage : p .device .stage ≡ Complete
   pub manifest : p .device .manifest ≡ manifestFor digest job
-  pub image : p .flash ≡ atStart (filled (job .image .«block_len») (job .image .bytes)) flash
+  pub image : p .flash ≡ atStart (job .image .bytes) flash
 
 -- The showroom's bundle for an image, with any filler, loads to complete with that image.
 abbrev pub LoadsWhole : Type 0

@@ -4,10 +4,11 @@ use mathlib.Core.Logic.{_⊎_, inl, inr}
 use mathlib.Core.Bool.{Bool, false, not}
 use mathlib.Core.List.{List, map}
 use Prim.Native.Nat.{ℕ, zero, suc, pred, _+_, _-_, _*_, _≤_, _<_}
-use native.Mathlib.Nat.{mul-le-mul-right, zero-add}
+use native.Mathlib.Nat.{zero-add}
 use native.Mathlib.Omega.{arith}
 use lib.Dec.{ltb, leb}
-use lib.ListN.{length, length-map}
+use lib.ListN.{length, take, length-map}
+use lib.Seq.{length-take-le}
 use borrow.Author.Tests.{eqb-true, not-false, ltb-false, lt-ltb, le-ltb, le-leb, lt-leb}
 use Rattle.octets.specs.Octets.{equal}
 use Rattle.merkle.specs.Limits.{hashLength, heldBytes}
@@ -20,7 +21,7 @@ use Rattle.merkle.proofs.ShapeLaws.{lt-or-le}
 use Rattle.merkle.proofs.HashLaws.{hash-same}
 use Rattle.wire.specs.declared.manifest.Manifest.{Manifest}
 use Rattle.wire.specs.Size.{wrongSize}
-use Rattle.wire.specs.Geometry.{countOf, blockLength, programLength, blocksOf, withBlock, treeOver}
+use Rattle.wire.specs.Geometry.{countOf, blockLength, blocksOf, withBlock, treeOver}
 use Rattle.wire.specs.Message.{blockIn, hashesAfter, dueLength}
 use Rattle.wire.proofs.SizeLaws.{sized}
 use Rattle.wire.proofs.GeometryLaws.{block-end, with-blocks}
@@ -48,22 +49,22 @@ not-above a b = go (lt-or-le b a)
     go (inr p) = rw (le-leb a b p, le-ltb b a p)
 
 module _ (s : Manifest) (flash : List ℕ) where
-  -- so many blocks but one fit into the flash
-  pub rest-fits : (n : ℕ) → wrongSize (s .«block_len») (s .«image_len») ≡ false → tooSmall s flash ≡ false → n ≡ countOf s → (0 < n) × ((n - 1) * s .«block_len» ≤ length flash)
-  unfolding tooSmall programLength countOf
+  -- so many blocks but one fit into the program's bytes
+  pub rest-fits : (n : ℕ) → wrongSize (s .«block_len») (s .«image_len») ≡ false → tooSmall s flash ≡ false → n ≡ countOf s
+      → (0 < n) × ((n - 1) * s .«block_len» ≤ length (take (s .«image_len») flash))
+  unfolding tooSmall countOf
   rest-fits n e t en =
       let z = sized _ _ e in
-      let m : (n - 1) * s .«block_len» ≤ countOf s * s .«block_len» = mul-le-mul-right (s .«block_len») (omega arith) in
-      (omega arith, omega (arith, m, ltb-false (length flash) (countOf s * s .«block_len») t))
+      rw en (z .first, omega (arith, z .below, length-take-le (s .«image_len») flash (ltb-false _ _ t)))
 
   -- block i has room in the flash
-  pub room : (i : ℕ) → programLength s ≤ length flash → 0 < i → i ≤ countOf s → (i - 1) * s .«block_len» + blockLength (s .«block_len») (s .«image_len») i ≤ length flash
+  pub room : (i : ℕ) → s .«image_len» ≤ length flash → 0 < i → i ≤ countOf s → (i - 1) * s .«block_len» + blockLength (s .«block_len») (s .«image_len») i ≤ length flash
   room zero fits low high = absurd (omega arith)
   room (suc i) fits low high = let z : suc i - 1 ≡ i = omega arith in rw z (block-end s i flash high fits)
 
   -- 14 of an update: the tree over flash and block together is the tree over the flash with the block written
   pub lacks-is : (H : List ℕ → List ℕ) (x : List ℕ) (i n : ℕ) (root : List ℕ) (t : Bool) → tooSmall s flash ≡ false → 0 < i → i ≤ countOf s → n ≡ countOf s
-      → length x ≡ blockLength (s .«block_len») (s .«image_len») i → root ≡ rootOver (plain H) (overlay (cut (s .«block_len») flash) (i - 1) x) n → t ≡ equal root (s .root)
+      → length x ≡ blockLength (s .«block_len») (s .«image_len») i → root ≡ rootOver (plain H) (overlay (cut (s .«block_len») (take (s .«image_len») flash)) (i - 1) x) n → t ≡ equal root (s .root)
       → not t ≡ lacksRoot H s (withBlock (s .«block_len») flash i x)
   lacks-is H x zero n root t small low high en long e et = absurd (omega arith)
   lacks-is H x (suc i) n root t small low high en long e et =
@@ -71,7 +72,7 @@ module _ (s : Manifest) (flash : List ℕ) where
       let z : suc i - 1 ≡ i = omega arith in
       let same = with-blocks s i flash high (ltb-false _ _ small) x long in
       ap not (et ∙ ap (λ (y : List ℕ). equal y (s .root)) ((rw (z, en) at e)
-      ∙ sym (hash-same (plain H) {o = 0} {g = overlay (cut (s .«block_len») flash) i x} {u = 0} (shape (countOf s)) (record { block = λ j h. rw (zero-add j) (same j) }))))
+      ∙ sym (hash-same (plain H) {o = 0} {g = overlay (blocksOf s flash) i x} {u = 0} (shape (countOf s)) (record { block = λ j h. rw (zero-add j) (same j) }))))
 
 -- a block message that is as long as it should be, and its hashes in hand
 pub measured : (s : Manifest) (i : ℕ) (m : List ℕ) → wrongLength s i m ≡ false → length m ≡ dueLength (s .«block_len») (s .«image_len») i

@@ -14,7 +14,7 @@ ghost use Rattle.sha256.specs.Sha256.{digest};
 ghost use Rattle.merkle.specs.Limits.{maxBlocks};
 ghost use Rattle.lms.specs.Lms.{valid};
 ghost use Rattle.wire.specs.declared.kind.Kind.the-variants as kinds;
-ghost use Rattle.wire.specs.Geometry.{countOf, programLength, withBlock};
+ghost use Rattle.wire.specs.Geometry.{countOf, withBlock};
 ghost use Rattle.wire.specs.Message.{leastLength, manifestIn, updateNumber, leastUpdate};
 ghost use Rattle.wire.specs.Message as messages;
 ghost use Rattle.machine.specs.Step.{acceptProgram, stageAfter, acceptBlock, acceptUpdate, refusalOf};
@@ -102,7 +102,7 @@ fn accept_block(device: Device, flash: &mut [u8], message: &[u8]) -> Device
 // Kinds 3 and 4.
 fn accept_update(device: Device, flash: &mut [u8], message: &[u8]) -> Device
     requires { ⌜ (leastUpdate (manifestIn (now message) .«block_len») (manifestIn (now message) .«image_len») (updateNumber (now message)) ≤ length (now message))
-        × (programLength (manifestIn (now message)) ≤ length (now flash)) × (0 < updateNumber (now message)) × (updateNumber (now message) ≤ countOf (manifestIn (now message))) ⌝ }
+        × (manifestIn (now message) .«image_len» ≤ length (now flash)) × (0 < updateNumber (now message)) × (updateNumber (now message) ≤ countOf (manifestIn (now message))) ⌝ }
     ensures { λ r. ⌜ acceptUpdate device (now (flash .entry)) (now (message .entry)) ≡ record { device = r; flash = now (flash .exit) } ⌝ }
 {
     let manifest = wire::manifest_in(message);

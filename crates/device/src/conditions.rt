@@ -14,7 +14,7 @@ ghost use Rattle.lms.specs.Lms.{valid};
 ghost use Rattle.wire.specs.declared.kind.Kind.the-variants as kinds;
 ghost use Rattle.wire.specs.Size.{wrongSize};
 ghost use Rattle.wire.specs.Size as size;
-ghost use Rattle.wire.specs.Geometry.{countOf, blockLength, programLength, blocksOf, withBlock};
+ghost use Rattle.wire.specs.Geometry.{countOf, blockLength, blocksOf, withBlock};
 ghost use Rattle.wire.specs.Message.{leastLength, leastUpdate, leastPath};
 ghost use Rattle.machine.specs.declared.state.Stage.the-variants.{Loading};
 ghost use Rattle.machine.specs.Device.{serialOf, nextOf};
@@ -97,20 +97,11 @@ pub fn not_newer(device: Device, manifest: Manifest) -> bool
     manifest.serial <= serial_of(device)
 }
 
-// The bytes of the flash that the manifest's blocks need.
-fn program_len(manifest: Manifest) -> usize
-    requires { ⌜ wrongSize (manifest .«block_len») (manifest .«image_len») ≡ false ⌝ }
-    ensures { λ r. ⌜ r ≡ programLength manifest ⌝ }
-{
-    wire::area_len(manifest.block_len as usize, manifest.image_len as usize)
-}
-
 // 8.
 pub fn too_small(manifest: Manifest, flash: &[u8]) -> bool
-    requires { ⌜ wrongSize (manifest .«block_len») (manifest .«image_len») ≡ false ⌝ }
     ensures { λ r. ⌜ r ≡ tooSmall manifest (now (flash .entry)) ⌝ }
 {
-    flash.len() < program_len(manifest)
+    flash.len() < manifest.image_len as usize
 }
 
 // 9, for a manifest's bytes and the signature over them.
@@ -156,6 +147,7 @@ pub fn next_of(stage: Stage) -> u16
 
 // The bytes of block `number`, from 1.
 pub fn block_len(manifest: Manifest, number: u16) -> usize
+    requires { ⌜ (0 < number) × (number ≤ countOf manifest) ⌝ }
     ensures { λ r. ⌜ r ≡ blockLength (manifest .«block_len») (manifest .«image_len») number ⌝ }
 {
     wire::block_length(
@@ -188,7 +180,7 @@ pub fn wrong_length(manifest: Manifest, next: u16, message: &[u8]) -> bool
 
 // 12, kind 3.
 pub fn cut_update(manifest: Manifest, number: u16, message: &[u8]) -> bool
-    requires { ⌜ wrongSize (manifest .«block_len») (manifest .«image_len») ≡ false ⌝ }
+    requires { ⌜ (wrongSize (manifest .«block_len») (manifest .«image_len») ≡ false) × (size.outside (countOf manifest) number ≡ false) ⌝ }
     ensures { λ r. ⌜ r ≡ ltb (length (now (message .entry))) (leastUpdate (manifest .«block_len») (manifest .«image_len») number) ⌝ }
 {
     message.len()
@@ -245,8 +237,9 @@ pub fn lacks_root(manifest: Manifest, flash: &[u8], number: u16, block: &[u8]) -
     ensures { λ r. ⌜ r ≡ spec.lacksRoot digest manifest (withBlock (manifest .«block_len») (now (flash .entry)) number (now (block .entry))) ⌝ }
 {
     let root = manifest.root;
+    let end = manifest.image_len as usize;
     let found = merkle::root_with(
-        flash,
+        &flash[..end],
         manifest.block_len as usize,
         count(manifest),
         number as usize - 1,
@@ -268,9 +261,12 @@ pub fn old_block(manifest: Manifest, flash: &[u8], number: u16) -> &[u8]
     requires { ⌜ (tooSmall manifest (now flash) ≡ false) × (size.outside (countOf manifest) number ≡ false) ⌝ }
     ensures { λ r. ⌜ now r ≡ blocksOf manifest (now (flash .entry)) (pred number) ⌝ }
 {
-    let from = (number as usize - 1) * manifest.block_len as usize;
-    let end = from + block_len(manifest, number);
-    &flash[from..end]
+    wire::block_of(
+        flash,
+        manifest.block_len as usize,
+        manifest.image_len as usize,
+        number as usize,
+    )
 }
 
 // 15 and 14, kind 4: the block with these siblings does not lead to the root.

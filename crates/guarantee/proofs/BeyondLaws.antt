@@ -8,7 +8,7 @@ use native.Mathlib.Omega.{arith}
 use lib.ListN.{length, drop}
 use Rattle.wire.specs.declared.manifest.Manifest.{Manifest}
 use Rattle.wire.specs.declared.refusal.Refusal.{Refusal}
-use Rattle.wire.specs.Geometry.{countOf, blockLength, programLength, withBlock}
+use Rattle.wire.specs.Geometry.{countOf, blockLength, withBlock}
 use Rattle.wire.specs.Message.{kind, manifestIn, blockIn, updateNumber, updateBlock, dueLength, leastUpdate}
 use Rattle.wire.proofs.GeometryLaws.{with-behind}
 use Rattle.wire.proofs.MessageLaws.{length-block, length-update-block}
@@ -21,15 +21,15 @@ use Rattle.guarantee.specs.Run.{Messages, _▷_}
 use Rattle.guarantee.proofs.RunLaws.{now, refusalAt, more, same}
 
 -- block i, from 1, of k bytes
-behind-block : (s : Manifest) (i : ℕ) (flash x : List ℕ) → 0 < i → i ≤ countOf s → programLength s ≤ length flash → length x ≡ blockLength (s .«block_len») (s .«image_len») i
-    → drop (programLength s) (withBlock (s .«block_len») flash i x) ≡ drop (programLength s) flash
+behind-block : (s : Manifest) (i : ℕ) (flash x : List ℕ) → 0 < i → i ≤ countOf s → s .«image_len» ≤ length flash → length x ≡ blockLength (s .«block_len») (s .«image_len») i
+    → drop (s .«image_len») (withBlock (s .«block_len») flash i x) ≡ drop (s .«image_len») flash
 behind-block s zero flash x low high room long = absurd (omega arith)
 behind-block s (suc k) flash x low high room long = with-behind s k flash high room x long
 
 module _ (H : List ℕ → List ℕ) (valid : (key message signature : List ℕ) → Bool) where
   module _ (d : Device) (flash m : List ℕ) where
     abbrev Kept : Situation → Type 0
-    Kept s = drop (programLength (s .device .manifest)) (s .flash) ≡ drop (programLength (s .device .manifest)) flash
+    Kept s = drop (s .device .manifest .«image_len») (s .flash) ≡ drop (s .device .manifest .«image_len») flash
 
     kept-block : BlockPassed H valid d flash m → Kept (acceptBlock d flash m)
     unfolding acceptBlock stored dueLength
@@ -55,13 +55,13 @@ module _ (H : List ℕ → List ℕ) (valid : (key message signature : List ℕ)
     kept (took-path q p) = rw q (kept-update (p .successor) (path-block H valid d flash m p))
 
   pub beyond : (d : Device) (flash : List ℕ) (ms : Messages) (m : List ℕ)
-      → (let s = now H valid d flash (ms ▷ m) .device .manifest in drop (programLength s) (now H valid d flash (ms ▷ m) .flash) ≡ drop (programLength s) (now H valid d flash ms .flash))
+      → (let s = now H valid d flash (ms ▷ m) .device .manifest in drop (s .«image_len») (now H valid d flash (ms ▷ m) .flash) ≡ drop (s .«image_len») (now H valid d flash ms .flash))
   beyond d flash ms m = go (refusalAt H valid d flash ms m) refl
     where
       at : Situation
       at = now H valid d flash ms
 
       go : (r : Option Refusal) → refusalAt H valid d flash ms m ≡ r
-          → (let s = now H valid d flash (ms ▷ m) .device .manifest in drop (programLength s) (now H valid d flash (ms ▷ m) .flash) ≡ drop (programLength s) (now H valid d flash ms .flash))
+          → (let s = now H valid d flash (ms ▷ m) .device .manifest in drop (s .«image_len») (now H valid d flash (ms ▷ m) .flash) ≡ drop (s .«image_len») (now H valid d flash ms .flash))
       go none e = rw (more H valid d flash ms m e .after-is) (kept (at .device) (at .flash) m (passed H valid (at .device) (at .flash) m e))
       go (some r) e = rw (same H valid d flash ms m r e .after-is)

@@ -7,10 +7,10 @@ use mathlib.Core.Option.{none, some}
 use Prim.Native.Nat.{ℕ, zero, suc, _*_, _<_}
 use native.Mathlib.Nat.{zero-add}
 use native.Mathlib.Omega.{arith}
-use lib.ListN.{length, take}
+use lib.ListN.{length, take, length-take}
 use lib.Seq.{take-all}
 use Rattle.merkle.specs.Limits.{hashLength}
-use Rattle.merkle.specs.Blocks.{cut}
+use Rattle.merkle.specs.Blocks.{blockCount, cut}
 use Rattle.merkle.specs.Shape.{shape}
 use Rattle.merkle.specs.Hash.{plain, Collision}
 use Rattle.merkle.proofs.ShapeLaws.{size-shape}
@@ -19,11 +19,9 @@ use Rattle.merkle.proofs.BindingLaws.{binding}
 use Rattle.merkle.proofs.BlockLaws.{blocks-equal}
 use Rattle.wire.specs.declared.kind.Kind.the-variants.{PathUpdate}
 use Rattle.wire.specs.declared.manifest.Manifest.{Manifest}
-use Rattle.wire.specs.Geometry.{countOf, areaLength, blocksOf, treeOver}
-use Rattle.wire.specs.Image.{filled, imageBlocks}
+use Rattle.wire.specs.Geometry.{countOf, blocksOf, treeOver}
 use Rattle.wire.specs.Message.{kind, manifestIn}
 use Rattle.wire.proofs.SizeLaws.{Sized}
-use Rattle.wire.proofs.ImageLaws.{length-filled}
 use Rattle.machine.specs.declared.state.Stage.{Stage}
 use Rattle.machine.specs.declared.state.Stage.the-variants.{Idle, Loading, Complete}
 use Rattle.machine.specs.declared.state.Device.{Device}
@@ -39,29 +37,30 @@ use Rattle.guarantee.proofs.BeyondLaws.{beyond}
 use Rattle.guarantee.proofs.RunLaws.{now, taken, refusalAt, answered, every-list}
 
 module _ (H : List ℕ → List ℕ) (hash-long : (x : List ℕ) → length (H x) ≡ hashLength) where
-  -- an image of the flash's length with its root is the start of the flash, or there is a collision
-  bound-image : (s : Manifest) (f x : List ℕ) → Sized (s .«block_len») (s .«image_len») → treeOver H s f ≡ s .root → length x ≡ s .«image_len» → treeOver H s (filled (s .«block_len») x) ≡ s .root
-      → (filled (s .«block_len») x ≡ take (length (filled (s .«block_len») x)) f) ⊎ Collision (plain H) (imageBlocks (s .«block_len») x) (blocksOf s f) 0 (shape (countOf s))
-  unfolding treeOver blocksOf imageBlocks
-  bound-image s f x z rooted lx e = go (binding (plain H) hash-long (cut L (filled L x)) (cut L f) 0 (shape n) (e ∙ sym rooted))
+  -- an image of the program's length with its root is the start of the flash, or there is a collision
+  bound-image : (s : Manifest) (f x : List ℕ) → Sized (s .«block_len») (s .«image_len») → treeOver H s f ≡ s .root → length x ≡ s .«image_len» → treeOver H s x ≡ s .root
+      → (x ≡ take (s .«image_len») f) ⊎ Collision (plain H) (blocksOf s x) (blocksOf s f) 0 (shape (countOf s))
+  unfolding treeOver blocksOf countOf
+  bound-image s f x z rooted lx e = go (binding (plain H) hash-long (cut L (take T x)) (cut L (take T f)) 0 (shape n) (e ∙ sym rooted))
     where
       L : ℕ
       L = s .«block_len»
 
+      T : ℕ
+      T = s .«image_len»
+
       n : ℕ
-      n = countOf s
+      n = blockCount L T
 
-      long : length (filled (s .«block_len») x) ≡ countOf s * s .«block_len»
-      long = unfold countOf in (length-filled (s .«block_len») x (rw lx z) ∙ ap (areaLength (s .«block_len»)) lx)
+      -- n blocks are as much as T bytes
+      all : (y : List ℕ) → take (n * L) (take T y) ≡ take T y
+      all y = take-all (n * L) (take T y) (omega (arith, length-take T y, z .above))
 
-      pos : 0 < countOf s
-      pos = unfold countOf in z .first
-
-      go : Same (cut L (filled L x)) 0 (cut L f) 0 (shape n) ⊎ Collision (plain H) (cut L (filled L x)) (cut L f) 0 (shape n)
-          → (filled L x ≡ take (length (filled L x)) f) ⊎ Collision (plain H) (cut L (filled L x)) (cut L f) 0 (shape n)
+      go : Same (cut L (take T x)) 0 (cut L (take T f)) 0 (shape n) ⊎ Collision (plain H) (cut L (take T x)) (cut L (take T f)) 0 (shape n)
+          → (x ≡ take T f) ⊎ Collision (plain H) (cut L (take T x)) (cut L (take T f)) 0 (shape n)
       go (inl a) =
-          let blocks = blocks-equal L (filled L x) f n (λ j h. rw zero-add at (a .block j (rw (size-shape n pos) h))) in
-          inl (rw long (sym (take-all (n * L) (filled L x) (omega (arith, long))) ∙ blocks))
+          let same = blocks-equal L (take T x) (take T f) n (λ j h. rw zero-add at (a .block j (rw (size-shape n (z .first)) h))) in
+          inl (sym (take-all T x (omega arith)) ∙ sym (all x) ∙ same ∙ all f)
       go (inr c) = inr c
 
 module _ (H : List ℕ → List ℕ) (valid : (key message signature : List ℕ) → Bool) (d : Device) where

@@ -17,6 +17,7 @@ use Rattle.merkle.specs.Hash.{plain, hashes}
 use Rattle.merkle.specs.Frontier.{frontier, heldCount}
 use Rattle.merkle.specs.Held.{heldIn, begun, advanced, fits}
 use Rattle.merkle.proofs.ShapeLaws.{lt-or-le}
+use Rattle.merkle.proofs.BlockLaws.{block-starts}
 use Rattle.merkle.proofs.HashLaws.{length-hashes}
 use Rattle.merkle.proofs.CountLaws.{held-depth}
 use Rattle.merkle.proofs.HeldLaws.{begun-held, length-begun, all-held}
@@ -26,8 +27,7 @@ use Rattle.wire.specs.declared.kind.Kind.the-variants.{Program, Block}
 use Rattle.wire.specs.declared.manifest.Manifest.{Manifest}
 use Rattle.wire.specs.Size.{outside}
 use Rattle.wire.specs.Manifest.{written}
-use Rattle.wire.specs.Image.{filled, imageBlocks}
-use Rattle.wire.specs.Geometry.{countOf, blockLength, programLength, withBlock}
+use Rattle.wire.specs.Geometry.{countOf, blockLength, withBlock}
 use Rattle.wire.specs.Message.{leastLength, short, manifestBytes, manifestIn, numberIn, blockIn, hashesAfter, dueLength, atStart}
 use Rattle.wire.proofs.GeometryLaws.{more-blocks}
 use Rattle.sender.specs.Job.{Job, count, blocks, rootOf, manifestFor, blockFor}
@@ -40,7 +40,7 @@ use Rattle.machine.specs.Step.{acceptProgram, stageAfter, acceptBlock, accept, 
 use Rattle.guarantee.specs.Demand3.{Sendable}
 use Rattle.machine.proofs.RefusalLaws.{ProgramPassed, NextDue, due-unrefused}
 use Rattle.machine.proofs.HeldLaws.{mismatch-is}
-use Rattle.guarantee.proofs.SentLaws.{count-some, count-most, job-length, block-length, root-long, manifest-is, Sent, block-sent}
+use Rattle.guarantee.proofs.SentLaws.{count-some, count-most, job-enough, root-long, manifest-is, Sent, block-sent}
 
 both-false : (s t : Bool) → s ≡ false → t ≡ false → s || t ≡ false
 both-false s t a b = rw (a, b)
@@ -57,8 +57,8 @@ module _ (H : List ℕ → List ℕ) (hash-long : (x : List ℕ) → length (H x
     pub manifest : s .device .manifest ≡ manifestFor H job
     pub array : length (s .device .hashes) ≡ heldBytes
     pub holds : heldIn (count (job .image)) j (s .device .hashes) ≡ hashes (plain H) (blocks (job .image)) (frontier 0 (shape (count (job .image))) j)
-    pub room : programLength (manifestFor H job) ≤ length old
-    pub flash : s .flash ≡ take (j * job .image .«block_len») (filled (job .image .«block_len») (job .image .bytes)) ++ drop (j * job .image .«block_len») old
+    pub room : length (job .image .bytes) ≤ length old
+    pub flash : s .flash ≡ atStart (take (j * job .image .«block_len») (job .image .bytes)) old
 
   -- the sender's next block, to a device that loads the job
   module _ (j : ℕ) (array : List ℕ) (below : j < count (job .image)) (array-long : length array ≡ heldBytes)
@@ -75,7 +75,7 @@ module _ (H : List ℕ → List ℕ) (hash-long : (x : List ℕ) → length (H x
     matches : fits (plain H) (count (job .image)) j array (blockIn size (blockFor H (job .image) (suc j))) (hashesAfter size (blockFor H (job .image) (suc j))) ≡ true
     matches = rw (is-sent .block, is-sent .after) (run .accepted)
 
-    is-due : (model : ℕ) (key f : List ℕ) → programLength (manifestFor H job) ≤ length f → NextDue H valid (loadingAt H job model key j array) f (blockFor H (job .image) (suc j))
+    is-due : (model : ℕ) (key f : List ℕ) → length (job .image .bytes) ≤ length f → NextDue H valid (loadingAt H job model key j array) f (blockFor H (job .image) (suc j))
     unfolding senseless short notLoading tooSmall nextOf notNext wrongLength wrongVersion outside countOf count loadingAt manifestFor dueLength
     is-due model key f room =
         let m : List ℕ = blockFor H (job .image) (suc j) in
@@ -91,12 +91,10 @@ module _ (H : List ℕ → List ℕ) (hash-long : (x : List ℕ) → length (H x
         }
 
   module _ (old : List ℕ) (j : ℕ) (s : Situation) (w : Here old j s) where
-    room-now : programLength (manifestFor H job) ≤ length (s .flash)
-    unfolding programLength countOf count manifestFor
+    room-now : length (job .image .bytes) ≤ length (s .flash)
     room-now =
-        let L = job .image .«block_len» in
-        let front = length-take-le (j * L) (filled L (job .image .bytes)) (omega (arith, job-length H hash-long job ok, mul-le-mul-right L (w .within))) in
-        rw (w .flash, length-append (take (j * L) (filled L (job .image .bytes))) (drop (j * L) old), length-drop (j * L) old) (omega (arith, w .room))
+        let front = take (j * job .image .«block_len») (job .image .bytes) in
+        rw (w .flash, length-append front (drop (length front) old), length-drop (length front) old) (omega (arith, w .room))
 
     is-loading : j < count (job .image) → s .device ≡ loadingAt H job (s .device .model) (s .device .key) j (s .device .hashes)
     unfolding stageAfter loadingAt
@@ -113,12 +111,12 @@ module _ (H : List ℕ → List ℕ) (hash-long : (x : List ℕ) → length (H x
     next-accepted h = due-unrefused H valid (s .device) (s .flash) (blockFor H (job .image) (suc j)) (next-due h)
 
     next-flash : j < count (job .image) → stored (manifestFor H job) (suc j) (s .flash) (blockFor H (job .image) (suc j))
-        ≡ take (suc j * job .image .«block_len») (filled (job .image .«block_len») (job .image .bytes)) ++ drop (suc j * job .image .«block_len») old
-    unfolding stored manifestFor blocks imageBlocks
+        ≡ atStart (take (suc j * job .image .«block_len») (job .image .bytes)) old
+    unfolding stored manifestFor blocks count
     next-flash h =
         let L = job .image .«block_len» in
-        ap₂ (λ x b. withBlock L x (suc j) b) (w .flash) (block-sent H hash-long job ok j h .block)
-        ∙ more-blocks L j (filled L (job .image .bytes)) old (omega (arith, job-length H hash-long job ok, mul-le-mul-right L (w .within))) (unfold blockLength in block-length H hash-long job ok j h)
+        let x = job .image .bytes in
+        ap₂ (λ y b. withBlock L y (suc j) b) (w .flash) (block-sent H hash-long job ok j h .block) ∙ more-blocks L j x old (omega (arith, block-starts L (length x) j h))
 
     pub next-here : j < count (job .image) → Here old (suc j) (accept Block (s .device) (s .flash) (blockFor H (job .image) (suc j)))
     next-here h = subst (λ d. Here old (suc j) (accept Block d (s .flash) (blockFor H (job .image) (suc j)))) (sym (is-loading h)) go
@@ -160,12 +158,10 @@ module _ (H : List ℕ → List ℕ) (hash-long : (x : List ℕ) → length (H x
     unfolding heldBy
     none-held e = rw (is-complete e, heldBy)
 
-    pub flash-is : j ≡ count (job .image) → s .flash ≡ atStart (filled (job .image .«block_len») (job .image .bytes)) old
+    pub flash-is : j ≡ count (job .image) → s .flash ≡ atStart (job .image .bytes) old
     flash-is e =
-        let L = job .image .«block_len» in
-        let x = filled L (job .image .bytes) in
-        let long : j * L ≡ length x = ap (λ k. k * L) e ∙ sym (job-length H hash-long job ok) in
-        w .flash ∙ ap (λ k. take k x ++ drop k old) long ∙ ap (λ y. y ++ drop (length x) old) (take-all (length x) x (omega arith))
+        let x = job .image .bytes in
+        w .flash ∙ ap (λ y. atStart y old) (take-all (j * job .image .«block_len») x (rw e (job-enough H hash-long job ok)))
 
   -- the manifest came
   pub first-here : (d : Device) (f m : List ℕ) → manifestBytes m ≡ written (manifestFor H job) → ProgramPassed H valid d f m → Here f 0 (accept Program d f m)
@@ -188,6 +184,6 @@ module _ (H : List ℕ → List ℕ) (hash-long : (x : List ℕ) → length (H x
             manifest = refl;
             array = length-begun (manifestFor H job .root) root;
             holds = begun-held (count (job .image)) (manifestFor H job .root) root ∙ (unfold manifestFor rootOf in sym (hashes-zero (plain H) (blocks (job .image)) (shape (count (job .image)))));
-            room = rw is at (p .room);
+            room = unfold manifestFor in rw is at (p .room);
             flash = rw (zero-mul (job .image .«block_len»));
           }

@@ -21,7 +21,7 @@ use Rattle.merkle.proofs.LoadingLaws.{Loaded, loaded-start, loaded-end}
 use Rattle.merkle.proofs.FitsLaws.{loaded-fits}
 use Rattle.wire.specs.declared.kind.Kind.the-variants.{Program, Block, Update, PathUpdate}
 use Rattle.wire.specs.declared.manifest.Manifest.{Manifest}
-use Rattle.wire.specs.Geometry.{countOf, blockLength, programLength, blocksOf, withBlock, treeOver}
+use Rattle.wire.specs.Geometry.{countOf, blockLength, blocksOf, withBlock, treeOver}
 use Rattle.wire.specs.Message.{kind, carries, manifestBytes, manifestIn, programSignature, blockIn, hashesAfter, updateNumber, updateBlock, updateSignature, pathSignature, dueLength, leastUpdate}
 use Rattle.wire.proofs.SizeLaws.{Sized}
 use Rattle.wire.proofs.GeometryLaws.{length-with, with-here, with-before}
@@ -73,7 +73,7 @@ module _ (H : List ℕ → List ℕ) (valid : (key message signature : List ℕ)
     pub below : k < countOf s
     pub size : Sized (s .«block_len») (s .«image_len»)
     pub array-size : length array ≡ heldBytes
-    pub room : programLength s ≤ length flash
+    pub room : s .«image_len» ≤ length flash
     pub carries : Carried taken s
     pub last : lastProgram taken ≡ some s
     pub since : blocksSince taken ≡ k
@@ -82,7 +82,7 @@ module _ (H : List ℕ → List ℕ) (valid : (key message signature : List ℕ)
   -- complete; first is the manifest of the last program message, before any update
   pub record InComplete (s : Manifest) (flash : List ℕ) (taken : Messages) : Type 0 where
     pub size : Sized (s .«block_len») (s .«image_len»)
-    pub room : programLength s ≤ length flash
+    pub room : s .«image_len» ≤ length flash
     pub carries : Carried taken s
     pub first : Manifest
     pub last : lastProgram taken ≡ some first

@@ -6,7 +6,7 @@ use mathlib.Core.List.{List}
 use Prim.Native.Nat.{ℕ, suc, pred, _+_, _<_}
 use native.Mathlib.Omega.{arith}
 use lib.Dec.{eqb}
-use lib.ListN.{length}
+use lib.ListN.{length, take}
 use borrow.Author.Tests.{eqb-true, not-false}
 use Rattle.merkle.specs.Limits.{hashLength}
 use Rattle.merkle.specs.Blocks.{blockCount, cut}
@@ -37,7 +37,7 @@ alike-tree : (H : List ℕ → List ℕ) (s old : Manifest) (f : List ℕ) → u
 unfolding unlike treeOver blocksOf countOf
 alike-tree H s old f e =
     let q = and-true (eqb (s .«block_len») (old .«block_len»)) (eqb (s .«image_len») (old .«image_len»)) (not-false _ e) in
-    ap₂ (λ L T. rootOver (plain H) (cut L f) (blockCount L T)) (eqb-true (s .«block_len») (old .«block_len») (q .0)) (eqb-true (s .«image_len») (old .«image_len») (q .1))
+    ap₂ (λ L T. rootOver (plain H) (cut L (take T f)) (blockCount L T)) (eqb-true (s .«block_len») (old .«block_len») (q .0)) (eqb-true (s .«image_len») (old .«image_len») (q .1))
 
 module _ (H : List ℕ → List ℕ) (hash-long : (x : List ℕ) → length (H x) ≡ hashLength) (valid : (key message signature : List ℕ) → Bool) (d : Device) (flash m : List ℕ) (p : PathPassed H valid d flash m) where
   abbrev s : Manifest

@@ -17,7 +17,7 @@ use Rattle.wire.specs.declared.manifest.Manifest.{Manifest}
 use Rattle.wire.specs.declared.refusal.Refusal.{Refusal}
 use Rattle.wire.specs.declared.refusal.Refusal.the-variants as refusal
 use Rattle.wire.specs.Refusal.{firstThatApplies}
-use Rattle.wire.specs.Geometry.{countOf, blockLength, blockStart, programLength, blocksOf}
+use Rattle.wire.specs.Geometry.{countOf, blockLength, blockStart, blocksOf}
 use Rattle.wire.specs.Message.{kind, manifestIn, blockIn, updateNumber, updateBlock, pathIn, dueLength, leastUpdate}
 use Rattle.wire.proofs.GeometryLaws.{block-full, block-last, length-with, with-behind, with-start, with-same}
 use Rattle.wire.proofs.MessageLaws.{length-block, length-update-block}
@@ -143,7 +143,7 @@ data Together (a b : Situation) : Type 0 where
   done : a ≡ b → a .device .stage ≡ Complete → Together a b
 
 -- block k + 1 of a program, written to either flash
-module _ (s : Manifest) (k : ℕ) (f g m : List ℕ) (below : k < countOf s) (agree : Agree s k f g) (room : programLength s ≤ length f)
+module _ (s : Manifest) (k : ℕ) (f g m : List ℕ) (below : k < countOf s) (agree : Agree s k f g) (room : s .«image_len» ≤ length f)
     (due : length m ≡ dueLength (s .«block_len») (s .«image_len») (suc k)) where
   abbrev size : ℕ
   size = blockLength (s .«block_len») (s .«image_len») (suc k)
@@ -154,14 +154,14 @@ module _ (s : Manifest) (k : ℕ) (f g m : List ℕ) (below : k < countOf s) (ag
   long : length block ≡ size
   long = length-block size m (unfold dueLength in omega arith)
 
-  room' : programLength s ≤ length g
+  room' : s .«image_len» ≤ length g
   room' = rw (sym (agree .long)) room
 
   still-agree : suc k < countOf s → Agree s (suc k) (stored s (suc k) f m) (stored s (suc k) g m)
-  unfolding stored
+  unfolding stored countOf
   still-agree h =
       let L : ℕ = s .«block_len» in
-      let e : suc k * L ≡ k * L + length block = omega (arith, long, block-full s k f below room h) in
+      let e : suc k * L ≡ k * L + length block = omega (arith, long, block-full L (s .«image_len») k below h) in
       record {
         long = length-with s k f below room block long ∙ agree .long ∙ sym (length-with s k g below room' block long);
         accepted = rw e (with-start s k f below room block long ∙ ap (λ (w : List ℕ). w ++ block) (agree .accepted) ∙ sym (with-start s k g below room' block long));
@@ -169,10 +169,10 @@ module _ (s : Manifest) (k : ℕ) (f g m : List ℕ) (below : k < countOf s) (ag
       }
 
   now-same : countOf s ≤ suc k → stored s (suc k) f m ≡ stored s (suc k) g m
-  unfolding stored
+  unfolding stored countOf
   now-same h =
       let L : ℕ = s .«block_len» in
-      let e : k * L + length block ≡ programLength s = omega (arith, long, block-last s k f below room h) in
+      let e : k * L + length block ≡ s .«image_len» = omega (arith, long, block-last L (s .«image_len») k below h) in
       with-same L (suc k) f g block (agree .accepted) (rw e (agree .behind))
 
 module _ (H : List ℕ → List ℕ) (valid : (key message signature : List ℕ) → Bool) where

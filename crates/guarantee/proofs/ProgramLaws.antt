@@ -10,7 +10,6 @@ use borrow.Author.Tests.{lt-ltb, le-ltb, eq-eqb}
 use Rattle.merkle.specs.Limits.{hashLength}
 use Rattle.wire.specs.declared.kind.Kind.the-variants.{Program}
 use Rattle.wire.specs.Manifest.{written}
-use Rattle.wire.specs.Geometry.{programLength}
 use Rattle.wire.specs.Message.{leastLength, short, manifestIn}
 use Rattle.wire.specs.Claims.{OfProgram}
 use Rattle.wire.proofs.MessageLaws.{of-program}
@@ -33,7 +32,7 @@ module _ (H : List ℕ → List ℕ) (hash-long : (x : List ℕ) → length (H x
   is-program = of-program (manifestFor H job) (root-long H hash-long job ok) signature
 
   module _ (d : Device) (flash : List ℕ) (sense : senseless d ≡ false) (model : job .model ≡ d .model) (newer : serialOf d < job .serial)
-      (room : programLength (manifestFor H job) ≤ length flash) (signed : valid (d .key) (written (manifestFor H job)) signature ≡ true) where
+      (room : length (job .image .bytes) ≤ length flash) (signed : valid (d .key) (written (manifestFor H job)) signature ≡ true) where
     pub program-accepted : refusalOf H valid d flash m ≡ none
     unfolding short wrongVersion otherModel notNewer tooSmall unsigned manifestFor
     program-accepted =

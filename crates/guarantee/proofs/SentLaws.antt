@@ -15,11 +15,10 @@ use Rattle.merkle.proofs.FitsLaws.{length-sent}
 use Rattle.wire.specs.declared.kind.Kind.the-variants.{Block}
 use Rattle.wire.specs.Manifest.{read, written, Fits}
 use Rattle.wire.specs.Geometry.{blockLength}
-use Rattle.wire.specs.Image.{filled}
 use Rattle.wire.specs.Message.{kind, manifestBytes, manifestIn, numberIn, blockIn, hashesAfter, dueLength}
 use Rattle.wire.proofs.SizeLaws.{Sized, sized}
 use Rattle.wire.proofs.ManifestLaws.{read-written}
-use Rattle.wire.proofs.ImageLaws.{length-filled, length-block}
+use Rattle.wire.proofs.GeometryLaws.{length-cut}
 use Rattle.wire.proofs.MessageLaws.{of-block}
 use Rattle.sender.specs.Job.{Job, count, blocks, rootOf, manifestFor, blockFor}
 use Rattle.guarantee.specs.Demand3.{Sendable}
@@ -36,13 +35,13 @@ module _ (H : List ℕ → List ℕ) (hash-long : (x : List ℕ) → length (H x
   unfolding count
   count-most = job-sized .count
 
-  pub job-length : length (filled (job .image .«block_len») (job .image .bytes)) ≡ count (job .image) * job .image .«block_len»
+  pub job-enough : length (job .image .bytes) ≤ count (job .image) * job .image .«block_len»
   unfolding count
-  job-length = length-filled (job .image .«block_len») (job .image .bytes) job-sized
+  job-enough = job-sized .above
 
-  pub block-length : (j : ℕ) → j < count (job .image) → length (blocks (job .image) j) ≡ blockLength (job .image .«block_len») (length (job .image .bytes)) (suc j)
-  unfolding count blocks
-  block-length j h = length-block (job .image .«block_len») (job .image .bytes) job-sized j h
+  pub block-length : (j : ℕ) → length (blocks (job .image) j) ≡ blockLength (job .image .«block_len») (length (job .image .bytes)) (suc j)
+  unfolding blocks
+  block-length j = length-cut (job .image .«block_len») (job .image .bytes) j
 
   pub root-long : length (manifestFor H job .root) ≡ hashLength
   unfolding manifestFor rootOf
@@ -72,7 +71,7 @@ module _ (H : List ℕ → List ℕ) (hash-long : (x : List ℕ) → length (H x
   unfolding blockFor dueLength count
   block-sent j h =
       let most = count-most in
-      let long = block-length j h in
+      let long = block-length j in
       let r = of-block (suc j) (blocks (job .image) j) (sent (plain H) (count (job .image)) (blocks (job .image)) j) (omega arith) in
       record {
         is = r .is;

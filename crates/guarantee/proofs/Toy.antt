@@ -24,8 +24,7 @@ use Rattle.wire.specs.declared.refusal.Refusal.the-variants as refusal
 use Rattle.wire.specs.Refusal.{firstThatApplies}
 use Rattle.wire.specs.Size.{allowedLength, wrongSize, outside}
 use Rattle.wire.specs.Manifest.{written, read}
-use Rattle.wire.specs.Image.{filled, imageBlocks}
-use Rattle.wire.specs.Geometry.{countOf, blockLength, programLength, blocksOf, withBlock, treeOver}
+use Rattle.wire.specs.Geometry.{countOf, blockLength, blocksOf, withBlock, treeOver}
 use Rattle.wire.specs.Message.{kind, carries, short, programMessage, blockMessage, updateMessage, pathMessage, manifestBytes, manifestIn, programSignature, numberIn, blockIn, hashesAfter, updateNumber, updateBlock, updateSignature, pathIn, pathSignature, dueLength, leastUpdate, leastPath}
 use Rattle.sender.specs.Job.{Job, count, blocks, rootOf, manifestFor, programFor, blockFor, updateFor, pathFor}
 use Rattle.machine.specs.declared.state.Stage.{Stage}
@@ -53,7 +52,7 @@ any k m s = true
 unfoldable pub nobody : (key message signature : List ℕ) → Bool
 nobody k m s = false
 
--- an image of two blocks of 64 bytes, its successor, with another second block, the image again with a serial that is not new, and one that needs a byte of filling
+-- an image of two blocks of 64 bytes, its successor, with another second block, and the image again with a serial that is not new
 unfoldable pub job : Job
 job = record { image = record { bytes = replicate 128 3; «block_len» = 64 }; model = 7; serial = 1 }
 
@@ -63,8 +62,12 @@ newer = record { image = record { bytes = replicate 64 3 ++ replicate 64 4; «bl
 unfoldable pub old : Job
 old = record { image = job .image; model = 7; serial = 0 }
 
-unfoldable pub unfilled : Job
-unfilled = record { image = record { bytes = replicate 127 3; «block_len» = 64 }; model = 7; serial = 1 }
+-- an image of 257 bytes in blocks of 256, so that the last one has 1 byte, and its successor, with another byte there
+unfoldable pub uneven : Job
+uneven = record { image = record { bytes = replicate 256 3 ++ (3 ∷ []); «block_len» = 256 }; model = 7; serial = 1 }
+
+unfoldable pub unevenNewer : Job
+unevenNewer = record { image = record { bytes = replicate 256 3 ++ (4 ∷ []); «block_len» = 256 }; model = 7; serial = 2 }
 
 unfoldable pub fresh : Device
 fresh = record { model = 7; key = []; stage = Idle; manifest = record { version = 0; «block_len» = 0; model = 0; serial = 0; «image_len» = 0; root = [] }; hashes = replicate heldBytes 0 }
@@ -118,7 +121,7 @@ unfolding blockCount cut size leastFrom depth split build shape hash hashes inpu
 tree-computes = 0
 
 unfoldable pub wire-computes : ℕ
-unfolding bytes number equal firstThatApplies allowedLength wrongSize outside written read filled imageBlocks countOf blockLength programLength blocksOf withBlock treeOver kind carries short programMessage blockMessage updateMessage pathMessage manifestBytes manifestIn programSignature numberIn blockIn hashesAfter updateNumber updateBlock updateSignature pathIn pathSignature dueLength leastUpdate leastPath
+unfolding bytes number equal firstThatApplies allowedLength wrongSize outside written read countOf blockLength blocksOf withBlock treeOver kind carries short programMessage blockMessage updateMessage pathMessage manifestBytes manifestIn programSignature numberIn blockIn hashesAfter updateNumber updateBlock updateSignature pathIn pathSignature dueLength leastUpdate leastPath
 wire-computes = 0
 
 unfoldable pub sender-computes : ℕ
@@ -134,7 +137,7 @@ unfolding stored updated acceptProgram stageAfter acceptBlock acceptUpdate accep
 run-computes = 0
 
 unfoldable pub computing : ℕ
-unfolding tree-computes wire-computes sender-computes refusals-compute run-computes toy any nobody job newer old unfilled fresh flash program manifestWith nobodys noImage right taking refusing but butFlash byKind NoneCollides
+unfolding tree-computes wire-computes sender-computes refusals-compute run-computes toy any nobody job newer old uneven unevenNewer fresh flash program manifestWith nobodys noImage right taking refusing but butFlash byKind NoneCollides
 computing = 0
 
 abbrev pub loaded : Messages
@@ -149,6 +152,24 @@ pub right-runs : (after right fresh flash loaded .device .stage ≡ Complete)
     × (answerTo right fresh flash (empty ▷ program ▷ blockFor toy (job .image) 1) (blockFor toy (newer .image) 2) ≡ Refused refusal.Mismatch)
 unfolding computing
 right-runs = (refl, refl, refl, refl, refl, refl)
+
+-- 02, change 2, with T = 257 and L = 256. A flash of 257 bytes has room, and one of 256 has not; after a whole download, and after an update of the last block by kind 3 and by
+-- kind 4, the flash is the image, and behind it as it was. A last block that was filled to 256 bytes is refused 12.
+abbrev pub unevenFlash : List ℕ
+unevenFlash = replicate 260 5
+
+abbrev pub unevenLoaded : Messages
+unevenLoaded = empty ▷ programFor toy uneven [] ▷ blockFor toy (uneven .image) 1 ▷ blockFor toy (uneven .image) 2
+
+pub uneven-runs : (answerTo right fresh (replicate 257 5) empty (programFor toy uneven []) ≡ Accepted)
+    × (answerTo right fresh (replicate 256 5) empty (programFor toy uneven []) ≡ Refused refusal.Area)
+    × (after right fresh unevenFlash unevenLoaded .device .stage ≡ Complete)
+    × (after right fresh unevenFlash unevenLoaded .flash ≡ replicate 257 3 ++ (5 ∷ 5 ∷ 5 ∷ []))
+    × (after right fresh unevenFlash (unevenLoaded ▷ updateFor toy unevenNewer 2 []) .flash ≡ replicate 256 3 ++ (4 ∷ 5 ∷ 5 ∷ 5 ∷ []))
+    × (after right fresh unevenFlash (unevenLoaded ▷ pathFor toy unevenNewer 2 []) .flash ≡ replicate 256 3 ++ (4 ∷ 5 ∷ 5 ∷ 5 ∷ []))
+    × (answerTo right fresh unevenFlash (empty ▷ programFor toy uneven [] ▷ blockFor toy (uneven .image) 1) (blockMessage 2 (3 ∷ replicate 255 255) []) ≡ Refused refusal.Length)
+unfolding computing
+uneven-runs = (refl, refl, refl, refl, refl, refl, refl)
 
 -- A path that collides nowhere.
 pub none-collides : {blocks : ℕ → List ℕ} {o : ℕ} {s : Shape} {i : ℕ} {block : List ℕ} {ys : List (List ℕ)} → NoneCollides blocks (pathInputs (plain toy) o s i block ys)

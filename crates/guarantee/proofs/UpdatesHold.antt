@@ -19,13 +19,11 @@ use Rattle.lms.specs.Lms as lms
 use Rattle.wire.specs.declared.kind.Kind.{Kind}
 use Rattle.wire.specs.declared.manifest.Manifest.{Manifest}
 use Rattle.wire.specs.Manifest.{written}
-use Rattle.wire.specs.Image.{filled, imageBlocks}
-use Rattle.wire.specs.Geometry.{countOf, areaLength, programLength, blocksOf, withBlock, treeOver}
+use Rattle.wire.specs.Geometry.{countOf, blocksOf, withBlock, treeOver}
 use Rattle.wire.specs.Message.{kind, numberLength, leastLength, short, manifestBytes, manifestIn, updateNumber, updateBlock, leastUpdate, leastPath, atStart}
 use Rattle.wire.specs.Claims.{OfUpdate, OfPath}
 use Rattle.wire.proofs.SizeLaws.{Sized, sized, outside-not}
-use Rattle.wire.proofs.ImageLaws.{length-filled}
-use Rattle.wire.proofs.GeometryLaws.{start-blocks, start-tree, one-changed}
+use Rattle.wire.proofs.GeometryLaws.{start-blocks, one-changed}
 use Rattle.wire.proofs.MessageLaws.{of-update, of-path}
 use Rattle.sender.specs.Job.{Job, count, blocks, rootOf, manifestFor, updateFor, pathFor}
 use Rattle.machine.specs.declared.state.Device.{Device}
@@ -37,7 +35,7 @@ use Rattle.machine.proofs.RefusalLaws.{newLength, newDepth, ledTo, SuccessorDue
 use Rattle.machine.proofs.SenseLaws.{sense-complete}
 use Rattle.guarantee.specs.Updates.{Installed, UpdateOffered, Updated, Updates}
 use Rattle.guarantee.proofs.RunLaws.{accepted-step}
-use Rattle.guarantee.proofs.SentLaws.{count-some, count-most, block-length, root-long, manifest-is}
+use Rattle.guarantee.proofs.SentLaws.{count-most, block-length, root-long, manifest-is}
 
 module _ (H : List ℕ → List ℕ) (hash-long : (x : List ℕ) → length (H x) ≡ hashLength) (valid : (key message signature : List ℕ) → Bool) (d : Device) (flash old : List ℕ)
     (a b : Job) (i : ℕ) (signature : List ℕ) (was : Installed H a old d flash) (o : UpdateOffered H valid d a b i signature) where
@@ -47,44 +45,41 @@ module _ (H : List ℕ → List ℕ) (hash-long : (x : List ℕ) → length (H x
   abbrev s : Manifest
   s = manifestFor H b
 
-  -- the two images, filled
+  -- the two images
   abbrev v : List ℕ
-  v = filled (a .image .«block_len») (a .image .bytes)
+  v = a .image .bytes
 
   abbrev w : List ℕ
-  w = filled (b .image .«block_len») (b .image .bytes)
+  w = b .image .bytes
 
-  allowed : Sized (b .image .«block_len») (length (b .image .bytes))
-  allowed = sized _ _ (o .sendable .size)
+  allowed-old : Sized (a .image .«block_len») (length v)
+  allowed-old = rw (← o .cut, ← o .long) (sized _ _ (o .sendable .size))
 
-  allowed-old : Sized (a .image .«block_len») (length (a .image .bytes))
-  allowed-old = rw (← o .cut, ← o .long) allowed
+  long : length w ≡ s .«image_len»
+  unfolding manifestFor
+  long = refl
 
-  long : length w ≡ programLength s
-  unfolding programLength manifestFor
-  long = length-filled (b .image .«block_len») (b .image .bytes) allowed
+  long-old : length v ≡ s .«image_len»
+  unfolding manifestFor
+  long-old = sym (o .long)
 
-  long-old : length v ≡ programLength s
-  unfolding programLength manifestFor
-  long-old = length-filled (a .image .«block_len») (a .image .bytes) allowed-old ∙ ap₂ areaLength (sym (o .cut)) (sym (o .long))
-
-  blocks-old : (j : ℕ) → blocksOf s v j ≡ blocks (a .image) j
-  unfolding blocksOf manifestFor blocks imageBlocks
+  blocks-old : (j : ℕ) → cut (b .image .«block_len») v j ≡ blocks (a .image) j
+  unfolding blocks
   blocks-old j = ap (λ L. cut L v j) (o .cut)
 
   -- the flash with the new block, and its tree
   flash-new : withBlock (b .image .«block_len») flash (suc i) (blocks (b .image) i) ≡ atStart w old
-  unfolding blocksOf manifestFor blocks imageBlocks countOf count
-  flash-new = one-changed s v w flash old i (o .within) long-old long (was .image) (λ j h apart. blocks-old j ∙ sym (o .others j h apart))
+  unfolding blocks count
+  flash-new = rw (was .image) (one-changed (b .image .«block_len») v w old i (sym (o .long)) (o .within) (λ j h apart. blocks-old j ∙ sym (o .others j h apart)))
 
   tree-new : treeOver H s (atStart w old) ≡ s .root
-  unfolding treeOver blocksOf manifestFor rootOf blocks imageBlocks countOf count
-  tree-new = start-tree s w old long H (count-some H hash-long b (o .sendable))
+  unfolding treeOver manifestFor rootOf blocks countOf count
+  tree-new = ap (λ f. rootOver (plain H) f n) (start-blocks s w old long)
 
   -- the block in the flash, and the root that the device has
   block-old : blocksOf s flash i ≡ blocks (a .image) i
-  unfolding countOf count manifestFor
-  block-old = ap (λ y. blocksOf s y i) (was .image) ∙ start-blocks s v old long-old i (o .within) ∙ blocks-old i
+  unfolding manifestFor
+  block-old = ap (λ y. blocksOf s y i) (was .image) ∙ ap (λ f. f i) (start-blocks s v old long-old) ∙ blocks-old i
 
   root-old : d .manifest .root ≡ rootOver (plain H) (blocks (a .image)) n
   unfolding manifestFor rootOf count
@@ -113,7 +108,7 @@ module _ (H : List ℕ → List ℕ) (hash-long : (x : List ℕ) → length (H x
 
     size : newLength H valid d flash m ≡ length (blocks (b .image) i)
     unfolding manifestFor
-    size = rw (read, c .number) (sym (block-length H hash-long b (o .sendable) i (o .within)))
+    size = rw (read, c .number) (sym (block-length H hash-long b (o .sendable) i))
 
     due : {k : Kind} {least : ℕ} {given : List ℕ} → kind m ≡ k → leastLength k ≤ length m → least ≤ length m → given ≡ signature → SuccessorDue H valid d flash m k least given
     unfolding short notComplete wrongVersion otherModel notNewer unlike tooSmall unsigned manifestFor countOf count

@@ -3,8 +3,8 @@ use mathlib.Core.List.{[]}
 use lib.ListN.{replicate}
 use Rattle.guarantee.specs.Demand3.{Demand3}
 use Rattle.guarantee.proofs.Toy.{toy, any, nobody, fresh, flash, taking, is-fresh}
-use Rattle.guarantee.proofs.WrongCalls.{closed, closed-caught, unaware, unaware-caught, hasty, hasty-caught, rash, rash-caught, scribbling, scribbling-caught, turning, turning-caught, rekeying, rekeying-caught, leaking, leaking-caught, spilling, spilling-caught, reordering, reordering-caught, swapping, swapping-caught}
-use Rattle.guarantee.proofs.WrongFirst.{careless, careless-caught, blind, blind-caught, keeping, keeping-caught, clinging, clinging-caught, stuck, stuck-caught, forgetting, forgetting-caught, idling, idling-caught, early, early-caught, endless, endless-caught, unwritten, unwritten-caught, untouched, untouched-caught, trusting, trusting-caught, doubling, doubling-caught, nearsighted, nearsighted-caught, taking-caught, smearing, smearing-caught, shrinking, shrinking-caught}
+use Rattle.guarantee.proofs.WrongCalls.{closed, closed-caught, unaware, unaware-caught, hasty, hasty-caught, rash, rash-caught, scribbling, scribbling-caught, turning, turning-caught, rekeying, rekeying-caught, leaking, leaking-caught, spilling, spilling-caught, reordering, reordering-caught, demanding, demanding-caught, swapping, swapping-caught}
+use Rattle.guarantee.proofs.WrongFirst.{careless, careless-caught, blind, blind-caught, keeping, keeping-caught, clinging, clinging-caught, stuck, stuck-caught, forgetting, forgetting-caught, idling, idling-caught, early, early-caught, lapsing, lapsing-caught, unwritten, unwritten-caught, untouched, untouched-caught, trusting, trusting-caught, doubling, doubling-caught, nearsighted, nearsighted-caught, taking-caught, smearing, smearing-caught, padding, padding-caught, shrinking, shrinking-caught}
 use Rattle.guarantee.proofs.WrongSecond.{deaf, deaf-caught, still, still-caught, hoarding, hoarding-caught, skipping, skipping-caught, mislaying, mislaying-caught, garbling, garbling-caught}
 
 pub none-meets : (Demand3 toy any careless → ⊥)
@@ -13,7 +13,7 @@ pub none-meets : (Demand3 toy any careless → ⊥)
     × (Demand3 toy any forgetting → ⊥)
     × (Demand3 toy any idling → ⊥)
     × (Demand3 toy any early → ⊥)
-    × (Demand3 toy any endless → ⊥)
+    × (Demand3 toy any lapsing → ⊥)
     × (Demand3 toy any unwritten → ⊥)
     × (Demand3 toy nobody taking → ⊥)
     × (Demand3 toy any deaf → ⊥)
@@ -25,6 +25,7 @@ pub none-meets : (Demand3 toy any careless → ⊥)
     × (Demand3 toy any hasty → ⊥)
     × (Demand3 toy any scribbling → ⊥)
     × (Demand3 toy any smearing → ⊥)
+    × (Demand3 toy any padding → ⊥)
     × (Demand3 toy any shrinking → ⊥)
     × (Demand3 toy any turning → ⊥)
     × (Demand3 toy any rekeying → ⊥)
@@ -32,6 +33,7 @@ pub none-meets : (Demand3 toy any careless → ⊥)
     × (Demand3 toy any leaking → ⊥)
     × (Demand3 toy any spilling → ⊥)
     × (Demand3 toy any reordering → ⊥)
+    × (Demand3 toy any demanding → ⊥)
     × (Demand3 toy any unaware → ⊥)
     × (Demand3 toy any swapping → ⊥)
     × (Demand3 toy any rash → ⊥)
@@ -48,7 +50,7 @@ none-meets = (
   λ c. forgetting-caught (c fresh is-fresh flash _ .first),
   λ c. idling-caught (c fresh is-fresh flash _ .first),
   λ c. early-caught (c fresh is-fresh flash _ .first),
-  λ c. endless-caught (c fresh is-fresh flash _ .first),
+  λ c. lapsing-caught (c fresh is-fresh flash _ .first),
   λ c. unwritten-caught (c fresh is-fresh flash _ .first),
   λ c. taking-caught (c fresh is-fresh flash _ .first),
   λ c. deaf-caught (c fresh is-fresh flash _ .second),
@@ -60,6 +62,7 @@ none-meets = (
   λ c. hasty-caught (c fresh is-fresh flash _ .calls),
   λ c. scribbling-caught (c fresh is-fresh flash _ .calls),
   λ c. smearing-caught (c fresh is-fresh flash _ .first),
+  λ c. padding-caught (c fresh is-fresh (replicate 512 5) _ .first),
   λ c. shrinking-caught (c fresh is-fresh (replicate 128 5) _ .first),
   λ c. turning-caught (c fresh is-fresh flash _ .calls),
   λ c. rekeying-caught (c fresh is-fresh flash _ .calls),
@@ -67,6 +70,7 @@ none-meets = (
   λ c. leaking-caught (c fresh is-fresh flash _ .calls),
   λ c. spilling-caught (c fresh is-fresh flash _ .calls),
   λ c. reordering-caught (c fresh is-fresh [] _ .calls),
+  λ c. demanding-caught (c fresh is-fresh (replicate 257 5) _ .calls),
   λ c. unaware-caught (c fresh is-fresh flash _ .calls),
   λ c. swapping-caught (c fresh is-fresh flash _ .calls),
   λ c. rash-caught (c fresh is-fresh flash _ .calls),

@@ -3,14 +3,15 @@ use mathlib.Core.Path.{_≡_, refl, ap}
 use mathlib.Core.Bool.{cond, _&&_}
 use mathlib.Core.List.{List, [], _∷_}
 use mathlib.Core.Option.{some}
-use Prim.Native.Nat.{ℕ, _-_}
+use Prim.Native.Nat.{ℕ, _-_, _*_}
 use native.Mathlib.Omega.{arith}
-use lib.Dec.{eqb}
+use lib.Dec.{eqb, ltb}
 use lib.ListN.{length, set, take, drop, replicate}
 use Rattle.octets.specs.Octets.{number}
 use Rattle.merkle.specs.Limits.{heldBytes}
 use Rattle.wire.specs.declared.kind.Kind.the-variants.{PathUpdate}
 use Rattle.wire.specs.declared.refusal.Refusal.the-variants as refusal
+use Rattle.wire.specs.Geometry.{countOf}
 use Rattle.wire.specs.Message.{updateMessage, pathMessage, manifestIn}
 use Rattle.sender.specs.Job.{manifestFor, programFor, blockFor, pathFor}
 use Rattle.machine.specs.declared.state.Device.{Device}
@@ -23,7 +24,7 @@ use Rattle.machine.specs.Step.{acceptBlock, outcome}
 use Rattle.machine.proofs.RefusalLaws.{testOf}
 use Rattle.guarantee.specs.Run.{empty, _▷_}
 use Rattle.guarantee.specs.Demand3.{Calls}
-use Rattle.guarantee.proofs.Toy.{Step, toy, any, job, newer, old, fresh, flash, program, right, refusing, but, byKind, computing, loaded}
+use Rattle.guarantee.proofs.Toy.{Step, toy, any, job, newer, old, uneven, fresh, flash, program, right, refusing, but, byKind, computing, loaded}
 
 -- It refuses every manifest, or every path update: each alone.
 pub closed : Step
@@ -144,6 +145,18 @@ pub reordering-caught : Calls toy any reordering fresh [] empty → ⊥
 unfolding computing reordering
 reordering-caught h =
     let z : _≡_ {A = ℕ} 8 7 = ap numberOf (h .answers (programFor toy old [])) in
+    omega arith
+
+-- It asks for the bytes of whole blocks, n × L: alone.
+pub demanding : Step
+demanding = byKind (λ d f m.
+    let s = manifestIn m in
+    cond (eqb (numberOf (right d f m .answer)) 0 && ltb (length f) (countOf s * s .«block_len»)) (outcome (some refusal.Area) d f (record { device = d; flash = f })) (right d f m)) right right right
+
+pub demanding-caught : Calls toy any demanding fresh (replicate 257 5) empty → ⊥
+unfolding computing demanding
+demanding-caught h =
+    let z : _≡_ {A = ℕ} 8 0 = ap numberOf (h .answers (programFor toy uneven [])) in
     omega arith
 
 -- It looks at the new root before it looks at the old one, 14 before 15: alone.

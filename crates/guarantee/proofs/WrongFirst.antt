@@ -14,8 +14,8 @@ use Rattle.merkle.specs.Shape.{leaf, node}
 use Rattle.wire.specs.declared.manifest.Manifest.{Manifest}
 use Rattle.wire.specs.declared.refusal.Refusal.the-variants as refusal
 use Rattle.wire.specs.Refusal.{refusalNumber}
-use Rattle.wire.specs.Geometry.{countOf, programLength, blocksOf, treeOver}
-use Rattle.wire.specs.Message.{blockMessage, pathMessage, manifestIn, updateNumber, updateBlock}
+use Rattle.wire.specs.Geometry.{countOf, blockLength, blocksOf, withBlock, treeOver}
+use Rattle.wire.specs.Message.{pathMessage, manifestIn, blockIn, updateNumber, updateBlock}
 use Rattle.sender.specs.Job.{manifestFor, programFor, blockFor, updateFor, pathFor}
 use Rattle.machine.specs.declared.state.Stage.the-variants.{Idle, Loading, Complete}
 use Rattle.machine.specs.declared.state.Device.{Device}
@@ -27,7 +27,7 @@ use Rattle.machine.proofs.RefusalLaws.{ledTo}
 use Rattle.guarantee.specs.Run.{Messages, empty, _▷_, after, accepted, lastProgram, blocksSince, pathsSince, lastCarrier, Completed}
 use Rattle.guarantee.specs.Demand3.{Clash, here, Misled, FirstHalf}
 use Rattle.guarantee.proofs.MisledLaws.{unmisled, first-path}
-use Rattle.guarantee.proofs.Toy.{Step, toy, any, nobody, job, newer, unfilled, fresh, flash, program, manifestWith, nobodys, noImage, right, taking, but, butFlash, byKind, computing, loaded, none-collides, at}
+use Rattle.guarantee.proofs.Toy.{Step, toy, any, nobody, job, newer, uneven, fresh, flash, program, manifestWith, nobodys, noImage, right, taking, but, butFlash, byKind, computing, loaded, none-collides, at}
 
 -- A complete device whose tree lacks its manifest's root, and that no path update misled.
 unrooted : (wrong : Step) (ms : Messages) → (Misled toy any wrong fresh flash ms → ⊥) → Completed (accepted wrong fresh flash ms)
@@ -171,18 +171,15 @@ early-caught h =
     let z : _≡_ {A = ℕ} 1 2 = sym (r .1) ∙ c .all ∙ ap countOf q ∙ r .3 in
     omega arith
 
--- It is not complete where the last of two blocks, which has one byte of filling, ends with 0. The toy hash does not see that byte: alone, since the sender fills
--- with 0xFF.
-pub endless : Step
-endless = byKind right (λ d f m. let o = right d f m in cond (eqb (nextOf (d .stage)) 2 && eqb (d .manifest .«image_len») 127 && eqb (getD m (length m - 1) 0) 0) (but o (at (d .stage) (o .device))) o) right right
+-- It is idle after an update, so that older serials are taken next: alone. (Where it is a download that does not end in complete, the honest run fails too: each
+-- complete download is one.)
+pub lapsing : Step
+lapsing = byKind right right (λ d f m. let o = right d f m in but o (at Idle (o .device))) right
 
-pub endless-list : Messages
-endless-list = empty ▷ programFor toy unfilled [] ▷ blockFor toy (unfilled .image) 1 ▷ blockMessage 2 (replicate 63 3 ++ (0 ∷ [])) []
-
-pub endless-caught : FirstHalf toy any endless fresh flash endless-list → ⊥
-unfolding computing endless at endless-list
-endless-caught h =
-    let e : Loading 2 ≡ Complete = h .exactly .1 (record { manifest = manifestFor toy unfilled; last = refl; all = refl }) in
+pub lapsing-caught : FirstHalf toy any lapsing fresh flash (loaded ▷ updateFor toy newer 2 []) → ⊥
+unfolding computing lapsing at
+lapsing-caught h =
+    let e : Idle ≡ Complete = h .exactly .1 (record { manifest = manifestFor toy job; last = refl; all = refl }) in
     let z : _≡_ {A = ℕ} 0 1 = cc in
     omega arith
 
@@ -250,7 +247,7 @@ taking-caught h = false≢true (h .bound (record { manifest = manifestFor toy jo
 
 -- It overwrites the byte behind the program when it takes an update: alone.
 pub smearing : Step
-smearing = byKind right right (λ d f m. let o = right d f m in butFlash o (set (o .flash) (programLength (o .device .manifest)) 0)) right
+smearing = byKind right right (λ d f m. let o = right d f m in butFlash o (set (o .flash) (o .device .manifest .«image_len») 0)) right
 
 pub smearing-caught : FirstHalf toy any smearing fresh flash loaded → ⊥
 unfolding computing smearing
@@ -258,10 +255,29 @@ smearing-caught h =
     let z : _≡_ {A = ℕ} 0 5 = ap (λ (l : List ℕ). number (take 1 l)) (h .beyond (updateFor toy newer 2 [])) in
     omega arith
 
+-- It writes L bytes of a last block that has fewer, the rest of them 0xFF. So it overwrites what stands behind the program.
+wholly : Manifest → (i : ℕ) (block flash : List ℕ) → List ℕ
+wholly s i block flash = withBlock (s .«block_len») flash i (block ++ replicate (s .«block_len» - length block) 255)
+
+wholeBlock : Step
+wholeBlock d f m = let s = d .manifest in let i = nextOf (d .stage) in butFlash (right d f m) (wholly s i (blockIn (blockLength (s .«block_len») (s .«image_len») i) m) f)
+
+wholeUpdate : Step
+wholeUpdate d f m = let s = manifestIn m in let i = updateNumber m in butFlash (right d f m) (wholly s i (updateBlock (blockLength (s .«block_len») (s .«image_len») i) m) f)
+
+pub padding : Step
+padding = byKind right wholeBlock wholeUpdate wholeUpdate
+
+pub padding-caught : FirstHalf toy any padding fresh (replicate 512 5) (empty ▷ programFor toy uneven [] ▷ blockFor toy (uneven .image) 1) → ⊥
+unfolding computing padding wholeBlock wholeUpdate wholly
+padding-caught h =
+    let z : _≡_ {A = ℕ} 255 5 = ap (λ (l : List ℕ). number (take 1 l)) (h .beyond (blockFor toy (uneven .image) 2)) in
+    omega arith
+
 -- It shortens a flash that has just room for the program, when it takes a manifest whose root no image has: alone. (A flash with more room that got another length
 -- would break `beyond` too.)
 pub shrinking : Step
-shrinking = byKind (λ d f m. let o = right d f m in cond (noImage (manifestIn m) && eqb (length f) (programLength (manifestIn m))) (butFlash o (drop 1 f)) o) right right right
+shrinking = byKind (λ d f m. let o = right d f m in cond (noImage (manifestIn m) && eqb (length f) (manifestIn m .«image_len»)) (butFlash o (drop 1 f)) o) right right right
 
 pub shrinking-caught : FirstHalf toy any shrinking fresh (replicate 128 5) (empty ▷ nobodys) → ⊥
 unfolding computing shrinking

@@ -16,8 +16,7 @@ use Rattle.wire.specs.declared.refusal.Refusal.{Refusal}
 use Rattle.wire.specs.Refusal.{refusalNumber}
 use Rattle.wire.specs.Size.{wrongSize}
 use Rattle.wire.specs.Manifest.{written}
-use Rattle.wire.specs.Image.{filled, imageBlocks}
-use Rattle.wire.specs.Geometry.{countOf, programLength, blocksOf, treeOver}
+use Rattle.wire.specs.Geometry.{countOf, blocksOf, treeOver}
 use Rattle.wire.specs.Message.{kind, carries, manifestBytes, manifestIn, updateNumber, atStart}
 use Rattle.sender.specs.Job.{Image, Job, count, blocks, manifestFor, blockFor}
 use Rattle.machine.specs.declared.state.Stage.the-variants.{Idle, Loading, Complete}
@@ -54,10 +53,10 @@ module _ (H : List ℕ → List ℕ) where
   pub record Intact (s : Manifest) (f : List ℕ) : Type 0 where
     -- "the tree over its area has the slip's root"
     pub rooted : treeOver H s f ≡ s .root
-    -- "every image of the same length .. with that root": "filled, it equals the start of the area, or at one place its tree's hash input and the area's differ
-    -- and have the same SHA-256"
-    pub image : (x : List ℕ) → length x ≡ s .«image_len» → treeOver H s (filled (s .«block_len») x) ≡ s .root
-        → (filled (s .«block_len») x ≡ take (length (filled (s .«block_len») x)) f) ⊎ Collision (plain H) (imageBlocks (s .«block_len») x) (blocksOf s f) 0 (shape (countOf s))
+    -- "every image of the same length .. with that root" equals the start of the area, "or at one place its tree's hash input and the area's differ and have the same
+    -- SHA-256"; 02, change 2: "An image is now compared as its own T bytes."
+    pub image : (x : List ℕ) → length x ≡ s .«image_len» → treeOver H s x ≡ s .root
+        → (x ≡ take (s .«image_len») f) ⊎ Collision (plain H) (blocksOf s x) (blocksOf s f) 0 (shape (countOf s))
 
 module _ (H : List ℕ → List ℕ) (valid : (key message signature : List ℕ) → Bool) (step : Device → List ℕ → List ℕ → Outcome) (d : Device) (flash : List ℕ) where
   -- device, flash and accepted messages after a list, and the answer to one message more
@@ -106,8 +105,8 @@ module _ (H : List ℕ → List ℕ) (valid : (key message signature : List ℕ)
     pub last : lastCarrier (acceptedOf ms) ≡ some carrier
     -- "signed means that this message's signature over it is valid under the drive's key"
     pub signed : valid (d .key) (manifestBytes carrier) (signatureIn carrier) ≡ true
-    -- the area has all of its tree's blocks
-    pub room : programLength s ≤ length f
+    -- "the area must have T bytes"
+    pub room : s .«image_len» ≤ length f
     -- "the tree over the area has it, or" a kind 4 message misled the device; 02, change 1: "in this second case no image need equal the area"
     pub tree : Intact H s f ⊎ Misled ms
 
@@ -122,8 +121,8 @@ module _ (H : List ℕ → List ℕ) (valid : (key message signature : List ℕ)
         → deviceAfter ms .stage ≡ Loading (suc (blocksSince (acceptedOf ms)))
     -- "The area is one throughout"
     pub one : length (flashAfter ms) ≡ length flash
-    -- "bytes beyond are never written": one message more leaves those behind the program of the manifest that the device then has
-    pub beyond : (m : List ℕ) → (let s = deviceAfter (ms ▷ m) .manifest in drop (programLength s) (flashAfter (ms ▷ m)) ≡ drop (programLength s) (flashAfter ms))
+    -- "bytes beyond are never written": one message more leaves the byte at T and all behind it, T being of the manifest that the device then has
+    pub beyond : (m : List ℕ) → (let s = deviceAfter (ms ▷ m) .manifest in drop (s .«image_len») (flashAfter (ms ▷ m)) ≡ drop (s .«image_len») (flashAfter ms))
     pub bound : Completed (acceptedOf ms) → Bound ms (deviceAfter ms .manifest) (flashAfter ms)
 
   -- "an accepted kind 1 carried exactly the slip that demand 2 has the sender write for an image": message m, after the messages `before`
@@ -140,12 +139,12 @@ module _ (H : List ℕ → List ℕ) (valid : (key message signature : List ℕ)
     next : {j : ℕ} {ms : Messages} → j < count (job .image) → Honest job before m j ms → Honest job before m (suc j) (ms ▷ blockFor H (job .image) (suc j))
     other : {j : ℕ} {ms : Messages} (x : List ℕ) (r : Refusal) → answer ms x ≡ Refused r → Honest job before m j ms → Honest job before m j (ms ▷ x)
 
-  -- "For j = n the stage is then complete with this slip, the area begins with the filled image, and its bytes beyond are as when the slip came", and no hash is held.
+  -- "For j = n the stage is then complete with this slip, the area begins with the .. image, and its bytes beyond are as when the slip came", and no hash is held.
   pub record Loaded (job : Job) (before : Messages) (ms : Messages) : Type 0 where
     pub stage : deviceAfter ms .stage ≡ Complete
     pub manifest : deviceAfter ms .manifest ≡ manifestFor H job
     pub none-held : heldBy (deviceAfter ms) ≡ []
-    pub image : flashAfter ms ≡ atStart (filled (job .image .«block_len») (job .image .bytes)) (flashAfter before)
+    pub image : flashAfter ms ≡ atStart (job .image .bytes) (flashAfter before)
 
   pub record Loads (job : Job) (before : Messages) (m : List ℕ) (j : ℕ) (ms : Messages) : Type 0 where
     -- "Then all j were accepted": since the manifest these, and nothing else

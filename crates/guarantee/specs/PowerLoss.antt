@@ -12,7 +12,7 @@ use Rattle.merkle.specs.Path.{pathInputs, PathsCollide}
 use Rattle.wire.specs.declared.kind.Kind.the-variants.{Block, Update, PathUpdate}
 use Rattle.wire.specs.declared.manifest.Manifest.{Manifest}
 use Rattle.wire.specs.declared.refusal.Refusal.the-variants as refusal
-use Rattle.wire.specs.Geometry.{countOf, blockLength, blockStart, programLength, blocksOf}
+use Rattle.wire.specs.Geometry.{countOf, blockLength, blockStart, blocksOf}
 use Rattle.wire.specs.Message.{kind, manifestIn, updateNumber}
 use Rattle.machine.specs.declared.state.Stage.the-variants.{Loading, Complete}
 use Rattle.machine.specs.declared.state.Device.{Device}
@@ -29,7 +29,7 @@ OnlyBlocks (ms ▷ m) = OnlyBlocks ms × (kind m ≡ Block)
 pub record Agree (s : Manifest) (k : ℕ) (f g : List ℕ) : Type 0 where
   pub long : length f ≡ length g
   pub accepted : take (blockStart (s .«block_len») (suc k)) f ≡ take (blockStart (s .«block_len») (suc k)) g
-  pub behind : drop (programLength s) f ≡ drop (programLength s) g
+  pub behind : drop (s .«image_len») f ≡ drop (s .«image_len») g
 
 module _ (H : List ℕ → List ℕ) (valid : (key message signature : List ℕ) → Bool) where
   -- A device that waits for block k + 1, over either flash: the same block messages get the same answers and lead to the same states, and where they complete

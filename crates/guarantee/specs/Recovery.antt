@@ -6,7 +6,6 @@ use mathlib.Core.List.{List}
 use Prim.Native.Nat.{ℕ, _≤_, _<_}
 use lib.ListN.{length}
 use Rattle.wire.specs.Manifest.{written}
-use Rattle.wire.specs.Geometry.{programLength}
 use Rattle.sender.specs.Job.{Job, count, manifestFor, programFor}
 use Rattle.machine.specs.declared.state.Device.{Device}
 use Rattle.machine.specs.declared.state.Answer.the-variants.{Accepted}
@@ -23,7 +22,7 @@ module _ (H : List ℕ → List ℕ) (valid : (key message signature : List ℕ)
     pub sendable : Sendable job
     pub model : job .model ≡ d .model
     pub newer : serialOf (after step d flash ms .device) < job .serial
-    pub room : programLength (manifestFor H job) ≤ length flash
+    pub room : length (job .image .bytes) ≤ length flash
     pub signed : valid (d .key) (written (manifestFor H job)) signature ≡ true
 
   -- Then the sender's messages for it load it: the new program is accepted, and its blocks in order complete it, whatever refused messages come between, and

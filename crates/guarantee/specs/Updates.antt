@@ -6,7 +6,6 @@ use mathlib.Core.List.{List}
 use Prim.Native.Nat.{ℕ, suc, _<_}
 use lib.ListN.{length}
 use Rattle.wire.specs.Manifest.{written}
-use Rattle.wire.specs.Image.{filled}
 use Rattle.wire.specs.Message.{atStart}
 use Rattle.sender.specs.Job.{Job, count, blocks, manifestFor, updateFor, pathFor}
 use Rattle.machine.specs.declared.state.Stage.the-variants.{Complete}
@@ -17,11 +16,11 @@ use Rattle.machine.specs.Step.{step}
 use Rattle.guarantee.specs.Demand3.{Sendable}
 
 module _ (H : List ℕ → List ℕ) where
-  -- The device is complete with the job's manifest, and the flash is the job's image, filled, and behind it what `old` has there: an earlier flash, or this one.
+  -- The device is complete with the job's manifest, and the flash is the job's image, and behind it what `old` has there: an earlier flash, or this one.
   pub record Installed (job : Job) (old : List ℕ) (d : Device) (flash : List ℕ) : Type 0 where
     pub stage : d .stage ≡ Complete
     pub manifest : d .manifest ≡ manifestFor H job
-    pub image : flash ≡ atStart (filled (job .image .«block_len») (job .image .bytes)) old
+    pub image : flash ≡ atStart (job .image .bytes) old
 
   -- The message was accepted, and device and flash are then as above, for this job.
   pub record Updated (job : Job) (old : List ℕ) (o : Outcome) : Type 0 where

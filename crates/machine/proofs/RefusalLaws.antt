@@ -20,7 +20,7 @@ use Rattle.wire.specs.declared.refusal.Refusal.{Refusal}
 use Rattle.wire.specs.declared.refusal.Refusal.the-variants as refusal
 use Rattle.wire.specs.Refusal.{refusalNumber, firstThatApplies}
 use Rattle.wire.specs.Size.{wrongSize, outside}
-use Rattle.wire.specs.Geometry.{countOf, blockLength, programLength, blocksOf, treeOver}
+use Rattle.wire.specs.Geometry.{countOf, blockLength, blocksOf, treeOver}
 use Rattle.wire.specs.Message.{kind, leastLength, short, manifestBytes, manifestIn, programSignature, updateNumber, updateBlock, updateSignature, pathIn, pathSignature, dueLength, leastUpdate, leastPath}
 use Rattle.wire.proofs.SizeLaws.{Sized, sized, or-false, inside}
 use Rattle.machine.specs.declared.state.Stage.{Stage}
@@ -121,13 +121,13 @@ module _ (H : List ℕ → List ℕ) (valid : (key message signature : List ℕ)
     pub version : wrongVersion (manifestIn m) ≡ false
     pub size : Sized (manifestIn m .«block_len») (manifestIn m .«image_len»)
     pub newer : notNewer d (manifestIn m) ≡ false
-    pub room : programLength (manifestIn m) ≤ length flash
+    pub room : manifestIn m .«image_len» ≤ length flash
     pub signed : valid (d .key) (manifestBytes m) (programSignature m) ≡ true
 
   pub record BlockPassed : Type 0 where
     pub awaited : Awaits d (nextOf (d .stage))
     pub loading : notLoading (d .stage) ≡ false
-    pub room : programLength (d .manifest) ≤ length flash
+    pub room : d .manifest .«image_len» ≤ length flash
     pub long : length m ≡ dueLength (d .manifest .«block_len») (d .manifest .«image_len») (nextOf (d .stage))
     pub same : mismatch H d (nextOf (d .stage)) m ≡ false
 
@@ -138,7 +138,7 @@ module _ (H : List ℕ → List ℕ) (valid : (key message signature : List ℕ)
     pub size : Sized (manifestIn m .«block_len») (manifestIn m .«image_len»)
     pub newer : notNewer d (manifestIn m) ≡ false
     pub alike : unlike (manifestIn m) (d .manifest) ≡ false
-    pub room : programLength (manifestIn m) ≤ length flash
+    pub room : manifestIn m .«image_len» ≤ length flash
     pub turn : (0 < updateNumber m) × (updateNumber m ≤ countOf (manifestIn m))
     pub long : least ≤ length m
     pub signed : valid (d .key) (manifestBytes m) signature ≡ true

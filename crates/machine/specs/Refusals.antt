@@ -16,7 +16,7 @@ use Rattle.wire.specs.declared.manifest.Manifest.{Manifest}
 use Rattle.wire.specs.declared.refusal.Refusal.{Refusal}
 use Rattle.wire.specs.declared.refusal.Refusal.the-variants as refusal
 use Rattle.wire.specs.Size.{wrongSize, outside}
-use Rattle.wire.specs.Geometry.{countOf, blockLength, programLength, blocksOf, treeOver}
+use Rattle.wire.specs.Geometry.{countOf, blockLength, blocksOf, treeOver}
 use Rattle.wire.specs.Message.{short, manifestBytes, manifestIn, programSignature, numberIn, blockIn, hashesAfter, updateNumber, updateBlock, updateSignature, pathIn, pathSignature, dueLength, leastUpdate, leastPath}
 use Rattle.machine.specs.declared.state.Stage.{Stage}
 use Rattle.machine.specs.declared.state.Stage.the-variants.{Idle, Loading, Complete}
@@ -46,9 +46,9 @@ otherModel d s = not (eqb (s .model) (d .model))
 unfoldable pub notNewer : Device → Manifest → Bool
 notNewer d s = not (ltb (serialOf d) (s .serial))
 
--- 8: the flash too short for the manifest's blocks
+-- 8: the flash too short for the manifest's image: "the area must have T bytes"
 unfoldable pub tooSmall : Manifest → List ℕ → Bool
-tooSmall s flash = ltb (length flash) (programLength s)
+tooSmall s flash = ltb (length flash) (s .«image_len»)
 
 -- 9: signature not valid
 unfoldable pub unsigned : (valid : (key message signature : List ℕ) → Bool) → Device → (manifest signature : List ℕ) → Bool

@@ -4,7 +4,7 @@ use mathlib.Core.Logic.{_⊎_, inl, inr, _≢_}
 use mathlib.Core.Bool.{Bool, true, false, cond}
 use mathlib.Core.List.{List, _++_, append-assoc, append-nil}
 use Prim.Native.Nat.{ℕ, zero, suc, _+_, _-_, _*_, _/_, _%_, min, _≤_, _<_}
-use native.Mathlib.Nat.{mul-le-mul-right, div-add-mod', mod-lt}
+use native.Mathlib.Nat.{le-trans, mul-le-mul-right, div-zero, div-mul-le-self, div-add-mod', mod-lt}
 use native.Mathlib.Omega.{arith}
 use lib.Dec.{eqb}
 use lib.ListN.{length, take, drop, length-take, length-drop, take-append-drop, drop-of-length-le}
@@ -24,6 +24,14 @@ block-count L T pos some = go ((T + (L - 1)) / L) (div-add-mod' (T + (L - 1)) L)
     go (suc m) e h =
         let z : suc m - 1 ≡ m = omega arith in
         record { some = omega arith; below = rw z (omega arith); enough = omega arith }
+
+-- A block starts within the bytes.
+pub block-starts : (L T i : ℕ) → i < blockCount L T → (0 < L) × (i * L < T)
+unfolding blockCount
+block-starts zero T i h = absurd (omega (arith, div-zero (T + (0 - 1))))
+block-starts (suc k) T i h =
+    let e : suc i * suc k ≤ T + (suc k - 1) = le-trans (mul-le-mul-right (suc k) h) (div-mul-le-self (T + (suc k - 1)) (suc k)) in
+    (omega arith, omega arith)
 
 module _ (f : ℕ → List ℕ) (at : ℕ) (b : List ℕ) where
   pub overlay-same : overlay f at b at ≡ b

@@ -31,11 +31,6 @@ module _ (H : Hashing) where
       (loaded-step H (shape n) root i before after (a .others) (hashesIn (carriedCount n (suc i)) message) (rw (size-shape n (omega arith)) h) same
       (length-hashesIn (carriedCount n (suc i)) message) (rw (sym e) (rw (a .first) at loaded)))
 
-  -- What the sender sends depends on the blocks alone.
-  pub sent-same : (n : ℕ) {f g : ℕ → List ℕ} (i : ℕ) → Same f 0 g 0 (shape n) → sent H n f i ≡ sent H n g i
-  unfolding sent
-  sent-same n i e = ap joined (siblings-same H 0 (shape n) i e)
-
   module _ (sized : (x : List ℕ) → length (H .function x) ≡ hashLength) where
     pub sized-hashes : (f : ℕ → List ℕ) (ps : List Place) → Sized (hashes H f ps)
     unfolding hashes

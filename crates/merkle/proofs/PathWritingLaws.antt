@@ -77,27 +77,8 @@ module _ {H : Hashing} {f : ℕ → List ℕ} {n before : ℕ} {out now : List �
       filling-all (subst (λ ps. Filling H f all out now ps depth) (siblings-none first m i h) (w .filling))
       ∙ ap (λ c. joined (hashes H f all) ++ drop (hashLength * c) out) (depth-at 0 n before)
 
--- What the sender sends of a path depends on the blocks alone, and is as long as the leaf is deep.
+-- What the sender sends of a path is as long as the leaf is deep.
 module _ (H : Hashing) where
-  path-same : {f g : ℕ → List ℕ} (o : ℕ) (s : Shape) (i : ℕ) → Same f o g o s → hashes H f (pathSiblings o s i) ≡ hashes H g (pathSiblings o s i)
-  unfolding pathSiblings hashes
-  path-same o leaf i e = refl
-  path-same {f} {g} o (node l r) i e = go (ltb i (size l)) (path-same o l i (same-left e)) (path-same (o + size l) r (i - size l) (same-right e))
-    where
-      ends : (ps : List Place) (q : Place) → hashes H f ps ≡ hashes H g ps → hash H f (q .0) (q .1) ≡ hash H g (q .0) (q .1) → hashes H f (ps ++ (q ∷ [])) ≡ hashes H g (ps ++ (q ∷ []))
-      ends ps q a b = hashes-last H f ps (q .0) (q .1) ∙ ap₂ {C = List (List ℕ)} (λ x y. x ++ (y ∷ [])) a b ∙ sym (hashes-last H g ps (q .0) (q .1))
-
-      go : (t : Bool) → hashes H f (pathSiblings o l i) ≡ hashes H g (pathSiblings o l i)
-          → hashes H f (pathSiblings (o + size l) r (i - size l)) ≡ hashes H g (pathSiblings (o + size l) r (i - size l))
-          → hashes H f (cond t (pathSiblings o l i ++ ((o + size l, r) ∷ [])) (pathSiblings (o + size l) r (i - size l) ++ ((o, l) ∷ [])))
-          ≡ hashes H g (cond t (pathSiblings o l i ++ ((o + size l, r) ∷ [])) (pathSiblings (o + size l) r (i - size l) ++ ((o, l) ∷ [])))
-      go true a b = ends (pathSiblings o l i) (o + size l, r) a (hash-same H r (same-right e))
-      go false a b = ends (pathSiblings (o + size l) r (i - size l)) (o, l) b (hash-same H l (same-left e))
-
-  pub sent-path-same : (n : ℕ) {f g : ℕ → List ℕ} (i : ℕ) → Same f 0 g 0 (shape n) → sentPath H n f i ≡ sentPath H n g i
-  unfolding sentPath
-  sent-path-same n i e = ap joined (path-same 0 (shape n) i e)
-
   pub length-sent-path : ((x : List ℕ) → length (H .function x) ≡ hashLength) → (n : ℕ) (f : ℕ → List ℕ) (i : ℕ) → length (sentPath H n f i) ≡ hashLength * leafDepth n i
   unfolding sentPath
   length-sent-path sized n f i =

@@ -9,8 +9,8 @@ use lib.Seq.{drop-drop}
 use Rattle.merkle.specs.Blocks.{cut, overlay}
 use Rattle.merkle.specs.Shape.{split, shape}
 use Rattle.merkle.specs.Hash.{Hashing, leafHash, nodeHash, hash}
-use Rattle.merkle.proofs.ShapeLaws.{shape-leaf, halves, size-left}
-use Rattle.merkle.proofs.HashLaws.{hash-node}
+use Rattle.merkle.proofs.ShapeLaws.{shape-leaf, halves, size-left, size-shape}
+use Rattle.merkle.proofs.HashLaws.{hash-node, hash-same}
 use Rattle.merkle.proofs.BlockLaws.{overlay-same, overlay-other}
 
 -- The part from block `first` on: its first block, replaced or not, and the part from k blocks later on.
@@ -36,7 +36,12 @@ module _ (H : Hashing) (f : ℕ → List ℕ) (o n : ℕ) (d : List ℕ) where
       ed ∙ ap₂ (λ u v. nodeHash H u v) ex (ey ∙ ap (λ z. hash H f (o + z) (shape (n - k))) (sym (size-left n k big is)))
       ∙ sym (ap (hash H f o) (halves n k big is) ∙ hash-node H f o (shape k) (shape (n - k)))
 
--- The flash is long enough for both halves.
+-- A replaced block that is none of the tree's leaves the hash as it is.
+pub hash-beyond : (H : Hashing) (f : ℕ → List ℕ) (at : ℕ) (b : List ℕ) (o n : ℕ) → 0 < n → o + n ≤ at → hash H (overlay f at b) o (shape n) ≡ hash H f o (shape n)
+hash-beyond H f at b o n pos h =
+    hash-same H (shape n) (record { block = λ j k. overlay-other f at b (o + j) (λ e. omega (arith, size-shape n pos)) })
+
+-- The bytes are long enough for both halves.
 pub left-fits : (L A n k : ℕ) → k < n → (n - 1) * L ≤ A → k * L ≤ A
 left-fits L A n k h q = let e : k ≤ n - 1 = omega arith in omega (arith, mul-le-mul-right L e)
 

@@ -18,4 +18,5 @@ pub use path::leaf_depth;
 pub use path::path_hash;
 pub use path::write_path;
 pub use siblings::write_siblings;
+pub use tree::root;
 pub use tree::root_with;

@@ -10,7 +10,7 @@ ghost use Prim.Native.Nat.{_-_, _*_, _≤_, _<_};
 ghost use lib.ListN.{length, drop};
 ghost use Rattle.sha256.specs.Sha256 as sha;
 ghost use Rattle.merkle.specs.Limits.{maxBlocks, hashLength};
-ghost use Rattle.merkle.specs.Blocks.{cut, overlay};
+ghost use Rattle.merkle.specs.Blocks.{cut};
 ghost use Rattle.merkle.specs.Shape.{shape};
 ghost use Rattle.merkle.specs.Hash.{plain};
 ghost use Rattle.merkle.specs.Path.{leafDepth, sentPath, pathHash};
@@ -56,18 +56,10 @@ pub fn path_hash(n: usize, before: usize, block: &[u8], siblings: &[u8]) -> [u8;
     node(highest, &right)
 }
 
-// Writes the siblings of the block after `before` of n, over the same blocks as `root_with`. The highest comes first, to its place at the end.
-pub fn write_path(
-    out: &mut [u8],
-    flash: &[u8],
-    len: usize,
-    n: usize,
-    before: usize,
-    at: usize,
-    block: &[u8],
-)
-    requires { ⌜ (before < n) × (n ≤ maxBlocks) × ((n - 1) * len ≤ length (now flash)) × (hashLength * leafDepth n before ≤ length (now out)) ⌝ }
-    ensures { λ _. ⌜ now (out .exit) ≡ sentPath (plain sha.digest) n (overlay (cut len (now (flash .entry))) at (now (block .entry))) before ++ drop (hashLength * leafDepth n before) (now (out .entry)) ⌝ }
+// Writes the siblings of the block after `before` of n, over the same blocks as `root`. The highest comes first, to its place at the end.
+pub fn write_path(out: &mut [u8], bytes: &[u8], len: usize, n: usize, before: usize)
+    requires { ⌜ (before < n) × (n ≤ maxBlocks) × ((n - 1) * len ≤ length (now bytes)) × (hashLength * leafDepth n before ≤ length (now out)) ⌝ }
+    ensures { λ _. ⌜ now (out .exit) ≡ sentPath (plain sha.digest) n (cut len (now (bytes .entry))) before ++ drop (hashLength * leafDepth n before) (now (out .entry)) ⌝ }
 {
     let mut first: usize = 0;
     let mut m = n;
@@ -77,10 +69,10 @@ pub fn write_path(
         let k = split(m);
         depth -= 1;
         if i < k {
-            put_subtree(out, depth, flash, len, first + k, m - k, at, block);
+            put_subtree(out, depth, bytes, len, first + k, m - k);
             m = k;
         } else {
-            put_subtree(out, depth, flash, len, first, k, at, block);
+            put_subtree(out, depth, bytes, len, first, k);
             first += k;
             m -= k;
             i -= k;

@@ -11,7 +11,7 @@ ghost use Prim.Native.Nat.{_+_, _-_, _*_, _/_, _≤_, _<_};
 ghost use lib.ListN.{length, drop};
 ghost use Rattle.sha256.specs.Sha256 as sha;
 ghost use Rattle.merkle.specs.Limits.{maxBlocks, hashLength};
-ghost use Rattle.merkle.specs.Blocks.{cut, overlay};
+ghost use Rattle.merkle.specs.Blocks.{cut};
 ghost use Rattle.merkle.specs.Shape.{shape};
 ghost use Rattle.merkle.specs.Hash as spec;
 ghost use Rattle.merkle.specs.Hash.{plain};
@@ -52,18 +52,10 @@ fn subtree(n: usize, before: usize) -> usize
     m
 }
 
-// Writes the hashes that go with the block after `before` of n, over the same blocks as `root_with`. The highest sibling comes first, to its place at the end.
-pub fn write_siblings(
-    out: &mut [u8],
-    flash: &[u8],
-    len: usize,
-    n: usize,
-    before: usize,
-    at: usize,
-    block: &[u8],
-)
-    requires { ⌜ (before < n) × (n ≤ maxBlocks) × ((n - 1) * len ≤ length (now flash)) × (hashLength * carriedCount n (before + 1) ≤ length (now out)) ⌝ }
-    ensures { λ _. ⌜ now (out .exit) ≡ sent (plain sha.digest) n (overlay (cut len (now (flash .entry))) at (now (block .entry))) before ++ drop (hashLength * carriedCount n (before + 1)) (now (out .entry)) ⌝ }
+// Writes the hashes that go with the block after `before` of n, over the same blocks as `root`. The highest sibling comes first, to its place at the end.
+pub fn write_siblings(out: &mut [u8], bytes: &[u8], len: usize, n: usize, before: usize)
+    requires { ⌜ (before < n) × (n ≤ maxBlocks) × ((n - 1) * len ≤ length (now bytes)) × (hashLength * carriedCount n (before + 1) ≤ length (now out)) ⌝ }
+    ensures { λ _. ⌜ now (out .exit) ≡ sent (plain sha.digest) n (cut len (now (bytes .entry))) before ++ drop (hashLength * carriedCount n (before + 1)) (now (out .entry)) ⌝ }
 {
     let mut m = subtree(n, before);
     let counts = count(n, before);
@@ -71,7 +63,7 @@ pub fn write_siblings(
     while 1 < m {
         let k = split(m);
         c -= 1;
-        put_subtree(out, c, flash, len, before + k, m - k, at, block);
+        put_subtree(out, c, bytes, len, before + k, m - k);
         m = k;
     }
 }

@@ -1,4 +1,4 @@
-// The hash of the tree over blocks in the flash, one of them replaced, and of its subtrees. No block is copied or written.
+// The hash of the tree over blocks of a run of bytes, one of them replaced or none, and of its subtrees. No block is copied or written.
 use crate::limits::HASH_LEN;
 use crate::node::node;
 use crate::node::split;
@@ -15,7 +15,7 @@ ghost use Rattle.merkle.specs.Blocks.{cut, overlay};
 ghost use Rattle.merkle.specs.Shape.{shape};
 ghost use Rattle.merkle.specs.Hash.{plain, leafHash, hash, rootOver};
 
-// The hash of a part's first block, which is shorter than len where the flash ends within it.
+// The hash of a part's first block, which is shorter than len where the bytes end within it.
 fn leaf(part: &[u8], len: usize) -> [u8; 32]
     ensures { λ r. ⌜ r ≡ leafHash (plain sha.digest) (take len (now (part .entry))) ⌝ }
 {
@@ -26,7 +26,7 @@ fn leaf(part: &[u8], len: usize) -> [u8; 32]
 }
 
 // The hash of the subtree over n blocks of len bytes that starts with block `first` (blocks before it), with block `at` replaced if it is one of these. The part
-// is what the flash has from block `first` on, and the answer is the same for every flash that goes on so. Block numbers fit a usize.
+// is what the bytes have from block `first` on, and the answer is the same for all bytes that go on so. Block numbers fit a usize.
 fn subtree_hash(
     part: &[u8],
     len: usize,
@@ -36,7 +36,7 @@ fn subtree_hash(
     block: &[u8],
 ) -> [u8; 32]
     requires { ⌜ (0 < n) × (first + n < 2 ^ 64) × ((n - 1) * len ≤ length (now part)) ⌝ }
-    ensures { λ r. ⌜ ((flash : List ℕ) → drop (first * len) flash ≡ now (part .entry) → r ≡ hash (plain sha.digest) (overlay (cut len flash) at (now (block .entry))) first (shape n)) ⌝ }
+    ensures { λ r. ⌜ ((bytes : List ℕ) → drop (first * len) bytes ≡ now (part .entry) → r ≡ hash (plain sha.digest) (overlay (cut len bytes) at (now (block .entry))) first (shape n)) ⌝ }
 {
     if n == 1 {
         if first == at {
@@ -51,29 +51,35 @@ fn subtree_hash(
     node(&left, &right)
 }
 
-// The hash of the tree over n blocks of len bytes of the flash, with block `at` (blocks before it) replaced. Where `at` is not below n, none is replaced.
-pub fn root_with(flash: &[u8], len: usize, n: usize, at: usize, block: &[u8]) -> [u8; 32]
-    requires { ⌜ (0 < n) × ((n - 1) * len ≤ length (now flash)) ⌝ }
-    ensures { λ r. ⌜ r ≡ rootOver (plain sha.digest) (overlay (cut len (now (flash .entry))) at (now (block .entry))) n ⌝ }
+// The hash of the tree over n blocks of len bytes, with block `at` (blocks before it) replaced. Where `at` is not below n, none is replaced.
+pub fn root_with(bytes: &[u8], len: usize, n: usize, at: usize, block: &[u8]) -> [u8; 32]
+    requires { ⌜ (0 < n) × ((n - 1) * len ≤ length (now bytes)) ⌝ }
+    ensures { λ r. ⌜ r ≡ rootOver (plain sha.digest) (overlay (cut len (now (bytes .entry))) at (now (block .entry))) n ⌝ }
 {
-    subtree_hash(flash, len, 0, n, at, block)
+    subtree_hash(bytes, len, 0, n, at, block)
 }
 
-// Puts the hash of a subtree over the same blocks as `root_with` to place `index` of the hashes in `out`.
+// The same with no block replaced.
+pub fn root(bytes: &[u8], len: usize, n: usize) -> [u8; 32]
+    requires { ⌜ (0 < n) × ((n - 1) * len ≤ length (now bytes)) ⌝ }
+    ensures { λ r. ⌜ r ≡ rootOver (plain sha.digest) (cut len (now (bytes .entry))) n ⌝ }
+{
+    root_with(bytes, len, n, n, &[])
+}
+
+// Puts the hash of the subtree over n blocks that starts with block `first`, none replaced, to place `index` of the hashes in `out`.
 pub fn put_subtree(
     out: &mut [u8],
     index: usize,
-    flash: &[u8],
+    bytes: &[u8],
     len: usize,
     first: usize,
     n: usize,
-    at: usize,
-    block: &[u8],
 )
-    requires { ⌜ (0 < n) × (first + n < 2 ^ 64) × ((first + n - 1) * len ≤ length (now flash)) × (hashLength * index + hashLength ≤ length (now out)) ⌝ }
-    ensures { λ _. ⌜ now (out .exit) ≡ paste (now (out .entry)) (hashLength * index) (hash (plain sha.digest) (overlay (cut len (now (flash .entry))) at (now (block .entry))) first (shape n)) hashLength ⌝ }
+    requires { ⌜ (0 < n) × (first + n < 2 ^ 64) × ((first + n - 1) * len ≤ length (now bytes)) × (hashLength * index + hashLength ≤ length (now out)) ⌝ }
+    ensures { λ _. ⌜ now (out .exit) ≡ paste (now (out .entry)) (hashLength * index) (hash (plain sha.digest) (cut len (now (bytes .entry))) first (shape n)) hashLength ⌝ }
 {
     let from = first * len;
-    let hash = subtree_hash(&flash[from..], len, first, n, at, block);
+    let hash = subtree_hash(&bytes[from..], len, first, n, first + n, &[]);
     copy(out, HASH_LEN * index, &hash);
 }

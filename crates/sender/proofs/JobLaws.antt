@@ -22,20 +22,20 @@ use Rattle.wire.specs.declared.manifest.Manifest.{Manifest}
 use Rattle.wire.specs.Manifest.{manifestLength, written}
 use Rattle.wire.specs.Geometry.{blockLength}
 use Rattle.wire.specs.Message.{leastLength, dueLength, leastUpdate, leastPath, successorHead, blockMessage}
-use Rattle.wire.proofs.SizeLaws.{Sized, sized, inside}
+use Rattle.wire.proofs.SizeLaws.{inside}
 use Rattle.wire.proofs.ManifestLaws.{length-written}
-use Rattle.wire.proofs.ImageLaws as image
+use Rattle.wire.proofs.GeometryLaws.{length-cut}
 use Rattle.wire.proofs.MessageLaws.{program-size, block-size, update-size, path-size, update-whole, path-whole}
 use Rattle.sender.specs.Job.{Image, Job, count, blocks, rootOf, manifestFor, programFor, blockFor, updateFor, pathFor}
 use Rattle.sender.specs.Claims.{AllLengths}
 
--- an image of an allowed size, and block i of it
-module _ (x : Image) (z : Sized (x .«block_len») (length (x .bytes))) (i : ℕ) (low : 0 < i) (high : i ≤ count x) where
+-- an image, and block i of it
+module _ (x : Image) (i : ℕ) (low : 0 < i) where
   pub length-one : length (blocks x (pred i)) ≡ blockLength (x .«block_len») (length (x .bytes)) i
-  unfolding blocks count
+  unfolding blocks
   length-one =
       let e : suc (pred i) ≡ i = omega arith in
-      image.length-block (x .«block_len») (x .bytes) z (pred i) (omega arith) ∙ ap (blockLength (x .«block_len») (length (x .bytes))) e
+      length-cut (x .«block_len») (x .bytes) (pred i) ∙ ap (blockLength (x .«block_len») (length (x .bytes))) e
 
   pub length-block : length (blockFor digest x i) ≡ dueLength (x .«block_len») (length (x .bytes)) i
   unfolding blockFor dueLength count
@@ -57,18 +57,18 @@ module _ (j : Job) where
   unfolding programFor
   length-program signature = program-size (manifestFor digest j) length-root signature
 
-  module _ (z : Sized (j .image .«block_len») (length (j .image .bytes))) (i : ℕ) (low : 0 < i) (high : i ≤ count (j .image)) where
+  module _ (i : ℕ) (low : 0 < i) where
     pub length-update : (signature : List ℕ) → length (updateFor digest j i signature) ≡ leastUpdate (j .image .«block_len») (length (j .image .bytes)) i + length signature
     unfolding updateFor leastUpdate
     length-update signature =
-        update-size (manifestFor digest j) length-root signature i (blocks (j .image) (pred i)) ∙ omega (arith, length-one (j .image) z i low high)
+        update-size (manifestFor digest j) length-root signature i (blocks (j .image) (pred i)) ∙ omega (arith, length-one (j .image) i low)
 
     pub length-path : (signature : List ℕ) → length (pathFor digest j i signature) ≡ leastPath (j .image .«block_len») (length (j .image .bytes)) i + length signature
     unfolding pathFor leastPath leastUpdate count
     length-path signature =
         let x = j .image in
         path-size (manifestFor digest j) length-root signature i (blocks x (pred i)) (sentPath (plain digest) (count x) (blocks x) (pred i))
-        ∙ omega (arith, length-one x z i low high, length-sent-path (plain digest) length-digest (count x) (blocks x) (pred i))
+        ∙ omega (arith, length-one x i low, length-sent-path (plain digest) length-digest (count x) (blocks x) (pred i))
 
 pub lengths : AllLengths
 lengths j =
@@ -76,9 +76,9 @@ lengths j =
     record {
       manifest = length-manifest j;
       program = length-program j;
-      block = λ z i o. let n = inside (count x) i o in length-block x (sized _ _ z) i (n .0) (n .1);
-      update = λ z i o. let n = inside (count x) i o in length-update j (sized _ _ z) i (n .0) (n .1);
-      path = λ z i o. let n = inside (count x) i o in length-path j (sized _ _ z) i (n .0) (n .1);
+      block = λ z i o. length-block x i (inside (count x) i o .0);
+      update = λ z i o. length-update j i (inside (count x) i o .0);
+      path = λ z i o. length-path j i (inside (count x) i o .0);
     }
 
 -- a block's message, from the parts that the code writes
@@ -100,7 +100,7 @@ successor-is false j n i k m block siblings signature ek em en eb es =
     let p : pred i ≡ i - 1 = omega arith in
     rw p (cc (append-nil (successorHead 3 m i block), update-whole m i block signature))
 
-pub length-successor : (path : Bool) (j : Job) → Sized (j .image .«block_len») (length (j .image .bytes)) → (i : ℕ) → 0 < i → i ≤ count (j .image) → (signature : List ℕ)
+pub length-successor : (path : Bool) (j : Job) (i : ℕ) → 0 < i → (signature : List ℕ)
     → length (successorFor path j i signature) ≡ cond path leastPath leastUpdate (j .image .«block_len») (length (j .image .bytes)) i + length signature
 length-successor true = length-path
 length-successor false = length-update

@@ -2,12 +2,11 @@
 use mathlib.Core.List.{List}
 use Prim.Native.Nat.{ℕ, pred}
 use lib.ListN.{length}
-use Rattle.merkle.specs.Blocks.{blockCount}
+use Rattle.merkle.specs.Blocks.{blockCount, cut}
 use Rattle.merkle.specs.Hash.{plain, rootOver}
 use Rattle.merkle.specs.Path.{sentPath}
 use Rattle.merkle.specs.Held.{sent}
 use Rattle.wire.specs.declared.manifest.Manifest.{Manifest}
-use Rattle.wire.specs.Image.{imageBlocks}
 use Rattle.wire.specs.Message.{programMessage, blockMessage, updateMessage, pathMessage}
 
 -- an image and its L: all that a block message is made of
@@ -31,9 +30,9 @@ job image model serial = record { image = image; model = model; serial = serial 
 unfoldable pub count : Image → ℕ
 count x = blockCount (x .«block_len») (length (x .bytes))
 
--- its blocks, the last one filled, by the number of blocks before
+-- its blocks, by the number of blocks before; the last one ends with the image
 unfoldable pub blocks : Image → ℕ → List ℕ
-blocks x = imageBlocks (x .«block_len») (x .bytes)
+blocks x = cut (x .«block_len») (x .bytes)
 
 -- H is SHA-256; the tree's laws hold for any hash function
 module _ (H : List ℕ → List ℕ) where

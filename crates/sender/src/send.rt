@@ -1,6 +1,4 @@
 // The bare manifest and the messages. Refusals 5, 11, 8, in this order; then the bytes at the start of the buffer and no others.
-use crate::image::block_of;
-use crate::image::last_block;
 use crate::image::manifest_for;
 use wire::Kind;
 use wire::MANIFEST_LEN;
@@ -8,6 +6,7 @@ use wire::PATH_UPDATE;
 use wire::Refusal;
 use wire::UPDATE;
 use wire::block_count;
+use wire::block_of;
 use wire::due_len;
 use wire::least_len;
 use wire::least_path;
@@ -103,11 +102,9 @@ pub fn block(image: &[u8], len: u32, number: u32, out: &mut [u8]) -> Sent
             if out.len() < due {
                 return Sent::Refused(Refusal::Area);
             }
-            let filled = last_block(image, block_len, n);
-            let last = &filled[..block_len];
-            let block = block_of(image, last, block_len, n, i - 1);
+            let block = block_of(image, block_len, image.len(), i);
             let from = put_block(number as u16, block, out);
-            merkle::write_siblings(&mut out[from..], image, block_len, n, i - 1, n - 1, last);
+            merkle::write_siblings(&mut out[from..], image, block_len, n, i - 1);
             Sent::Written(due)
         }
     }
@@ -139,14 +136,12 @@ fn successor(
             if too_short(out.len(), least, signature.len()) {
                 return Sent::Refused(Refusal::Area);
             }
-            let filled = last_block(image, block_len, n);
-            let last = &filled[..block_len];
-            let block = block_of(image, last, block_len, n, i - 1);
+            let block = block_of(image, block_len, image.len(), i);
             let manifest = manifest_for(image, len, model, serial);
             let kind = if path { PATH_UPDATE } else { UPDATE };
             let from = put_successor(kind, manifest, number as u16, block, out);
             if path {
-                merkle::write_path(&mut out[from..], image, block_len, n, i - 1, n - 1, last);
+                merkle::write_path(&mut out[from..], image, block_len, n, i - 1);
             }
             octets::copy(out, least, signature);
             Sent::Written(least + signature.len())

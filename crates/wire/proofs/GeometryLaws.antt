@@ -2,79 +2,127 @@
 use mathlib.Core.Path.{_≡_, refl, sym, ap, ap₂, _∙_}
 use mathlib.Core.Logic.{_≢_}
 use mathlib.Core.Bool.{false}
-use mathlib.Core.List.{List, _++_}
-use Prim.Native.Nat.{ℕ, suc, _+_, _-_, _*_, _≤_, _<_}
-use native.Mathlib.Nat.{le-refl, mul-le-mul, mul-le-mul-right}
+use mathlib.Core.List.{List, _++_, append-assoc}
+use Prim.Native.Nat.{ℕ, suc, _+_, _-_, _*_, min, _≤_, _<_}
+use native.Mathlib.Nat.{zero-add}
 use native.Mathlib.Omega.{arith}
-use lib.ListN.{length, take, drop, length-drop, length-append, take-append-drop}
-use lib.Seq.{paste, length-paste, drop-paste, length-take-le, take-all, take-at, drop-at, take-length, drop-drop}
-use Rattle.merkle.specs.Limits.{maxBlocks}
-use Rattle.merkle.specs.Blocks.{cut, overlay}
+use lib.ListN.{length, take, drop, length-take, length-drop, length-append, take-append-drop}
+use lib.Seq.{paste, length-paste, length-take-le, take-all, take-at, drop-at, take-length, take-take, drop-drop, take-append-le, drop-append-le}
+use Rattle.octets.specs.Octets.{part}
+use Rattle.octets.proofs.CopyLaws.{part-part}
+use Rattle.merkle.specs.Blocks.{blockCount, cut, overlay}
 use Rattle.merkle.specs.Shape.{shape}
 use Rattle.merkle.specs.Hash.{plain}
-use Rattle.merkle.proofs.ShapeLaws.{size-shape}
-use Rattle.merkle.proofs.HashLaws.{hash-same}
-use Rattle.merkle.proofs.BlockLaws.{overlay-same, overlay-other, overlay-is, cut-front, take-blocks, blocks-equal, written}
+use Rattle.merkle.proofs.BlockLaws.{block-count, block-starts, overlay-same, overlay-other, overlay-is, take-blocks, blocks-equal, written}
 use Rattle.wire.specs.declared.manifest.Manifest.{Manifest}
 use Rattle.wire.specs.Size.{wrongSize}
-use Rattle.wire.specs.Geometry.{countOf, blockLength, blockStart, areaLength, programLength, blocksOf, withBlock, treeOver}
+use Rattle.wire.specs.Geometry.{countOf, blockLength, blockStart, blocksOf, withBlock, treeOver}
 use Rattle.wire.specs.Message.{atStart}
 use Rattle.wire.proofs.SizeLaws.{sized}
 
 -- no block is longer than L
 pub block-length-most : (L T i : ℕ) → blockLength L T i ≤ L
 unfolding blockLength
-block-length-most L T i = le-refl L
+block-length-most L T i = omega arith
 
 pub block-length-few : (L T i : ℕ) → wrongSize L T ≡ false → blockLength L T i ≤ 1024
 block-length-few L T i e = omega (arith, block-length-most L T i, sized L T e .most)
 
--- nor are all of them together too many bytes for a number of the code
-pub area-few : (L T : ℕ) → wrongSize L T ≡ false → areaLength L T ≤ maxBlocks * 1024
-area-few L T e = let z = sized L T e in mul-le-mul (z .count) (z .most)
+-- each block of a run of bytes has its length
+pub length-cut : (L : ℕ) (a : List ℕ) (i : ℕ) → length (cut L a i) ≡ blockLength L (length a) (suc i)
+unfolding cut blockLength
+length-cut L a i = length-take L (drop (i * L) a) ∙ ap (min L) (length-drop (i * L) a)
+
+-- the block with i blocks before it, of n that hold T bytes
+module _ (L T i : ℕ) (below : i < blockCount L T) where
+  pub block-within : i * L + blockLength L T (suc i) ≤ T
+  unfolding blockLength
+  block-within = omega (arith, block-starts L T i below)
+
+  -- only the last block may be shorter than L; it ends with the program
+  pub block-full : suc i < blockCount L T → blockLength L T (suc i) ≡ L
+  unfolding blockLength
+  block-full h = let e : suc i * L ≡ i * L + L = omega arith in omega (arith, block-starts L T (suc i) h)
+
+  pub blocks-enough : T ≤ blockCount L T * L
+  blocks-enough = let b = block-starts L T i below in block-count L T (b .0) (omega (arith, b .1)) .enough
+
+  pub block-last : blockCount L T ≤ suc i → i * L + blockLength L T (suc i) ≡ T
+  unfolding blockLength
+  block-last h =
+      let e : blockCount L T ≡ suc i = omega arith in
+      let m : suc i * L ≡ i * L + L = omega arith in
+      omega (arith, block-starts L T i below, rw e at blocks-enough)
+
+-- a block of the first T bytes, as it stands there
+pub cut-stands : (L T i : ℕ) (a : List ℕ) → i < blockCount L T → cut L (take T a) i ≡ part (i * L) (blockLength L T (suc i)) a
+unfolding cut blockLength
+cut-stands L T i a below =
+    let at = i * L in
+    let k = blockLength L T (suc i) in
+    let few : length (cut L (take T a) i) ≤ k = omega (arith, length-cut L (take T a) i, length-take T a) in
+    sym (take-all k (cut L (take T a) i) few) ∙ take-take k L (drop at (take T a)) (block-length-most L T (suc i))
+    ∙ part-part a 0 T at k (block-within L T i below) ∙ ap (λ j. part j k a) (zero-add at)
 
 -- a block written to its place is a copy to there
 pub with-copied : (L : ℕ) (flash : List ℕ) (i : ℕ) (x : List ℕ) → paste flash (blockStart L i) x (length x) ≡ withBlock L flash i x
 unfolding withBlock
 with-copied L flash i x = let at = blockStart L i in ap (λ (y : List ℕ). take at flash ++ y ++ drop (at + length x) flash) (take-length x)
 
+pub length-written : (L : ℕ) (flash : List ℕ) (i : ℕ) (x : List ℕ) → blockStart L i + length x ≤ length flash → length (withBlock L flash i x) ≡ length flash
+length-written L flash i x h = ap length (sym (with-copied L flash i x)) ∙ length-paste flash (blockStart L i) x (length x) h (omega arith)
+
+-- what stands behind a block's place is not touched
+pub with-front : (L : ℕ) (f g : List ℕ) (i : ℕ) (x : List ℕ) → blockStart L i + length x ≤ length f → withBlock L (f ++ g) i x ≡ withBlock L f i x ++ g
+unfolding withBlock
+with-front L f g i x h =
+    let at = blockStart L i in
+    rw (take-append-le at f g (omega arith), drop-append-le (at + length x) f g h) (sym (append-assoc (take at f ++ x) (drop (at + length x) f) g))
+
 -- the block with i blocks before it, in a flash that has room for the program
-module _ (s : Manifest) (i : ℕ) (flash : List ℕ) (below : i < countOf s) (room : programLength s ≤ length flash) where
+module _ (s : Manifest) (i : ℕ) (flash : List ℕ) (below : i < countOf s) (room : s .«image_len» ≤ length flash) where
   abbrev L : ℕ
   L = s .«block_len»
 
-  abbrev long : ℕ
-  long = blockLength L (s .«image_len») (suc i)
+  abbrev T : ℕ
+  T = s .«image_len»
 
-  pub block-within : i * L + long ≤ programLength s
-  unfolding blockLength programLength countOf
-  block-within = let m : suc i * L ≤ countOf s * L = mul-le-mul-right L below in omega arith
+  abbrev long : ℕ
+  long = blockLength L T (suc i)
 
   pub block-end : i * L + long ≤ length flash
-  block-end = omega (arith, block-within)
+  unfolding countOf
+  block-end = omega (arith, block-within L T i below)
 
-  -- only the last block may be shorter than L; it ends with the program
-  pub block-full : suc i < countOf s → long ≡ L
-  unfolding blockLength
-  block-full h = refl
-
-  pub block-last : countOf s ≤ suc i → i * L + long ≡ programLength s
-  unfolding blockLength programLength countOf
-  block-last h = let e : countOf s ≡ suc i = omega arith in rw e (omega arith)
+  run-long : length (take T flash) ≡ T
+  run-long = length-take-le T flash room
 
   pub length-in : length (blocksOf s flash i) ≡ long
-  unfolding blocksOf cut blockLength
-  length-in = length-take-le L (drop (i * L) flash) (rw (length-drop (i * L) flash) (omega (arith, block-end)))
+  unfolding blocksOf
+  length-in = length-cut L (take T flash) i ∙ ap (λ t. blockLength L t (suc i)) run-long
 
   module _ (x : List ℕ) (size : length x ≡ long) where
     pub length-with : length (withBlock L flash (suc i) x) ≡ length flash
-    length-with = ap length (sym (with-copied L flash (suc i) x)) ∙ length-paste flash (i * L) x (length x) (omega (arith, block-end)) (omega arith)
+    length-with = length-written L flash (suc i) x (omega (arith, block-end))
+
+    fits : i * L + length x ≤ length (take T flash)
+    unfolding countOf
+    fits = omega (arith, block-within L T i below, run-long)
+
+    -- the program's bytes with the block written, and those behind as they were
+    parts : withBlock L flash (suc i) x ≡ withBlock L (take T flash) (suc i) x ++ drop T flash
+    parts = ap (λ f. withBlock L f (suc i) x) (sym (take-append-drop T flash)) ∙ with-front L (take T flash) (drop T flash) (suc i) x fits
+
+    run-with : length (withBlock L (take T flash) (suc i) x) ≡ T
+    run-with = length-written L (take T flash) (suc i) x fits ∙ run-long
 
     -- the blocks are those before with this one replaced
     pub with-blocks : (j : ℕ) → blocksOf s (withBlock L flash (suc i) x) j ≡ overlay (blocksOf s flash) i x j
     unfolding blocksOf
     with-blocks j =
-        ap (λ (y : List ℕ). cut L y j) (sym (with-copied L flash (suc i) x)) ∙ written L flash x i (omega (arith, block-end)) (size ∙ sym length-in) j
+        let run = take T flash in
+        ap (λ (y : List ℕ). cut L y j) (ap (take T) parts ∙ take-at (withBlock L run (suc i) x) (drop T flash) T run-with ∙ sym (with-copied L run (suc i) x))
+        ∙ written L run x i (omega (arith, fits)) (size ∙ sym length-in) j
 
     pub with-here : blocksOf s (withBlock L flash (suc i) x) i ≡ x
     with-here = with-blocks i ∙ overlay-same (blocksOf s flash) i x
@@ -83,17 +131,8 @@ module _ (s : Manifest) (i : ℕ) (flash : List ℕ) (below : i < countOf s) (ro
     with-before j h = with-blocks j ∙ overlay-other (blocksOf s flash) i x j (λ e. omega arith)
 
     -- nothing behind the program is written
-    pub with-behind : drop (programLength s) (withBlock L flash (suc i) x) ≡ drop (programLength s) flash
-    with-behind =
-        let to : ℕ = i * L + length x in
-        let rest : ℕ = programLength s - to in
-        let e : programLength s ≡ to + rest = omega (arith, block-within) in
-        ap (drop (programLength s)) (sym (with-copied L flash (suc i) x))
-        ∙ ap (λ k. drop k (paste flash (i * L) x (length x))) e
-        ∙ sym (drop-drop rest to (paste flash (i * L) x (length x)))
-        ∙ ap (drop rest) (drop-paste flash (i * L) x (length x) (omega (arith, block-end)) (omega arith))
-        ∙ drop-drop rest to flash
-        ∙ ap (λ k. drop k flash) (sym e)
+    pub with-behind : drop T (withBlock L flash (suc i) x) ≡ drop T flash
+    with-behind = ap (drop T) parts ∙ drop-at (withBlock L (take T flash) (suc i) x) (drop T flash) T run-with
 
     -- up to its end the flash is what stood before the block, and the block
     pub with-start : take (i * L + length x) (withBlock L flash (suc i) x) ≡ take (i * L) flash ++ x
@@ -109,45 +148,49 @@ unfolding withBlock
 with-same L i f g x before behind = rw (before, behind)
 
 -- the first j blocks of w over an old flash, and one block more
-pub more-blocks : (L j : ℕ) (w old : List ℕ) → j * L ≤ length w → length (cut L w j) ≡ L
-    → withBlock L (take (j * L) w ++ drop (j * L) old) (suc j) (cut L w j) ≡ take (suc j * L) w ++ drop (suc j * L) old
+pub more-blocks : (L j : ℕ) (w old : List ℕ) → j * L ≤ length w → withBlock L (atStart (take (j * L) w) old) (suc j) (cut L w j) ≡ atStart (take (suc j * L) w) old
 unfolding withBlock
-more-blocks L j w old fits long =
+more-blocks L j w old fits =
     let b : List ℕ = cut L w j in
     let front : List ℕ = take (j * L) w in
     let lf : length front ≡ j * L = length-take-le (j * L) w fits in
-    let all : List ℕ = front ++ drop (j * L) old in
-    let e : suc j * L ≡ j * L + length b = omega arith in
+    let all : List ℕ = atStart front old in
+    let more : take (suc j * L) w ≡ front ++ b = take-blocks L w j in
+    let e : j * L + length b ≡ length front + length b = omega arith in
     ap₂ {C = List ℕ} (λ u v. u ++ v)
-    (ap (λ u. u ++ b) (take-at front (drop (j * L) old) (j * L) lf) ∙ sym (take-blocks L w j))
-    (sym (drop-drop (length b) (j * L) all) ∙ ap (drop (length b)) (drop-at front (drop (j * L) old) (j * L) lf) ∙ drop-drop (length b) (j * L) old
-    ∙ ap (λ k. drop k old) (sym e))
+    (ap (λ u. u ++ b) (take-at front (drop (length front) old) (j * L) lf) ∙ sym more)
+    (ap (λ k. drop k all) e ∙ sym (drop-drop (length b) (length front) all) ∙ ap (drop (length b)) (drop-at front (drop (length front) old) (length front) refl)
+    ∙ drop-drop (length b) (length front) old ∙ ap (λ k. drop k old) (sym (ap length more ∙ length-append front b)))
 
 -- a flash that begins with a program's bytes has their blocks and their tree
-module _ (s : Manifest) (w old : List ℕ) (whole : length w ≡ programLength s) where
-  pub start-blocks : (j : ℕ) → j < countOf s → blocksOf s (atStart w old) j ≡ blocksOf s w j
-  unfolding blocksOf blockLength
-  start-blocks j h = cut-front (s .«block_len») w (drop (length w) old) j (block-end s j w h (omega arith))
+module _ (s : Manifest) (w old : List ℕ) (whole : length w ≡ s .«image_len») where
+  pub start-run : take (s .«image_len») (atStart w old) ≡ w
+  start-run = take-at w (drop (length w) old) (s .«image_len») whole
 
-  pub start-tree : (H : List ℕ → List ℕ) → 0 < countOf s → treeOver H s (atStart w old) ≡ treeOver H s w
-  unfolding treeOver
-  start-tree H pos = hash-same (plain H) {o = 0} {u = 0} (shape (countOf s)) (record { block = λ j h. start-blocks (0 + j) (omega (arith, size-shape (countOf s) pos)) })
+  pub start-blocks : blocksOf s (atStart w old) ≡ cut (s .«block_len») w
+  unfolding blocksOf
+  start-blocks = ap (cut (s .«block_len»)) start-run
 
--- where it begins with v, and w differs from v in one block at most, with that block written it begins with w
-pub one-changed : (s : Manifest) (v w flash old : List ℕ) (i : ℕ) → i < countOf s → length v ≡ programLength s → length w ≡ programLength s → flash ≡ atStart v old
-    → ((j : ℕ) → j < countOf s → j ≢ i → blocksOf s v j ≡ blocksOf s w j) → withBlock (s .«block_len») flash (suc i) (blocksOf s w i) ≡ atStart w old
-unfolding programLength countOf blocksOf
-one-changed s v w flash old i below lv lw e other =
-    let L = s .«block_len» in
-    let all = programLength s in
-    let room : all ≤ length flash = omega (arith, simp length-append at (ap length e)) in
-    let x = blocksOf s w i in
-    let size = length-in s i w below (omega arith) in
-    let after = withBlock L flash (suc i) x in
-    let same : (j : ℕ) → j < countOf s → blocksOf s after j ≡ blocksOf s w j =
+-- a run of T bytes has its own blocks
+pub whole-blocks : (s : Manifest) (w : List ℕ) → length w ≡ s .«image_len» → blocksOf s w ≡ cut (s .«block_len») w
+unfolding blocksOf
+whole-blocks s w e = ap (cut (s .«block_len»)) (take-all (s .«image_len») w (omega arith))
+
+-- where a flash begins with v, and w differs from v in one block at most, with that block written it begins with w
+pub one-changed : (L : ℕ) (v w old : List ℕ) (i : ℕ) → length v ≡ length w → i < blockCount L (length w)
+    → ((j : ℕ) → j < blockCount L (length w) → j ≢ i → cut L v j ≡ cut L w j) → withBlock L (atStart v old) (suc i) (cut L w i) ≡ atStart w old
+one-changed L v w old i lv below other =
+    let T = length w in
+    let n = blockCount L T in
+    let x = cut L w i in
+    let size : length x ≡ blockLength L T (suc i) = length-cut L w i in
+    let fits : i * L + length x ≤ length v = omega (arith, block-within L T i below) in
+    let run = withBlock L v (suc i) x in
+    let same : (j : ℕ) → j < n → cut L run j ≡ cut L w j =
     λ j h.
-    with-blocks s i flash below room x size j
-    ∙ overlay-is (blocksOf s flash) (blocksOf s w) i j (λ n. ap (λ y. blocksOf s y j) e ∙ start-blocks s v old lv j h ∙ other j h n) in
-    sym (take-append-drop all after)
-    ∙ ap₂ {C = List ℕ} (λ y z. y ++ z) (blocks-equal L after w (countOf s) same ∙ take-all all w (omega arith))
-    (with-behind s i flash below room x size ∙ ap (drop all) e ∙ drop-at v (drop (length v) old) all lv ∙ ap (λ k. drop k old) (lv ∙ sym lw))
+    ap (λ y. cut L y j) (sym (with-copied L v (suc i) x))
+    ∙ written L v x i (omega arith) (size ∙ ap (λ t. blockLength L t (suc i)) (sym lv) ∙ sym (length-cut L v i)) j
+    ∙ overlay-is (cut L v) (cut L w) i j (other j h) in
+    let enough = blocks-enough L T i below in
+    let is : run ≡ w = sym (take-all (n * L) run (omega (arith, length-written L v (suc i) x fits))) ∙ blocks-equal L run w n same ∙ take-all (n * L) w enough in
+    with-front L v (drop (length v) old) (suc i) x fits ∙ ap₂ {C = List ℕ} (λ y k. y ++ drop k old) is lv

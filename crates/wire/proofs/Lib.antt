@@ -1,4 +1,3 @@
-pub mod ImageLaws
 pub mod GeometryLaws
 pub mod ManifestLaws
 pub mod MessageLaws

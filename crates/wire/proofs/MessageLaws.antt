@@ -22,7 +22,6 @@ use Rattle.wire.specs.Geometry.{blockLength}
 use Rattle.wire.specs.Message.{kind, kindLength, numberLength, leastLength, programMessage, blockMessage, updateMessage, manifestBytes, manifestIn, programSignature, numberIn, blockIn, hashesAfter, updateNumber, updateBlock, updateSignature, successorHead, pathMessage, pathIn, pathSignature, dueLength, messagesLength}
 use Rattle.wire.specs.Claims.{OfProgram, ProgramBack, OfBlock, BlockBack, OfUpdate, UpdateBack, OfPath, PathBack}
 use Rattle.wire.proofs.SizeLaws.{sized}
-use Rattle.wire.proofs.GeometryLaws.{area-few}
 use Rattle.wire.proofs.ManifestLaws.{length-written, read-fits}
 
 pub kind-none : (m : List ℕ) → length m ≡ 0 → Unknown ≡ kind m
@@ -206,7 +205,7 @@ due L T i m e = record { long = omega arith; rest = length-hashes (blockLength L
 -- all block messages together are not too many bytes for a number of the code
 pub messages-few : (L T : ℕ) → wrongSize L T ≡ false → messagesLength L T ≤ maxBlocks * (leastLength Block + 1024 + hashLength)
 unfolding messagesLength
-messages-few L T e = omega (arith, area-few L T e, sized L T e .count)
+messages-few L T e = let z = sized L T e in omega (arith, z .total, z .count)
 
 -- messages as they are written, part behind part
 pub program-parts : (s : Manifest) (signature : List ℕ) → (1 ∷ []) ++ written s ++ signature ≡ programMessage s signature

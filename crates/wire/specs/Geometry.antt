@@ -1,7 +1,7 @@
--- A program's blocks in the flash (01, 'Tree and labels' and 'Slip, messages, state'): how many there are, how long each is, where it stands, how much flash they
--- need, and the root of the tree over them. All of it follows from L and T.
+-- A program's blocks in the flash (01, 'Tree and labels' and 'Slip, messages, state'; 02, change 2): how many there are, where each stands, how long it is, and the
+-- root of the tree over them. All of it follows from L and T.
 use mathlib.Core.List.{List, _++_}
-use Prim.Native.Nat.{ℕ, pred, _+_, _*_}
+use Prim.Native.Nat.{ℕ, pred, _+_, _-_, _*_, min}
 use lib.ListN.{length, take, drop}
 use Rattle.merkle.specs.Blocks.{blockCount, cut}
 use Rattle.merkle.specs.Hash.{plain, rootOver}
@@ -11,24 +11,18 @@ use Rattle.wire.specs.declared.manifest.Manifest.{Manifest}
 unfoldable pub countOf : Manifest → ℕ
 countOf s = blockCount (s .«block_len») (s .«image_len»)
 
--- The bytes of block i, from 1, of an image of T bytes: L, in the last one too. "The sender fills the last block with 0xFF up to L bytes."
-unfoldable pub blockLength : (L T i : ℕ) → ℕ
-blockLength L T i = L
-
 -- where block i, from 1, starts
 abbrev pub blockStart : (L i : ℕ) → ℕ
 blockStart L i = pred i * L
 
--- "The area must have n × L bytes": those of all blocks of an image of T bytes, and so of the flash that a manifest's program needs
-abbrev pub areaLength : (L T : ℕ) → ℕ
-areaLength L T = blockCount L T * L
+-- The bytes of block i, from 1, of an image of T bytes: L, or what is left of the image. "the last block travels with the bytes it has"
+-- With L = 256 and T = 257, block 1 has 256 and block 2 has 1.
+unfoldable pub blockLength : (L T i : ℕ) → ℕ
+blockLength L T i = min L (T - blockStart L i)
 
-unfoldable pub programLength : Manifest → ℕ
-programLength s = areaLength (s .«block_len») (s .«image_len»)
-
--- its blocks in the flash, by the number of blocks before
+-- the blocks of a manifest's program, by the number of blocks before: those of the flash's first T bytes
 unfoldable pub blocksOf : Manifest → List ℕ → ℕ → List ℕ
-blocksOf s flash = cut (s .«block_len») flash
+blocksOf s flash = cut (s .«block_len») (take (s .«image_len») flash)
 
 -- "writes block i to its place and nothing else": the flash with block i, from 1, written
 unfoldable pub withBlock : (L : ℕ) → List ℕ → (i : ℕ) → List ℕ → List ℕ

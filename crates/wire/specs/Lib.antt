@@ -1,7 +1,6 @@
 pub mod Refusal
 pub mod Size
 pub mod Manifest
-pub mod Image
 pub mod Geometry
 pub mod Message
 pub mod Claims

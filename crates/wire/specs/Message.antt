@@ -13,7 +13,7 @@ use Rattle.wire.specs.declared.kind.Kind.{Kind}
 use Rattle.wire.specs.declared.kind.Kind.the-variants.{Program, Block, Update, PathUpdate, Unknown}
 use Rattle.wire.specs.declared.manifest.Manifest.{Manifest}
 use Rattle.wire.specs.Manifest.{manifestLength, read, written}
-use Rattle.wire.specs.Geometry.{blockLength, areaLength}
+use Rattle.wire.specs.Geometry.{blockLength}
 
 -- "The first byte of a message is its kind."
 unfoldable pub kind : List ℕ → Kind
@@ -100,15 +100,15 @@ pathIn k d m = part (leastLength Update + k) (hashLength * d) m
 unfoldable pub pathSignature : (k d : ℕ) → List ℕ → List ℕ
 pathSignature k d m = drop (leastLength Update + k + hashLength * d) m
 
--- Refusal 12. Kind 2: message i has exactly "3 + L + 32 × c(i) bytes"; with L = 256 and n = 8, message 1 has 355.
+-- Refusal 12. Kind 2: message i has exactly 3 bytes, its block's and 32 × c(i); with L = 256 and n = 8, message 1 has 355.
 unfoldable pub dueLength : (L T i : ℕ) → ℕ
 dueLength L T i = leastLength Block + blockLength L T i + hashLength * carriedCount (blockCount L T) i
 
--- All n block messages of an image together: each has its head, and among them they carry all blocks and n - 1 hashes.
+-- All n block messages of an image together: each has its head, and among them they carry the image and n - 1 hashes.
 unfoldable pub messagesLength : (L T : ℕ) → ℕ
-messagesLength L T = let n = blockCount L T in leastLength Block * n + areaLength L T + hashLength * (n - 1)
+messagesLength L T = let n = blockCount L T in leastLength Block * n + T + hashLength * (n - 1)
 
--- Kind 3: an update of block i has at least "51 + L" bytes.
+-- Kind 3: an update of block i has at least 51 bytes and its block's.
 unfoldable pub leastUpdate : (L T i : ℕ) → ℕ
 leastUpdate L T i = leastLength Update + blockLength L T i
 

@@ -1,5 +1,6 @@
 // What goes over the radio (01, 'Slip, messages, state'): the manifest and the messages, with the place and length of each part, which sizes are allowed, and the
 // refusals with their numbers. Only our own crates call this one, and meet its `requires`.
+mod blocks;
 mod kind;
 mod manifest;
 mod message;
@@ -7,6 +8,8 @@ mod refusal;
 mod sizes;
 mod writing;
 
+pub use blocks::block_length;
+pub use blocks::block_of;
 pub use kind::Kind;
 pub use kind::PATH_UPDATE;
 pub use kind::UPDATE;
@@ -34,9 +37,7 @@ pub use message::update_number;
 pub use message::update_signature;
 pub use refusal::Refusal;
 pub use refusal::refusal_number;
-pub use sizes::area_len;
 pub use sizes::block_count;
-pub use sizes::block_length;
 pub use sizes::outside;
 pub use sizes::too_short;
 pub use sizes::wrong_size;

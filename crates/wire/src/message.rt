@@ -1,11 +1,10 @@
 // Where the parts of a message stand, and how long it must be.
+use crate::blocks::block_length;
 use crate::kind::Kind;
 use crate::manifest::MANIFEST_LEN;
 use crate::manifest::Manifest;
 use crate::manifest::read;
-use crate::sizes::area_len;
 use crate::sizes::block_count;
-use crate::sizes::block_length;
 ghost use mathlib.Core.Path.{_≡_};
 ghost use mathlib.Core.Bool.{false};
 ghost use Prim.Native.Nat.{_+_, _*_, _≤_, _<_};
@@ -158,12 +157,12 @@ pub fn messages_len(block_len: usize, image_len: usize) -> usize
     ensures { λ r. ⌜ r ≡ messagesLength «block_len» «image_len» ⌝ }
 {
     let n = block_count(block_len, image_len);
-    BLOCK_LEAST * n + area_len(block_len, image_len) + merkle::HASH_LEN * (n - 1)
+    BLOCK_LEAST * n + image_len + merkle::HASH_LEN * (n - 1)
 }
 
 // Refusal 12, kind 3: the least bytes of an update of block `number`.
 pub fn least_update(block_len: usize, image_len: usize, number: usize) -> usize
-    requires { ⌜ wrongSize «block_len» «image_len» ≡ false ⌝ }
+    requires { ⌜ (wrongSize «block_len» «image_len» ≡ false) × (0 < number) × (number ≤ blockCount «block_len» «image_len») ⌝ }
     ensures { λ r. ⌜ r ≡ leastUpdate «block_len» «image_len» number ⌝ }
 {
     UPDATE_LEAST + block_length(block_len, image_len, number)

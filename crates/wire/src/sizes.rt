@@ -6,7 +6,6 @@ ghost use lib.Dec.{ltb};
 ghost use Rattle.merkle.specs.Blocks.{blockCount};
 ghost use Rattle.wire.specs.Size as spec;
 ghost use Rattle.wire.specs.Size.{allowedLength, wrongSize};
-ghost use Rattle.wire.specs.Geometry.{blockLength, areaLength};
 
 fn allowed(block_len: usize) -> bool
     ensures { λ r. ⌜ r ≡ allowedLength «block_len» ⌝ }
@@ -23,21 +22,6 @@ pub fn block_count(block_len: usize, image_len: usize) -> usize
     ensures { λ r. ⌜ r ≡ blockCount «block_len» «image_len» ⌝ }
 {
     (image_len - 1) / block_len + 1
-}
-
-// The bytes of block `number`, from 1: the sender fills the last one, so that it is as long as the others.
-pub fn block_length(block_len: usize, image_len: usize, number: usize) -> usize
-    ensures { λ r. ⌜ r ≡ blockLength «block_len» «image_len» number ⌝ }
-{
-    block_len
-}
-
-// The bytes of all blocks of an image, which is what its program needs in the flash.
-pub fn area_len(block_len: usize, image_len: usize) -> usize
-    requires { ⌜ wrongSize «block_len» «image_len» ≡ false ⌝ }
-    ensures { λ r. ⌜ r ≡ areaLength «block_len» «image_len» ⌝ }
-{
-    block_count(block_len, image_len) * block_len
 }
 
 // Refusal 5.

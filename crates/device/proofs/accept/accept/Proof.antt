@@ -9,7 +9,7 @@ use Rattle.lms.specs.Lms.{valid}
 use Rattle.wire.specs.declared.kind.Kind.{Kind}
 use Rattle.wire.proofs.kind.Kind.{the-type}
 use Rattle.wire.specs.declared.kind.Kind.the-variants.{Program, Block, Update, PathUpdate, Unknown}
-use Rattle.wire.specs.Geometry.{countOf, programLength}
+use Rattle.wire.specs.Geometry.{countOf}
 use Rattle.wire.specs.Message.{manifestIn, updateNumber, leastUpdate}
 use Rattle.machine.specs.Step.{accept}
 use Rattle.machine.proofs.RefusalLaws.{program-passed, update-passed, path-passed, path-block}
@@ -28,7 +28,7 @@ updating Unknown e = absurd (⊎-elim (λ (z : _≡_ {A = ℕ} 4 2). omega arith
 
 -- An update of either kind has its block whole, and room for it.
 enough : (s : tie.Start) → (s .args .kind ≡ Update) ⊎ (s .args .kind ≡ PathUpdate)
-    → (let m = s .args .message .now in let s' = manifestIn m in (leastUpdate (s' .«block_len») (s' .«image_len») (updateNumber m) ≤ length m) × (programLength s' ≤ length (s .args .flash .now)) × (0 < updateNumber m) × (updateNumber m ≤ countOf s'))
+    → (let m = s .args .message .now in let s' = manifestIn m in (leastUpdate (s' .«block_len») (s' .«image_len») (updateNumber m) ≤ length m) × (s' .«image_len» ≤ length (s .args .flash .now)) × (0 < updateNumber m) × (updateNumber m ≤ countOf s'))
 enough s (inl k) = let p = update-passed digest valid _ _ _ (sym (s .pre .0) ∙ k) (s .pre .1) .successor in (p .long, p .room, p .turn .0, p .turn .1)
 enough s (inr k) = let p = path-passed digest valid _ _ _ (sym (s .pre .0) ∙ k) (s .pre .1) in (path-block digest valid _ _ _ p, p .successor .room, p .successor .turn .0, p .successor .turn .1)
 

@@ -17,6 +17,10 @@ long : (c : tie.After-block-len) → leastLength Update + c .block-len .result �
 unfolding leastUpdate
 long c = rw (c .block-len .ensures, c .before .update-number .ensures, c .before .before .manifest-in .ensures) (c .before .before .before .before .before .pre .0)
 
+-- and its number is among the program's
+turn : (c : tie.After-update-number) → (0 < c .update-number .result) × (c .update-number .result ≤ countOf (c .before .manifest-in .result))
+turn c = let p = c .before .before .before .before .pre in rw (c .update-number .ensures, c .before .manifest-in .ensures) (p .2, p .3)
+
 manifest-in-requires : tie.Need-manifest-in-requires
 unfolding leastUpdate
 manifest-in-requires c κs = let l = c .before .before .pre .0 in omega arith
@@ -26,7 +30,7 @@ unfolding leastUpdate
 update-number-requires c κs = let l = c .before .before .before .pre .0 in omega arith
 
 block-len-requires : tie.Need-block-len-requires
-block-len-requires c κs = search needs
+block-len-requires c κs = turn c
 
 cast-write-block : tie.Need-cast-write-block
 cast-write-block c = search needs
@@ -41,9 +45,9 @@ write-block-requires c κs =
     let s = k .before .before .manifest-in .result in
     let g = k .before .before .before .before .before .args in
     let p = k .before .before .before .before .before .pre in
-    let turn : (0 < i) × (i ≤ countOf s) = rw (k .before .update-number .ensures, k .before .before .manifest-in .ensures) (p .2, p .3) in
+    let t = turn (k .before) in
     let l = ap length (c .update-block .ensures) ∙ length-update-block _ (g .message .now) (long k) ∙ k .block-len .ensures in
-    (turn .0, omega (arith, l, room s (g .flash .now) i (rw (k .before .before .manifest-in .ensures) (p .1)) (turn .0) (turn .1)))
+    (t .0, omega (arith, l, room s (g .flash .now) i (rw (k .before .before .manifest-in .ensures) (p .1)) (t .0) (t .1)))
 
 same-length : tie.Need-same-length
 same-length c = search needs

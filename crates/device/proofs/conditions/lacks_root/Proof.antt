@@ -5,6 +5,13 @@ use borrow.Author.Needs.{needs}
 use Rattle.device.proofs.conditions.lacks_root.Statement.{statement}
 use Rattle.device.proofs.conditions.lacks_root.Tie as tie
 
+cast-end : tie.Need-cast-end
+cast-end c = search needs
+
+slice-aggregate-root-with : tie.Need-slice-aggregate-root-with
+unfolding tooSmall
+slice-aggregate-root-with c = let s = c .before .before .before .before in sym (length-take-le (s .args .manifest .«image_len») (s .args .flash .now) (ltb-false _ _ (s .pre .1)))
+
 cast-root-with : tie.Need-cast-root-with
 cast-root-with c = search needs
 
@@ -12,11 +19,11 @@ count-requires : tie.Need-count-requires
 count-requires c κs = search needs
 
 sub-root-with : tie.Need-sub-root-with
-sub-root-with c = inside _ _ (c .before .before .before .before .before .pre .2) .0
+sub-root-with c = inside _ _ (c .before .before .before .before .before .before .before .pre .2) .0
 
 root-with-requires : tie.Need-root-with-requires
 root-with-requires c κs =
-    let s = c .before .before .before .before .before in
+    let s = c .before .before .before .before .before .before .before in
     rest-fits _ _ _ (s .pre .0) (s .pre .1) (c .count .ensures)
 
 slice-aggregate-equal : tie.Need-slice-aggregate-equal
@@ -32,7 +39,7 @@ returns : tie.Need-returns
 returns c =
     let e = c .before .before .before in
     let n = e .before in
-    let s = n .before .before .before .before .before in
+    let s = n .before .before .before .before .before .before in
     let z = inside _ _ (s .pre .2) in
     lacks-is (s .args .manifest) (s .args .flash .now) digest (s .args .block .now) (s .args .number) (n .count .result) (e .root-with .result) _ (s .pre .1) (z .0) (z .1)
     (n .count .ensures) (s .pre .3) (e .root-with .ensures) (c .equal .ensures)
@@ -41,6 +48,8 @@ pub lacks-root-spec : {M : Type 1} → statement M
 lacks-root-spec =
     tie.close
     (tie.spec
+    cast-end
+    slice-aggregate-root-with
     cast-root-with
     count-requires
     sub-root-with

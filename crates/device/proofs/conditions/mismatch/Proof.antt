@@ -20,7 +20,7 @@ is-due : (c : tie.Start) → Due (c .args .device .manifest .«block_len») (c .
 is-due c = due _ _ _ _ (measured _ _ _ (c .pre .2))
 
 block-len-requires : tie.Need-block-len-requires
-block-len-requires c κs = search needs
+block-len-requires c κs = let w = awaited (c .before .before .before) in (w .low, w .high)
 
 slice-aggregate-fits : tie.Need-slice-aggregate-fits
 slice-aggregate-fits c = search needs

@@ -52,7 +52,7 @@ next-of-requires : tie.Need-next-of-requires
 next-of-requires c κs = search needs
 
 too-small-requires : tie.Need-too-small-requires
-too-small-requires c κs = awaited (c .before) .size
+too-small-requires c κs = search needs
 
 returns-2 : tie.Need-returns-2
 unfolding ofBlock behind

@@ -142,7 +142,7 @@ unfolding ofPathUpdate ofSuccessor ofManifest behind
 returns-2 c = refused (turn (c .before .before)) (sym (c .before .cut-path .ensures) ∙ c .if1 .taken)
 
 block-len-requires : tie.Need-block-len-requires
-block-len-requires c κs = search needs
+block-len-requires c κs = inside _ _ (known (c .before .before) .2)
 
 leaf-depth-requires : tie.Need-leaf-depth-requires
 leaf-depth-requires c κs = let p = known (c .before .before .before) in (p .0, p .2)

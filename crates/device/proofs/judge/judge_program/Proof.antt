@@ -59,7 +59,7 @@ returns c =
     e ∙ refused-in (ofManifest (j .before .before .before .before .args .device) (j .before .manifest-in .result)) _ (read-is (j .before)) (sym e ∙ j .judge-manifest .ensures)
 
 too-small-requires : tie.Need-too-small-requires
-too-small-requires c κs = let j = c .before .before in size-passed _ _ (j .judge-manifest .ensures) (c .enum-told .given .1)
+too-small-requires c κs = search needs
 
 returns-2 : tie.Need-returns-2
 unfolding ofProgram ofManifest behind

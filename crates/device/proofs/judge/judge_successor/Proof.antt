@@ -69,7 +69,7 @@ unfolding ofSuccessor ofManifest behind
 returns-3 c = refused (serial (c .before .before .before)) (sym (c .before .unlike .ensures) ∙ c .if2 .taken)
 
 too-small-requires : tie.Need-too-small-requires
-too-small-requires c κs = let t = c .before .before .before in size-passed _ _ (t .before .before .judge-manifest .ensures) (t .enum-told .given .1)
+too-small-requires c κs = search needs
 
 returns-4 : tie.Need-returns-4
 unfolding ofSuccessor ofManifest behind

@@ -106,14 +106,14 @@ returns c =
     e ∙ refused-in (ofSuccessor (start-of j .args .device) (start-of j .args .flash .now) (manifest j) (number j)) _ (told j) (sym e ∙ j .judge-successor .ensures)
 
 cut-update-requires : tie.Need-cut-update-requires
-cut-update-requires c κs = successor-known _ _ _ _ (c .before .before .judge-successor .ensures) (c .enum-told .given .1) .0
+cut-update-requires c κs = let p = known c in (p .0, p .2)
 
 returns-2 : tie.Need-returns-2
 unfolding ofUpdate ofSuccessor ofManifest behind
 returns-2 c = refused (turn (c .before .before)) (sym (c .before .cut-update .ensures) ∙ c .if1 .taken)
 
 block-len-requires : tie.Need-block-len-requires
-block-len-requires c κs = search needs
+block-len-requires c κs = inside _ _ (known (c .before .before) .2)
 
 manifest-bytes-requires : tie.Need-manifest-bytes-requires
 manifest-bytes-requires c κs = search needs
@@ -135,7 +135,7 @@ lacks-root-requires : tie.Need-lacks-root-requires
 lacks-root-requires c κs =
     let k = c .before .before .before .before .before in
     let t = k .before .before .before in
-    let p = successor-known _ _ _ _ (t .before .before .judge-successor .ensures) (t .enum-told .given .1) in
+    let p = known t in
     (p .0, p .1, p .2, ap length (c .update-block .ensures) ∙ length-update-block _ (message (t .before .before)) (enough k) ∙ k .block-len .ensures)
 
 returns-4 : tie.Need-returns-4

@@ -3,7 +3,7 @@ use Prim.Native.Nat.{_+_, _-_, _<_}
 use native.Mathlib.Omega.{arith}
 use Rattle.sha256.specs.Sha256.{digest}
 use Rattle.sha256.proofs.DigestLaws.{length-digest}
-use Rattle.merkle.specs.Blocks.{cut, overlay}
+use Rattle.merkle.specs.Blocks.{cut}
 use Rattle.merkle.specs.Hash.{plain}
 use Rattle.merkle.proofs.ShapeLaws.{split-between}
 use Rattle.merkle.proofs.TreeLaws.{left-fits}
@@ -17,10 +17,10 @@ use Rattle.merkle.proofs.path.leaf_depth.Reads as leaf-depth-reads
 use Rattle.merkle.proofs.tree.put_subtree.Reads as put-subtree-reads
 
 abbrev Inv-loop : tie.InvT-loop
-Inv-loop out₀ flash len n before at block first₀ m₀ i₀ depth₀ out first m i depth = Inside (plain digest) (overlay (cut len flash) at block) n before out₀ out first m i depth
+Inv-loop out₀ bytes len n before first₀ m₀ i₀ depth₀ out first m i depth = Inside (plain digest) (cut len bytes) n before out₀ out first m i depth
 
 abbrev μ-loop : tie.MeasureT-loop
-μ-loop out₀ flash len n before at block first₀ m₀ i₀ depth₀ out first m i depth = m
+μ-loop out₀ bytes len n before first₀ m₀ i₀ depth₀ out first m i depth = m
 
 abbrev claims : lts.Claims
 claims = (leaf-depth-reads.Asked, leaf-depth-reads.Learnt, split-reads.Asked, split-reads.Learnt, put-subtree-reads.Asked, put-subtree-reads.Learnt)
@@ -29,11 +29,11 @@ known : (c : lts.After-split claims reads.Pre reads.Post Inv-loop μ-loop) → (
 known c = split-between (c .before .before .loop .m) (c .split .result) (omega arith) (c .split .ensures)
 
 leaf-depth-requires : tie.Need-leaf-depth-requires Inv-loop μ-loop
-leaf-depth-requires c κs = c .before .before .before .pre .0
+leaf-depth-requires c κs = c .before .before .pre .0
 
 loop-holds : tie.Need-loop-holds Inv-loop μ-loop
 loop-holds c =
-    let s = c .before .before .before .before in
+    let s = c .before .before .before in
     inside-all (plain digest) _ (s .args .n) (s .args .before) (s .args .out .now) (s .pre .0) (c .leaf-depth .result) (c .leaf-depth .ensures) (s .pre .3)
 
 split-requires : tie.Need-split-requires Inv-loop μ-loop
@@ -45,7 +45,7 @@ sub-depth c =
     some-left (l .inv) (c .split .ensures) (omega arith)
 
 add-put-subtree : tie.Need-add-put-subtree Inv-loop μ-loop
-add-put-subtree c = let l = c .before .before .before .before .loop in omega (arith, known (c .before .before), l .inv .high, c .before .before .before .before .before .before .before .before .before .pre .1)
+add-put-subtree c = let l = c .before .before .before .before .loop in omega (arith, known (c .before .before), l .inv .high, c .before .before .before .before .before .before .before .before .pre .1)
 
 sub-put-subtree : tie.Need-sub-put-subtree Inv-loop μ-loop
 sub-put-subtree c = omega (arith, known (c .before .before))
@@ -54,7 +54,7 @@ put-subtree-requires : tie.Need-put-subtree-requires Inv-loop μ-loop
 put-subtree-requires c κs =
     let x = c .before .before in
     let l = x .before .before .loop in
-    let s = x .before .before .before .before .before .before .before in
+    let s = x .before .before .before .before .before .before in
     let k = known x in (
       omega arith,
       omega (arith, l .inv .high, s .pre .1),
@@ -76,7 +76,7 @@ put-subtree-requires-2 : tie.Need-put-subtree-requires-2 Inv-loop μ-loop
 put-subtree-requires-2 c κs =
     let x = c .before .before in
     let l = x .before .before .loop in
-    let s = x .before .before .before .before .before .before .before in
+    let s = x .before .before .before .before .before .before in
     let k = known x in (
       k .0,
       omega (arith, l .inv .high, s .pre .1),
@@ -85,7 +85,7 @@ put-subtree-requires-2 c κs =
     )
 
 add-first : tie.Need-add-first Inv-loop μ-loop
-add-first c = let x = c .before .before .before .before .before in let l = x .before .before .loop in omega (arith, known x, l .inv .high, x .before .before .before .before .before .before .before .pre .1)
+add-first c = let x = c .before .before .before .before .before in let l = x .before .before .loop in omega (arith, known x, l .inv .high, x .before .before .before .before .before .before .pre .1)
 
 sub-m : tie.Need-sub-m Inv-loop μ-loop
 sub-m c = omega (arith, known (c .before .before .before .before .before))

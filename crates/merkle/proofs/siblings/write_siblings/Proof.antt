@@ -4,7 +4,7 @@ use native.Mathlib.Omega.{arith}
 use borrow.Author.Needs.{needs}
 use Rattle.sha256.specs.Sha256.{digest}
 use Rattle.sha256.proofs.DigestLaws.{length-digest}
-use Rattle.merkle.specs.Blocks.{cut, overlay}
+use Rattle.merkle.specs.Blocks.{cut}
 use Rattle.merkle.specs.Hash.{plain}
 use Rattle.merkle.proofs.ShapeLaws.{split-between}
 use Rattle.merkle.proofs.TreeLaws.{left-fits}
@@ -19,10 +19,10 @@ use Rattle.merkle.proofs.siblings.subtree.Reads as subtree-reads
 use Rattle.merkle.proofs.tree.put_subtree.Reads as put-subtree-reads
 
 abbrev Inv-loop : tie.InvT-loop
-Inv-loop out₀ flash len n before at block m₀ c₀ out m c = Writing (plain digest) (overlay (cut len flash) at block) n before out₀ out m c
+Inv-loop out₀ bytes len n before m₀ c₀ out m c = Writing (plain digest) (cut len bytes) n before out₀ out m c
 
 abbrev μ-loop : tie.MeasureT-loop
-μ-loop out₀ flash len n before at block m₀ c₀ out m c = m
+μ-loop out₀ bytes len n before m₀ c₀ out m c = m
 
 abbrev claims : lts.Claims
 claims = (
@@ -48,7 +48,7 @@ count-requires c κs = search needs
 loop-holds : tie.Need-loop-holds Inv-loop μ-loop
 loop-holds c =
     let found = c .before .subtree .ensures in
-    let s = c .before .before .before .before .before in
+    let s = c .before .before .before .before in
     writing-none (plain digest) _ (s .args .n) (s .args .before) (s .args .out .now) (c .before .subtree .result) (c .count .result .carried) (found .1) (found .2)
     (c .count .ensures .1) (omega (arith, c .count .ensures .1))
 
@@ -68,7 +68,7 @@ put-subtree-requires : tie.Need-put-subtree-requires Inv-loop μ-loop
 put-subtree-requires c κs =
     let x = c .before in
     let l = x .before .before .loop in
-    let s = x .before .before .before .before .before .before .before .before in
+    let s = x .before .before .before .before .before .before .before in
     let k = known x in (
       omega arith,
       omega (arith, l .inv .high, s .pre .1),

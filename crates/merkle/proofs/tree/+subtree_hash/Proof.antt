@@ -49,21 +49,21 @@ module _ (t : ℕ) where
   digest-requires c κs = search needs
 
   returns : lts.Need-returns (claims t) (here t) subtree-hash.Post
-  returns c flash is =
+  returns c bytes is =
       let a = c .before .before .before .before .before .args in
-      let f = overlay (cut (a .len) flash) (a .at) (a .block .now) in
+      let f = overlay (cut (a .len) bytes) (a .at) (a .block .now) in
       hash-one (plain digest) f (a .first) (a .n) _ (c .before .before .if1 .taken)
-      (c .digest .ensures ∙ ap digest (sym (first-replaced (cut (a .len) flash) (a .at) (a .block .now) (a .first) (c .before .if2 .taken))))
+      (c .digest .ensures ∙ ap digest (sym (first-replaced (cut (a .len) bytes) (a .at) (a .block .now) (a .first) (c .before .if2 .taken))))
 
   leaf-requires : lts.Need-leaf-requires (claims t) (here t) subtree-hash.Post
   leaf-requires c κs = tt
 
   returns-2 : lts.Need-returns-2 (claims t) (here t) subtree-hash.Post
-  returns-2 c flash is =
+  returns-2 c bytes is =
       let a = c .before .before .before .before .before .args in
-      let f = overlay (cut (a .len) flash) (a .at) (a .block .now) in
+      let f = overlay (cut (a .len) bytes) (a .at) (a .block .now) in
       hash-one (plain digest) f (a .first) (a .n) _ (c .before .before .if1 .taken)
-      (c .leaf .ensures ∙ ap digest (sym (first-kept (a .len) flash (a .part .now) (a .first) is (a .at) (a .block .now) (c .before .if2 .left))))
+      (c .leaf .ensures ∙ ap digest (sym (first-kept (a .len) bytes (a .part .now) (a .first) is (a .at) (a .block .now) (c .before .if2 .left))))
 
   split-requires : lts.Need-split-requires (claims t) (here t) subtree-hash.Post
   split-requires c κs = omega arith
@@ -109,16 +109,16 @@ module _ (t : ℕ) where
   node-requires c κs = search needs
 
   returns-3 : lts.Need-returns-3 (claims t) (here t) subtree-hash.Post
-  returns-3 c flash is =
+  returns-3 c bytes is =
       let right = c .before .before .before in
       let left = right .before .before in
       let split = left .before in
       let a = split .before .before .before .before .args in
       let i = split .split .result in
-      let f = overlay (cut (a .len) flash) (a .at) (a .block .now) in
+      let f = overlay (cut (a .len) bytes) (a .at) (a .block .now) in
       hash-two (plain digest) f (a .first) (a .n) _ i (left .subtree-hash .result) (right .subtree-hash2 .result) (omega arith) (split .split .ensures)
-      (left .subtree-hash .ensures flash is)
-      (right .subtree-hash2 .ensures flash (part-later (a .len) flash (a .part .now) (a .first) is i ∙ sym (part-from (a .part .now) (i * a .len)))) (c .node .ensures)
+      (left .subtree-hash .ensures bytes is)
+      (right .subtree-hash2 .ensures bytes (part-later (a .len) bytes (a .part .now) (a .first) is i ∙ sym (part-from (a .part .now) (i * a .len)))) (c .node .ensures)
 
 pub +subtree-hash-spec : {M : Type 1} → statement M
 +subtree-hash-spec =

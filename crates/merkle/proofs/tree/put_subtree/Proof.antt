@@ -6,14 +6,17 @@ use lib.ListN.{length}
 use lib.Seq.{paste}
 use borrow.Author.Needs.{needs}
 use Rattle.octets.proofs.CopyLaws.{part-from}
+use Rattle.sha256.specs.Sha256.{digest}
 use Rattle.merkle.specs.Limits.{hashLength}
-use Rattle.merkle.proofs.TreeLaws.{left-fits, right-fits}
+use Rattle.merkle.specs.Blocks.{cut}
+use Rattle.merkle.specs.Hash.{plain}
+use Rattle.merkle.proofs.TreeLaws.{hash-beyond, left-fits, right-fits}
 use Rattle.merkle.proofs.tree.put_subtree.Statement.{statement}
 use Rattle.merkle.proofs.tree.put_subtree.Tie as tie
 
--- the subtree starts within the flash
+-- the subtree starts within the bytes
 sub-subtree-hash : tie.Need-sub-subtree-hash
-sub-subtree-hash c = let s = c .before .before .before in let a = s .args in left-fits (a .len) (length (a .flash .now)) (a .first + a .n) (a .first) (omega (arith, s .pre .0)) (s .pre .2)
+sub-subtree-hash c = let s = c .before .before in let a = s .args in left-fits (a .len) (length (a .bytes .now)) (a .first + a .n) (a .first) (omega (arith, s .pre .0)) (s .pre .2)
 
 mul-from : tie.Need-mul-from
 mul-from c = omega (arith, sub-subtree-hash c)
@@ -24,11 +27,17 @@ part-subtree-hash-start c = search (needs, sub-subtree-hash c)
 part-subtree-hash-end : tie.Need-part-subtree-hash-end
 part-subtree-hash-end c = search needs
 
+add-subtree-hash : tie.Need-add-subtree-hash
+add-subtree-hash c = search needs
+
+slice-aggregate-subtree-hash : tie.Need-slice-aggregate-subtree-hash
+slice-aggregate-subtree-hash c = search needs
+
 subtree-hash-requires : tie.Need-subtree-hash-requires
 subtree-hash-requires c κs =
     let s = c .before .before .before .before in
     let a = s .args in
-    (s .pre .0, s .pre .1, rw (part-from (a .flash .now) (a .first * a .len)) (right-fits (a .len) (a .first + a .n) (a .first) (a .n) (a .flash .now) (s .pre .0) (omega arith) (s .pre .2)))
+    (s .pre .0, s .pre .1, rw (part-from (a .bytes .now) (a .first * a .len)) (right-fits (a .len) (a .first + a .n) (a .first) (a .n) (a .bytes .now) (s .pre .0) (omega arith) (s .pre .2)))
 
 mul-copy : tie.Need-mul-copy
 mul-copy c = search needs
@@ -47,7 +56,9 @@ returns c =
     let h = c .before .before .before .before .before .subtree-hash in
     let s = c .before .before .before .before .before .before .before .before .before .before in
     let l : length (h .result) ≡ hashLength = search needs in
-    c .before .before .copy .ensures ∙ ap₂ (paste (s .args .out .now) (hashLength * s .args .index)) (h .ensures (s .args .flash .now) (sym (part-from (s .args .flash .now) (s .args .first * s .args .len)))) l
+    let a = s .args in
+    let is = h .ensures (a .bytes .now) (sym (part-from (a .bytes .now) (a .first * a .len))) ∙ hash-beyond (plain digest) (cut (a .len) (a .bytes .now)) (a .first + a .n) _ (a .first) (a .n) (s .pre .0) (omega arith) in
+    c .before .before .copy .ensures ∙ ap₂ (paste (a .out .now) (hashLength * a .index)) is l
 
 pub put-subtree-spec : {M : Type 1} → statement M
 put-subtree-spec =
@@ -57,6 +68,8 @@ put-subtree-spec =
     sub-subtree-hash
     part-subtree-hash-start
     part-subtree-hash-end
+    add-subtree-hash
+    slice-aggregate-subtree-hash
     subtree-hash-requires
     mul-copy
     slice-aggregate-copy

@@ -10,7 +10,7 @@ subtree-hash-requires : tie.Need-subtree-hash-requires
 subtree-hash-requires c κs = search needs
 
 returns : tie.Need-returns
-returns c = let a = c .before .before .before .args in c .subtree-hash .ensures (a .flash .now) (ap (λ x. drop x (a .flash .now)) (zero-mul (a .len)))
+returns c = let a = c .before .before .before .args in c .subtree-hash .ensures (a .bytes .now) (ap (λ x. drop x (a .bytes .now)) (zero-mul (a .len)))
 
 pub root-with-spec : {M : Type 1} → statement M
 root-with-spec = tie.close (tie.spec subtree-hash-requires returns)

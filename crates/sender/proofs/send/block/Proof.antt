@@ -1,4 +1,4 @@
-use mathlib.Core.Path.{_≡_, sym, ap, _∙_}
+use mathlib.Core.Path.{_≡_, refl, sym, ap, _∙_}
 use mathlib.Core.List.{[]}
 use Prim.Native.Nat.{ℕ, _+_, _-_, _*_, _≤_}
 use native.Mathlib.Omega.{arith}
@@ -7,7 +7,7 @@ use lib.ListN.{length, take, length-take, length-drop}
 use Rattle.sha256.specs.Sha256.{digest}
 use Rattle.sha256.proofs.DigestLaws.{length-digest}
 use Rattle.merkle.specs.Limits.{hashLength}
-use Rattle.merkle.specs.Blocks.{cut, overlay}
+use Rattle.merkle.specs.Blocks.{cut}
 use Rattle.merkle.specs.Hash.{plain}
 use Rattle.merkle.specs.Frontier.{carriedCount}
 use Rattle.merkle.specs.Held.{sent}
@@ -18,7 +18,7 @@ use Rattle.wire.proofs.MessageLaws.{block-size, block-whole}
 use Rattle.wire.proofs.PutLaws.{Put, put-start, length-put, put-part-more}
 use Rattle.sender.specs.Job.{inBlocks, count, blocks}
 use Rattle.sender.specs.Send.{sendBlock}
-use Rattle.sender.proofs.BlockLaws.{same-sent, Tested, tested, one, due, parts}
+use Rattle.sender.proofs.BlockLaws.{Tested, tested, own, one, due, parts}
 use Rattle.sender.proofs.JobLaws.{block-is}
 use Rattle.sender.proofs.SendLaws.{refused-at, area-refused-at, all-written-at}
 use borrow.Author.Needs.{needs}
@@ -30,19 +30,19 @@ passed : (s : tie.After-known-told2) → (let a = s .before .before .before .bef
 passed s = tested _ _ _ _ (sym (s .before .n .given .1) ∙ s .before .before .before .count-for .ensures)
 
 -- the due length: block and hashes
-long : (c : tie.After-block-of) → c .before .before .before .before .due-len .result ≡ leastLength Block + length (c .block-of .result .now) + hashLength * carriedCount (c .before .before .before .before .before .before .n .given .0 .0) (c .before .before .before .before .before .before .before .before .before .before .before .args .number - 1 + 1)
-long c = let t = passed (c .before .before .before .before .before) in omega (arith, c .before .before .before .before .due-len .ensures, parts _ _ _ _ t, one _ _ _ _ t (c .block-of .result .now) (c .block-of .ensures))
+long : (c : tie.After-block-of) → c .before .before .due-len .result ≡ leastLength Block + length (c .block-of .result .now) + hashLength * carriedCount (c .before .before .before .before .n .given .0 .0) (c .before .before .before .before .before .before .before .before .before .args .number - 1 + 1)
+long c = let t = passed (c .before .before .before) in omega (arith, c .before .before .due-len .ensures, parts _ _ _ _ t, one _ _ _ _ t (c .block-of .ensures))
 
 -- what `put_block` leaves, if it put number i there
-head : (i : ℕ) (c : tie.After-put-block) → (let a = c .before .before .before .before .before .before .before .before .before .before .before .before .before .args in let b = c .before .before .block-of .result .now in
+head : (i : ℕ) (c : tie.After-put-block) → (let a = c .before .before .before .before .before .before .before .before .before .before .before .args in let b = c .before .before .block-of .result .now in
     let r = c .put-block .last .1 .1 .0 in r ≡ atStart (blockMessage i b []) (a .out .now) → Put (a .out .now) r (blockMessage i b []) (c .put-block .result))
 head i c e = put-start (c .put-block .result) (block-size _ (c .before .before .block-of .result .now) [] ∙ omega (arith, c .put-block .ensures .0)) e
 
 -- and behind it the hashes have room
-placed : (c : tie.After-put-block) → c .put-block .result + hashLength * carriedCount (c .before .before .before .before .before .before .before .before .n .given .0 .0) (c .before .before .before .before .before .before .before .before .before .before .before .before .before .args .number - 1 + 1) ≤ length (c .put-block .last .1 .1 .0)
+placed : (c : tie.After-put-block) → c .put-block .result + hashLength * carriedCount (c .before .before .before .before .before .before .n .given .0 .0) (c .before .before .before .before .before .before .before .before .before .before .before .args .number - 1 + 1) ≤ length (c .put-block .last .1 .1 .0)
 placed c =
     let e = long (c .before .before) in
-    let l = c .before .before .before .before .before .if1 .left in
+    let l = c .before .before .before .if1 .left in
     omega (arith, c .put-block .ensures .0, length-put (head _ c (c .put-block .ensures .1)) (omega (arith, c .put-block .ensures .0)))
 
 count-for-requires : tie.Need-count-for-requires
@@ -61,26 +61,14 @@ returns : tie.Need-returns
 unfolding sendBlock
 returns c = let t = passed (c .before .before) in area-refused-at _ _ _ _ _ t (omega (arith, due _ _ _ _ t, c .before .due-len .ensures))
 
-last-block-requires : tie.Need-last-block-requires
-last-block-requires c κs = let t = passed (c .before .before) in (t .size, t .count)
-
-array-share-prefix-filled : tie.Need-array-share-prefix-filled
-array-share-prefix-filled c = omega (arith, passed (c .before .before .before) .sized .most, c .last-block .ensures .0)
-
-slice-aggregate-last : tie.Need-slice-aggregate-last
-slice-aggregate-last c = simp length-take (omega (arith, passed (c .before .before .before .before) .sized .most, c .before .last-block .ensures .0))
-
-sub-block-of : tie.Need-sub-block-of
-sub-block-of c = omega (arith, passed (c .before .before .before .before) .low)
-
 block-of-requires : tie.Need-block-of-requires
-block-of-requires c κs = let t = passed (c .before .before .before .before) in (t .size, t .count, omega (arith, t .low, t .high), c .before .last-block .ensures .1)
+block-of-requires c κs = let t = passed (c .before .before) in (t .low, omega (arith, t .high, t .count), omega arith)
 
 cast-put-block : tie.Need-cast-put-block
-cast-put-block c = let t = passed (c .before .before .before .before .before) in omega (arith, t .high, t .few)
+cast-put-block c = let t = passed (c .before .before .before) in omega (arith, t .high, t .few)
 
 put-block-requires : tie.Need-put-block-requires
-put-block-requires c κs = omega (arith, long (c .before), c .before .before .before .before .if1 .left)
+put-block-requires c κs = omega (arith, long (c .before), c .before .before .if1 .left)
 
 sub-write-siblings : tie.Need-sub-write-siblings
 sub-write-siblings c = omega (arith, placed (c .before .before))
@@ -92,13 +80,10 @@ part-write-siblings-end : tie.Need-part-write-siblings-end
 part-write-siblings-end c = search needs
 
 sub-write-siblings-2 : tie.Need-sub-write-siblings-2
-sub-write-siblings-2 c = omega (arith, passed (c .before .before .before .before .before .before .before .before .before .before) .low)
-
-sub-write-siblings-3 : tie.Need-sub-write-siblings-3
-sub-write-siblings-3 c = let t = passed (c .before .before .before .before .before .before .before .before .before .before) in omega (arith, t .low, t .high)
+sub-write-siblings-2 c = omega (arith, passed (c .before .before .before .before .before .before .before .before) .low)
 
 write-siblings-requires : tie.Need-write-siblings-requires
-write-siblings-requires c κs = let t = passed (c .before .before .before .before .before .before .before .before .before .before) in (omega (arith, t .low, t .high), t .few, t .held, simp (length-take, length-drop) (omega (arith, placed (c .before .before .before))))
+write-siblings-requires c κs = let t = passed (c .before .before .before .before .before .before .before .before) in (omega (arith, t .low, t .high), t .few, t .held, simp (length-take, length-drop) (omega (arith, placed (c .before .before .before))))
 
 returns-2 : tie.Need-returns-2
 unfolding sendBlock
@@ -111,20 +96,19 @@ returns-3 : tie.Need-returns-3
 unfolding sendBlock blocks count
 returns-3 c =
     let p = c .before .before .before .before .before .before in
-    let a = p .before .before .before .before .before .before .before .before .before .before .before .before .before .args in
-    let t = passed (p .before .before .before .before .before .before .before) in
-    let n = p .before .before .before .before .before .before .before .before .n .given .0 .0 in
-    let k = p .before .before .before .before .before .before .due-len in
+    let a = p .before .before .before .before .before .before .before .before .before .before .before .args in
+    let t = passed (p .before .before .before .before .before) in
+    let n = p .before .before .before .before .before .before .n .given .0 .0 in
+    let k = p .before .before .before .before .due-len in
     let b = p .before .before .block-of in
-    let last = p .before .before .before .before .last-block in
-    let blocks = overlay (cut (a .len) (a .image .now)) (n - 1) (take (a .len) (last .result)) in
+    let blocks = cut (a .len) (a .image .now) in
     let hs = sent (plain digest) n blocks (a .number - 1) in
     let h : hashLength * carriedCount n (a .number - 1 + 1) ≡ length hs =
     ap (λ (y : ℕ). hashLength * carriedCount n y) (add-one (a .number - 1)) ∙ sym (length-sent (plain digest) length-digest n blocks (a .number - 1)) in
-    let same = same-sent (a .len) (a .image .now) n (t .sized) (t .count) digest (take (a .len) (last .result)) (last .ensures .1) (a .number - 1) in
+    let room = p .before .before .before .if1 .left in
     all-written-at (inBlocks (a .image .now) (a .len)) _ (a .out .now) (a .number) n t
-    (put-part-more (head _ p (p .put-block .ensures .1)) hs _ (k .result) (omega (arith, h, long (p .before .before), p .put-block .ensures .0)) (p .before .before .before .before .before .if1 .left) (rw h at (c .before .before .write-siblings .ensures)))
-    (block-whole (a .number) (b .result .now) hs ∙ block-is (inBlocks (a .image .now) (a .len)) n (a .number) (b .result .now) hs (t .count) (b .ensures) same) (p .before .before .before .before .before .if1 .left)
+    (put-part-more (head _ p (p .put-block .ensures .1)) hs _ (k .result) (omega (arith, h, long (p .before .before), p .put-block .ensures .0)) room (rw h at (c .before .before .write-siblings .ensures)))
+    (block-whole (a .number) (b .result .now) hs ∙ block-is (inBlocks (a .image .now) (a .len)) n (a .number) (b .result .now) hs (t .count) (own _ _ _ _ t (b .ensures)) refl) room
 
 pub block-spec : {M : Type 1} → statement M
 block-spec =
@@ -135,10 +119,6 @@ block-spec =
     enum-known-n
     due-len-requires
     returns
-    last-block-requires
-    array-share-prefix-filled
-    slice-aggregate-last
-    sub-block-of
     block-of-requires
     cast-put-block
     put-block-requires
@@ -146,7 +126,6 @@ block-spec =
     part-write-siblings-start
     part-write-siblings-end
     sub-write-siblings-2
-    sub-write-siblings-3
     write-siblings-requires
     returns-2
     same-length

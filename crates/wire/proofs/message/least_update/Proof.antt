@@ -11,7 +11,7 @@ block-length-requires c κs = search needs
 add-result : tie.Need-add-result
 add-result c =
     let a = c .before .args in
-    omega (arith, block-length-few (a .block-len) (a .image-len) (a .number) (c .before .pre), c .block-length .ensures)
+    omega (arith, block-length-few (a .block-len) (a .image-len) (a .number) (c .before .pre .0), c .block-length .ensures)
 
 returns : tie.Need-returns
 unfolding leastUpdate
