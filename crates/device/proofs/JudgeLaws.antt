@@ -58,8 +58,10 @@ unfolding ofManifest testOf
 size-passed d s e q = clear refusal.Size (ofManifest d s) (answer-none (firstThatApplies (ofManifest d s)) (sym e ∙ q))
 
 -- So has an update's that passed its first tests, and it has room and a number within.
-pub successor-known : (d : Device) (f : List ℕ) (s : Manifest) (i : ℕ) {a : Answer} → a ≡ answerOf (firstThatApplies (ofSuccessor d f s i)) → a ≡ Accepted
-    → (wrongSize (s .«block_len») (s .«image_len») ≡ false) × (tooSmall s f ≡ false) × (outside (countOf s) i ≡ false)
+abbrev pub Known : Manifest → List ℕ → ℕ → Type 0
+Known s f i = (wrongSize (s .«block_len») (s .«image_len») ≡ false) × (tooSmall s f ≡ false) × (outside (countOf s) i ≡ false)
+
+pub successor-known : (d : Device) (f : List ℕ) (s : Manifest) (i : ℕ) {a : Answer} → a ≡ answerOf (firstThatApplies (ofSuccessor d f s i)) → a ≡ Accepted → Known s f i
 unfolding ofSuccessor ofManifest testOf
 successor-known d f s i e q =
     let a = answer-none (firstThatApplies (ofSuccessor d f s i)) (sym e ∙ q) in

@@ -1,5 +1,9 @@
+use mathlib.Core.Path.{sym}
+use lib.Seq.{length-take-le}
+use borrow.Author.Tests.{ltb-false}
 use Rattle.sha256.specs.Sha256.{digest}
 use Rattle.wire.proofs.SizeLaws.{inside}
+use Rattle.machine.specs.Refusals.{tooSmall}
 use Rattle.device.proofs.ConditionLaws.{rest-fits, lacks-is}
 use borrow.Author.Needs.{needs}
 use Rattle.device.proofs.conditions.lacks_root.Statement.{statement}
@@ -10,7 +14,7 @@ cast-end c = search needs
 
 slice-aggregate-root-with : tie.Need-slice-aggregate-root-with
 unfolding tooSmall
-slice-aggregate-root-with c = let s = c .before .before .before .before in sym (length-take-le (s .args .manifest .«image_len») (s .args .flash .now) (ltb-false _ _ (s .pre .1)))
+slice-aggregate-root-with c = let s = c .before .before .before .before .before in sym (length-take-le (s .args .manifest .«image_len») (s .args .flash .now) (ltb-false _ _ (s .pre .1)))
 
 cast-root-with : tie.Need-cast-root-with
 cast-root-with c = search needs
@@ -39,7 +43,7 @@ returns : tie.Need-returns
 returns c =
     let e = c .before .before .before in
     let n = e .before in
-    let s = n .before .before .before .before .before .before in
+    let s = n .before .before .before .before .before .before .before in
     let z = inside _ _ (s .pre .2) in
     lacks-is (s .args .manifest) (s .args .flash .now) digest (s .args .block .now) (s .args .number) (n .count .result) (e .root-with .result) _ (s .pre .1) (z .0) (z .1)
     (n .count .ensures) (s .pre .3) (e .root-with .ensures) (c .equal .ensures)

@@ -4,12 +4,12 @@ use borrow.Author.Needs.{needs}
 use Rattle.device.proofs.conditions.too_small.Statement.{statement}
 use Rattle.device.proofs.conditions.too_small.Tie as tie
 
-cast-t3 : tie.Need-cast-t3
-cast-t3 c = search needs
+cast-result : tie.Need-cast-result
+cast-result c = search needs
 
 returns : tie.Need-returns
 unfolding tooSmall
 returns c = refl
 
 pub too-small-spec : {M : Type 1} → statement M
-too-small-spec = tie.close (tie.spec cast-t3 returns)
+too-small-spec = tie.close (tie.spec cast-result returns)

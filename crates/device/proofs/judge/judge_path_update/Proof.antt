@@ -16,10 +16,11 @@ use Rattle.wire.specs.declared.refusal.Refusal.the-variants as refusal
 use Rattle.wire.specs.Size.{wrongSize, outside}
 use Rattle.wire.specs.Geometry.{countOf, blockLength, blocksOf}
 use Rattle.wire.specs.Message.{leastLength, manifestBytes, manifestIn, updateNumber, updateBlock, pathIn, pathSignature, leastUpdate, leastPath}
+use Rattle.wire.proofs.SizeLaws.{inside}
 use Rattle.wire.proofs.MessageLaws.{length-path-in}
 use Rattle.machine.specs.Refusals.{tooSmall, strays, unsigned, ofManifest, ofSuccessor, ofPathUpdate}
 use Rattle.machine.proofs.RefusalLaws.{Passes, _past_}
-use Rattle.device.proofs.JudgeLaws.{behind, retold, refused, accepted, refused-in, past-all, successor-known}
+use Rattle.device.proofs.JudgeLaws.{behind, retold, refused, accepted, refused-in, past-all, Known, successor-known}
 use borrow.Author.Needs.{needs}
 use Rattle.device.proofs.judge.judge_path_update.Statement.{statement}
 use Rattle.device.proofs.judge.judge_path_update.Tie as tie
@@ -101,8 +102,7 @@ to c =
     c .strays2 .ensures ∙ ap₂ (λ b y. strays digest (manifest j) (number j) b y (manifest j .root)) (c .before .before .before .update-block .ensures ∙ ap (λ k. updateBlock k (message j)) (c .before .before .before .before .before .before .before .before .before .before .before .before .before .before .before .block-len .ensures)) (siblings-are (c .before .before .before .before .before .before .before .before .before))
 
 -- what the first tests have shown
-known : (c : tie.After-enum-told) → let j = c .before .before in
-    (wrongSize (manifest j .«block_len») (manifest j .«image_len») ≡ false) × (tooSmall (manifest j) (start-of j .args .flash .now) ≡ false) × (outside (countOf (manifest j)) (number j) ≡ false)
+known : (c : tie.After-enum-told) → let j = c .before .before in Known (manifest j) (start-of j .args .flash .now) (number j)
 known c = successor-known _ _ _ _ (c .before .before .judge-successor .ensures) (c .enum-told .given .1)
 
 strays-needs : (c : tie.After-path-in) → let j = c .before .before .before .before .before .before .before .before .before .before .before in

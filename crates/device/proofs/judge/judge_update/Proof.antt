@@ -12,11 +12,12 @@ use Rattle.wire.specs.declared.refusal.Refusal.{Refusal}
 use Rattle.wire.specs.declared.refusal.Refusal.the-variants as refusal
 use Rattle.wire.specs.Geometry.{blockLength, withBlock}
 use Rattle.wire.specs.Message.{leastLength, manifestBytes, manifestIn, updateNumber, updateBlock, updateSignature, leastUpdate}
+use Rattle.wire.proofs.SizeLaws.{inside}
 use Rattle.wire.proofs.MessageLaws.{length-update-block}
 use Rattle.machine.specs.Flash.{updated}
 use Rattle.machine.specs.Refusals.{lacksRoot, unsigned, ofManifest, ofSuccessor, ofUpdate}
 use Rattle.machine.proofs.RefusalLaws.{Passes, _past_}
-use Rattle.device.proofs.JudgeLaws.{behind, retold, refused, accepted, refused-in, past-all, successor-known}
+use Rattle.device.proofs.JudgeLaws.{behind, retold, refused, accepted, refused-in, past-all, Known, successor-known}
 use borrow.Author.Needs.{needs}
 use Rattle.device.proofs.judge.judge_update.Statement.{statement}
 use Rattle.device.proofs.judge.judge_update.Tie as tie
@@ -82,6 +83,10 @@ rooted c =
     c .lacks-root .ensures
     ∙ ap (λ b. lacksRoot digest s (withBlock (s .«block_len») (start-of j .args .flash .now) (number j) b)) (c .before .update-block .ensures ∙ ap (λ k. updateBlock k (message j)) (c .before .before .before .before .before .before .block-len .ensures))
     ∙ ap (λ i. lacksRoot digest s (written i)) (j .before .update-number .ensures)
+
+-- what the first tests have shown
+known : (c : tie.After-enum-told) → let j = c .before .before in Known (manifest j) (start-of j .args .flash .now) (number j)
+known c = successor-known _ _ _ _ (c .before .before .judge-successor .ensures) (c .enum-told .given .1)
 
 manifest-in-requires : tie.Need-manifest-in-requires
 manifest-in-requires c κs = search needs
