@@ -3,7 +3,7 @@ use mathlib.Core.Path.{_≡_, refl, sym, ap, _∙_}
 use mathlib.Core.Logic.{_⊎_, inl, inr}
 use mathlib.Core.Bool.{false}
 use mathlib.Core.List.{List, [], _++_, append-nil}
-use Prim.Native.Nat.{ℕ, zero, suc, _+_, _-_, _*_, _%_, _≤_, _<_}
+use Prim.Native.Nat.{ℕ, zero, suc, _+_, _-_, _*_, _%_, min, _≤_, _<_}
 use native.Mathlib.Omega.{arith}
 use native.Mathlib.Numerals.{add-one}
 use lib.ListN.{length, take, drop, length-append, length-drop}
@@ -24,7 +24,7 @@ use Rattle.wire.specs.declared.kind.Kind.the-variants.{Program, Block}
 use Rattle.wire.specs.Refusal.{firstThatApplies}
 use Rattle.wire.specs.Size.{wrongSize}
 use Rattle.wire.specs.Message.{leastLength, dueLength, messagesLength, atStart}
-use Rattle.wire.specs.Geometry.{blockLength, areaLength}
+use Rattle.wire.specs.Geometry.{blockLength}
 use Rattle.wire.proofs.SizeLaws.{Sized, sized, outside-not}
 use Rattle.sender.specs.declared.send.Sent.{Sent}
 use Rattle.sender.specs.declared.send.Sent.the-variants.{Written}
@@ -58,22 +58,19 @@ module _ (x : Image) where
   unfolding blockMessages joined upTo
   no-messages d = record { is = refl; size = refl }
 
-  -- Each message takes a held hash away and brings those that it carries: before the first the root is held, after the last nothing.
-  module _ (z : Sized (x .«block_len») (length (x .bytes))) where
-    length-some : (i : ℕ) → i ≤ count x → length (blockMessages digest x i) + hashLength ≡ i * (leastLength Block + hashLength + x .«block_len») + hashLength * heldCount (count x) i
-    unfolding blockMessages joined upTo dueLength blockLength count
-    length-some zero h = omega (arith, held-zero (count x))
-    length-some (suc i) h =
-        let e : suc i * (leastLength Block + hashLength + x .«block_len») ≡ i * (leastLength Block + hashLength + x .«block_len») + (leastLength Block + hashLength + x .«block_len») = omega arith in
-        omega (arith, more-messages i, length-some i (omega arith), length-block x z (suc i) (omega arith) h, held-next (count x) i h)
+  -- Each message carries its block, takes a held hash away and brings those that it carries: before the first the root is held, after the last nothing.
+  length-some : (i : ℕ) → i ≤ count x
+      → length (blockMessages digest x i) + hashLength ≡ i * (leastLength Block + hashLength) + min (i * x .«block_len») (length (x .bytes)) + hashLength * heldCount (count x) i
+  unfolding blockMessages joined upTo dueLength blockLength count
+  length-some zero h = omega (arith, held-zero (count x))
+  length-some (suc i) h =
+      let e : suc i * x .«block_len» ≡ i * x .«block_len» + x .«block_len» = omega arith in
+      omega (arith, more-messages i, length-some i (omega arith), length-block x (suc i) (omega arith), held-next (count x) i h)
 
-    -- so all n together carry n - 1
-    length-all : length (blockMessages digest x (count x)) ≡ messagesLength (x .«block_len») (length (x .bytes))
-    unfolding messagesLength count
-    length-all =
-        let some : 0 < count x = z .first in
-        let e : count x * (leastLength Block + hashLength + x .«block_len») ≡ leastLength Block * count x + areaLength (x .«block_len») (length (x .bytes)) + hashLength * count x = omega arith in
-        omega (arith, length-some (count x) (omega arith), held-all (count x) some)
+  -- so all n together carry the image and n - 1 hashes
+  length-all : Sized (x .«block_len») (length (x .bytes)) → length (blockMessages digest x (count x)) ≡ messagesLength (x .«block_len») (length (x .bytes))
+  unfolding messagesLength count
+  length-all z = omega (arith, length-some (count x) (omega arith), held-all (count x) (z .first), z .above)
 
 pub length-messages : MessagesLength
 length-messages x e = length-all x (sized (x .«block_len») (length (x .bytes)) e)
