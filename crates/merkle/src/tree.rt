@@ -68,14 +68,7 @@ pub fn root(bytes: &[u8], len: usize, n: usize) -> [u8; 32]
 }
 
 // Puts the hash of the subtree over n blocks that starts with block `first`, none replaced, to place `index` of the hashes in `out`.
-pub fn put_subtree(
-    out: &mut [u8],
-    index: usize,
-    bytes: &[u8],
-    len: usize,
-    first: usize,
-    n: usize,
-)
+pub fn put_subtree(out: &mut [u8], index: usize, bytes: &[u8], len: usize, first: usize, n: usize)
     requires { ⌜ (0 < n) × (first + n < 2 ^ 64) × ((first + n - 1) * len ≤ length (now bytes)) × (hashLength * index + hashLength ≤ length (now out)) ⌝ }
     ensures { λ _. ⌜ now (out .exit) ≡ paste (now (out .entry)) (hashLength * index) (hash (plain sha.digest) (cut len (now (bytes .entry))) first (shape n)) hashLength ⌝ }
 {

@@ -2,22 +2,27 @@
 use mathlib.Core.Path.{_≡_, refl, ap}
 use mathlib.Core.Logic.{_≢_}
 use mathlib.Core.Bool.{Bool, true, false}
-use mathlib.Core.List.{List, [], _∷_}
+use mathlib.Core.List.{List, [], _∷_, append-nil}
 use Prim.Native.Nat.{ℕ}
 use native.Mathlib.Omega.{arith}
-use lib.ListN.{length}
-use Rattle.merkle.specs.Blocks.{blockCount}
+use lib.ListN.{length, drop, length-drop}
+use lib.Seq.{take-all}
+use Rattle.octets.specs.Octets.{bytes, joined}
+use Rattle.sha256.specs.Sha256.{digest}
+use Rattle.merkle.specs.Blocks.{blockCount, cut}
 use Rattle.merkle.specs.Shape.{size, leastFrom, depth, split, build, shape}
-use Rattle.merkle.specs.Hash.{hash}
+use Rattle.merkle.specs.Hash.{hash, hashes}
 use Rattle.merkle.specs.Frontier.{largest, rightSiblings, siblings, carriedCount, frontier, heldCount}
+use Rattle.merkle.specs.Path.{pathSiblings, leafDepth}
+use Rattle.merkle.specs.Held.{sent}
 use Rattle.wire.specs.declared.refusal.Refusal.the-variants.{Turn, Area}
 use Rattle.wire.specs.Refusal.{firstThatApplies}
 use Rattle.wire.specs.Size.{allowedLength, wrongSize, outside}
 use Rattle.wire.specs.Geometry.{blockLength}
-use Rattle.wire.specs.Message.{dueLength}
-use Rattle.sender.specs.Job.{Image, inBlocks, count}
+use Rattle.wire.specs.Message.{blockMessage, dueLength, leastUpdate, leastPath}
+use Rattle.sender.specs.Job.{Image, inBlocks, count, blocks, blockFor}
 use Rattle.sender.specs.Send.{sentNumber, send, tooShort, unnumbered, numbered, sendManifest, sendProgram, sendBlock, sendUpdate, sendPath}
-use Rattle.sender.specs.Cases.{Figure2, values, Answers, Starred}
+use Rattle.sender.specs.Cases.{Figure2, values, Answers, Starred, LastByte}
 
 pub figure2 : Figure2
 unfolding size leastFrom depth split build shape hash
@@ -74,3 +79,15 @@ starred = (
   refl,
   refl,
 )
+
+-- the second block of two is what is left, and no hash goes with it
+second-message : (image : List ℕ) → length image ≡ 257 → blockFor digest (inBlocks image 256) 2 ≡ 2 ∷ 0 ∷ 2 ∷ drop 256 image
+unfolding size leastFrom depth split build shape largest rightSiblings siblings blockCount cut hashes joined sent bytes count blocks blockMessage blockFor
+second-message image e =
+    let two : count (inBlocks image 256) ≡ 2 = ap (blockCount 256) e in
+    let last : blocks (inBlocks image 256) 1 ≡ drop 256 image = take-all 256 (drop 256 image) (rw (length-drop 256 image) (omega arith)) in
+    rw (two, last) (ap (λ (y : List ℕ). 2 ∷ 0 ∷ 2 ∷ y) (append-nil (drop 256 image)))
+
+pub last-byte : LastByte
+unfolding values size leastFrom depth split build shape largest rightSiblings siblings carriedCount pathSiblings leafDepth blockCount blockLength dueLength leastUpdate leastPath
+last-byte = (refl, refl, refl, refl, second-message)

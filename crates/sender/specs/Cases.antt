@@ -3,12 +3,14 @@ use mathlib.Core.Path.{_≡_}
 use mathlib.Core.Logic.{_≢_}
 use mathlib.Core.List.{List, [], _∷_, _++_}
 use Prim.Native.Nat.{ℕ, zero, suc}
-use lib.ListN.{length}
+use lib.ListN.{length, drop}
+use Rattle.sha256.specs.Sha256.{digest}
 use Rattle.merkle.specs.Blocks.{blockCount}
 use Rattle.merkle.specs.Hash.{plain, rootOver}
 use Rattle.merkle.specs.Frontier.{carriedCount, heldCount}
-use Rattle.wire.specs.Message.{dueLength}
-use Rattle.sender.specs.Job.{Image, inBlocks, job}
+use Rattle.wire.specs.Geometry.{blockLength}
+use Rattle.wire.specs.Message.{dueLength, leastUpdate, leastPath}
+use Rattle.sender.specs.Job.{Image, inBlocks, job, blockFor}
 use Rattle.sender.specs.Send.{sentNumber, sendManifest, sendProgram, sendBlock, sendUpdate, sendPath}
 
 -- "For n = 3 this is source document 000's figure 2": blocks 1 and 2 under one node, block 3 beside it.
@@ -46,3 +48,13 @@ Starred =
     × (blockCount 256 2048 ≡ 8)
     × (dueLength 256 2048 1 ≡ 355)
     × (dueLength 256 2048 2 ≡ 259)
+
+-- 02, change 2, with T inside a block, T = 257 and L = 256: the blocks have 256 bytes and 1, message 1 has 3 + 256 + 32 and message 2 has 3 + 1; an update of block 2
+-- has at least 51 + 1, and by a path 32 more. Of every such image message 2 carries the last byte.
+abbrev pub LastByte : Type 0
+LastByte =
+    (values 2 1 (blockLength 256 257) ≡ 256 ∷ 1 ∷ [])
+    × (values 2 1 (dueLength 256 257) ≡ 291 ∷ 4 ∷ [])
+    × (leastUpdate 256 257 2 ≡ 52)
+    × (leastPath 256 257 2 ≡ 84)
+    × ((image : List ℕ) → length image ≡ 257 → blockFor digest (inBlocks image 256) 2 ≡ 2 ∷ 0 ∷ 2 ∷ drop 256 image)

@@ -136,10 +136,10 @@ fn successor(
             if too_short(out.len(), least, signature.len()) {
                 return Sent::Refused(Refusal::Area);
             }
-            let block = block_of(image, block_len, image.len(), i);
+            let new = block_of(image, block_len, image.len(), i);
             let manifest = manifest_for(image, len, model, serial);
             let kind = if path { PATH_UPDATE } else { UPDATE };
-            let from = put_successor(kind, manifest, number as u16, block, out);
+            let from = put_successor(kind, manifest, number as u16, new, out);
             if path {
                 merkle::write_path(&mut out[from..], image, block_len, n, i - 1);
             }

@@ -18,6 +18,7 @@ use Rattle.wire.specs.declared.manifest.Manifest.{Manifest}
 use Rattle.wire.specs.Size.{wrongSize}
 use Rattle.wire.specs.Geometry.{countOf, blockLength, blockStart, blocksOf, withBlock, treeOver}
 use Rattle.wire.specs.Message.{atStart}
+use Rattle.wire.specs.Claims.{BlockLengths}
 use Rattle.wire.proofs.SizeLaws.{sized}
 
 -- no block is longer than L
@@ -53,6 +54,19 @@ module _ (L T i : ℕ) (below : i < blockCount L T) where
       let e : blockCount L T ≡ suc i = omega arith in
       let m : suc i * L ≡ i * L + L = omega arith in
       omega (arith, block-starts L T i below, rw e at blocks-enough)
+
+-- the lengths of all n blocks
+pub block-lengths : BlockLengths
+block-lengths L T pos some =
+    let n = blockCount L T in
+    let r = block-count L T pos some in
+    let p : suc (n - 1) ≡ n = omega (arith, r .some) in
+    let end : (n - 1) * L + blockLength L T n ≡ T = rw p at (block-last L T (n - 1) (omega (arith, r .some)) (omega arith)) in
+    record {
+      earlier = λ i low h. let e : suc (i - 1) ≡ i = omega arith in rw e at (block-full L T (i - 1) (omega arith) (omega arith));
+      last = omega arith;
+      range = (omega (arith, r .below), block-length-most L T n);
+    }
 
 -- a block of the first T bytes, as it stands there
 pub cut-stands : (L T i : ℕ) (a : List ℕ) → i < blockCount L T → cut L (take T a) i ≡ part (i * L) (blockLength L T (suc i)) a

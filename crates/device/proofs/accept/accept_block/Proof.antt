@@ -30,7 +30,7 @@ count-requires : tie.Need-count-requires
 count-requires c κs = awaited (c .before) .size
 
 block-len-requires : tie.Need-block-len-requires
-block-len-requires c κs = let w = awaited (c .before .before) in (w .low, w .high)
+block-len-requires c κs = let w = awaited (c .before .before) in omega (arith, w .low, w .high)
 
 cast-write-block : tie.Need-cast-write-block
 cast-write-block c = search needs

@@ -62,7 +62,7 @@ unfolding sendBlock
 returns c = let t = passed (c .before .before) in area-refused-at _ _ _ _ _ t (omega (arith, due _ _ _ _ t, c .before .due-len .ensures))
 
 block-of-requires : tie.Need-block-of-requires
-block-of-requires c κs = let t = passed (c .before .before) in (t .low, omega (arith, t .high, t .count), omega arith)
+block-of-requires c κs = let t = passed (c .before .before) in omega (arith, t .low, t .high, t .count)
 
 cast-put-block : tie.Need-cast-put-block
 cast-put-block c = let t = passed (c .before .before .before) in omega (arith, t .high, t .few)
