@@ -1,4 +1,4 @@
-"""Slip and bundle by the rules of document 01, with nothing of the product: expected.py BLOCK MODEL SERIAL, in a folder with image.bin, writes
+"""Slip and bundle by the rules of documents 01 and 02, with nothing of the product: expected.py BLOCK MODEL SERIAL, in a folder with image.bin, writes
 expected_slip.bin, and with signature.bin expected_bundle.bin."""
 import hashlib
 import os
@@ -35,7 +35,7 @@ def carried(blocks, before):
 
 block, model, serial = (int(x) for x in sys.argv[1:])
 image = open("image.bin", "rb").read()
-blocks = [image[i : i + block].ljust(block, b"\xff") for i in range(0, len(image), block)]
+blocks = [image[i : i + block] for i in range(0, len(image), block)]
 slip = number(1, 2) + number(block, 2) + number(model, 4) + number(serial, 4) + number(len(image), 4) + label(blocks)
 open("expected_slip.bin", "wb").write(slip)
 if os.path.exists("signature.bin"):
