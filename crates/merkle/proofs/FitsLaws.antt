@@ -14,7 +14,7 @@ use Rattle.merkle.specs.Frontier.{siblings, frontier, carriedCount}
 use Rattle.merkle.specs.Held.{hashesIn, heldIn, nextHeld, advanced, fits, sent}
 use Rattle.merkle.specs.Claims.{Advance}
 use Rattle.merkle.proofs.ShapeLaws.{size-shape}
-use Rattle.merkle.proofs.HashLaws.{Same, length-hashes, siblings-same, length-hash}
+use Rattle.merkle.proofs.HashLaws.{length-hashes, length-hash}
 use Rattle.merkle.proofs.LoadingLaws.{NextHashes, next-hashes, Loaded, loaded-step}
 use Rattle.merkle.proofs.HeldLaws.{length-hashesIn, Sized, none, more, length-joined, hashesIn-joined, advance}
 

@@ -1,21 +1,19 @@
 -- A block's siblings written from the highest down, on the way from the whole tree to the block.
-use mathlib.Core.Path.{_≡_, refl, sym, ap, ap₂, subst, _∙_}
+use mathlib.Core.Path.{_≡_, sym, ap, subst, _∙_}
 use mathlib.Core.Logic.{_≢_, ⊎-elim}
-use mathlib.Core.Bool.{Bool, true, false, cond}
-use mathlib.Core.List.{List, [], _∷_, _++_}
+use mathlib.Core.List.{List, _++_}
 use Prim.Native.Nat.{ℕ, _+_, _-_, _*_, _≤_, _<_}
 use native.Mathlib.Omega.{arith}
-use lib.Dec.{ltb}
 use lib.ListN.{length, drop}
 use lib.Seq.{paste}
 use Rattle.octets.specs.Octets.{joined}
 use Rattle.merkle.specs.Limits.{hashLength}
-use Rattle.merkle.specs.Shape.{Shape, leaf, node, size, split, shape, Place}
+use Rattle.merkle.specs.Shape.{leaf, split, shape, Place}
 use Rattle.merkle.specs.Hash.{Hashing, hash, hashes, rootOver}
 use Rattle.merkle.specs.Path.{pathSiblings, leafDepth, sentPath, pathHash}
 use Rattle.merkle.specs.Held.{hashesIn}
 use Rattle.merkle.proofs.ShapeLaws.{lt-or-le, size-shape, split-between}
-use Rattle.merkle.proofs.HashLaws.{Same, same-left, same-right, hash-same, length-hashes, hashes-last}
+use Rattle.merkle.proofs.HashLaws.{length-hashes}
 use Rattle.merkle.proofs.HeldLaws.{length-joined}
 use Rattle.merkle.proofs.FitsLaws.{sized-hashes, hashes-back}
 use Rattle.merkle.proofs.PathLaws.{path-other}

@@ -11,12 +11,10 @@ use lib.Seq.{paste, length-paste, length-take-le, take-all, take-at, drop-at, ta
 use Rattle.octets.specs.Octets.{part}
 use Rattle.octets.proofs.CopyLaws.{part-part}
 use Rattle.merkle.specs.Blocks.{blockCount, cut, overlay}
-use Rattle.merkle.specs.Shape.{shape}
-use Rattle.merkle.specs.Hash.{plain}
 use Rattle.merkle.proofs.BlockLaws.{block-count, block-starts, overlay-same, overlay-other, overlay-is, take-blocks, blocks-equal, written}
 use Rattle.wire.specs.declared.manifest.Manifest.{Manifest}
 use Rattle.wire.specs.Size.{wrongSize}
-use Rattle.wire.specs.Geometry.{countOf, blockLength, blockStart, blocksOf, withBlock, treeOver}
+use Rattle.wire.specs.Geometry.{countOf, blockLength, blockStart, blocksOf, withBlock}
 use Rattle.wire.specs.Message.{atStart}
 use Rattle.wire.specs.Claims.{BlockLengths}
 use Rattle.wire.proofs.SizeLaws.{sized}
@@ -184,11 +182,6 @@ module _ (s : Manifest) (w old : List ℕ) (whole : length w ≡ s .«image_len�
   pub start-blocks : blocksOf s (atStart w old) ≡ cut (s .«block_len») w
   unfolding blocksOf
   start-blocks = ap (cut (s .«block_len»)) start-run
-
--- a run of T bytes has its own blocks
-pub whole-blocks : (s : Manifest) (w : List ℕ) → length w ≡ s .«image_len» → blocksOf s w ≡ cut (s .«block_len») w
-unfolding blocksOf
-whole-blocks s w e = ap (cut (s .«block_len»)) (take-all (s .«image_len») w (omega arith))
 
 -- where a flash begins with v, and w differs from v in one block at most, with that block written it begins with w
 pub one-changed : (L : ℕ) (v w old : List ℕ) (i : ℕ) → length v ≡ length w → i < blockCount L (length w)

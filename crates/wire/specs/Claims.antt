@@ -13,13 +13,13 @@ use Rattle.wire.specs.Geometry.{blockLength}
 use Rattle.wire.specs.Message.{kind, numberLength, programMessage, blockMessage, updateMessage, leastLength, manifestBytes, programSignature, numberIn, blockIn, hashesAfter, updateNumber, updateBlock, updateSignature, pathMessage, pathIn, pathSignature}
 
 -- 02, change 2: "the last block travels with the bytes it has". Of n blocks that hold T bytes each but the last has L; the last has T - (n - 1) × L, which are 1 to L.
-pub record Lengths (L T : ℕ) : Type 0 where
+pub record EachLength (L T : ℕ) : Type 0 where
   pub earlier : (i : ℕ) → 0 < i → i < blockCount L T → blockLength L T i ≡ L
   pub last : blockLength L T (blockCount L T) ≡ T - (blockCount L T - 1) * L
   pub range : (0 < blockLength L T (blockCount L T)) × (blockLength L T (blockCount L T) ≤ L)
 
 abbrev pub BlockLengths : Type 0
-BlockLengths = (L T : ℕ) → 0 < L → 0 < T → Lengths L T
+BlockLengths = (L T : ℕ) → 0 < L → 0 < T → EachLength L T
 
 -- A manifest's bytes give back the manifest, and the manifest read from bytes gives back the bytes.
 abbrev pub ManifestBack : Type 0

@@ -1,10 +1,8 @@
 // A block of an image: how many bytes it has, and these bytes. Blocks count from 1.
 ghost use mathlib.Core.Path.{_≡_};
-ghost use mathlib.Core.Bool.{false};
 ghost use Prim.Native.Nat.{pred, _≤_, _<_};
 ghost use lib.ListN.{length, take};
 ghost use Rattle.merkle.specs.Blocks.{blockCount, cut};
-ghost use Rattle.wire.specs.Size.{wrongSize};
 ghost use Rattle.wire.specs.Geometry.{blockLength};
 
 // The bytes of block `number`: the last one ends with the image.

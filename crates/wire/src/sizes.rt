@@ -1,6 +1,5 @@
 // Which block lengths, image lengths and block numbers are allowed, and what follows from them.
 ghost use mathlib.Core.Path.{_≡_};
-ghost use mathlib.Core.Bool.{false};
 ghost use Prim.Native.Nat.{_+_, _<_};
 ghost use lib.Dec.{ltb};
 ghost use Rattle.merkle.specs.Blocks.{blockCount};

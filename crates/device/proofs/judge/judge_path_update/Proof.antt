@@ -18,7 +18,7 @@ use Rattle.wire.specs.Geometry.{countOf, blockLength, blocksOf}
 use Rattle.wire.specs.Message.{leastLength, manifestBytes, manifestIn, updateNumber, updateBlock, pathIn, pathSignature, leastUpdate, leastPath}
 use Rattle.wire.proofs.SizeLaws.{inside}
 use Rattle.wire.proofs.MessageLaws.{length-path-in}
-use Rattle.machine.specs.Refusals.{tooSmall, strays, unsigned, ofManifest, ofSuccessor, ofPathUpdate}
+use Rattle.machine.specs.Refusals.{strays, unsigned, ofManifest, ofSuccessor, ofPathUpdate}
 use Rattle.machine.proofs.RefusalLaws.{Passes, _past_}
 use Rattle.device.proofs.JudgeLaws.{behind, retold, refused, accepted, refused-in, past-all, Known, successor-known}
 use borrow.Author.Needs.{needs}
