@@ -10,7 +10,7 @@ use lib.ListN.{take, drop}
 unfoldable pub blockCount : (L T : ℕ) → ℕ
 blockCount L T = (T + (L - 1)) / L
 
--- The blocks of L bytes of a run of bytes. The last one may be shorter.
+-- The blocks of a run of bytes: L bytes each, and the last one what is left.
 unfoldable pub cut : (L : ℕ) (bytes : List ℕ) (before : ℕ) → List ℕ
 cut L bytes before = take L (drop (before * L) bytes)
 
