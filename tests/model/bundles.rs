@@ -7,12 +7,12 @@ use std::process::Command;
 use crate::compare::Compared;
 use crate::craft::Image;
 use crate::damage::damage_byte;
-use crate::loader::{LARGEST_BUNDLE, output};
+use crate::lengths::image_length;
+use crate::loader::{FLASH_LENGTH, LARGEST_BUNDLE, output};
 use crate::manifest::{BLOCK_LENGTHS, Manifest};
 use crate::rng::Rng;
-use crate::sender::{block_message, program_message};
+use crate::sender::program_message;
 use crate::signer::Signer;
-use crate::tree::root;
 
 pub struct Bundles {
     folder: PathBuf,
@@ -33,9 +33,68 @@ impl Bundles {
         Bundles { folder, program }
     }
 
-    /// One run; on success its last line's stage, for the coverage.
-    pub fn run(&self, rng: &mut Rng, signer: &Signer) -> Compared<String> {
-        let files = files(rng, signer);
+    /// One run on a random bundle; on success how it ended, for the coverage.
+    pub fn random(&self, rng: &mut Rng, signer: &Signer) -> Compared<String> {
+        self.run(random_files(rng, signer))
+    }
+
+    /// Bundles of one image: behind its last block comes the kind 1 message, or filler, just as much
+    /// as the block has less than L, or more; that block lacks a byte; it was padded to L bytes.
+    pub fn last_blocks(&self, rng: &mut Rng, signer: &Signer, image: &Image) -> Compared<()> {
+        let (padded, lacking) = (image.padded(), image.lacking());
+        let blocks = image.block_messages().concat();
+        for filler in [0, lacking, image.block_length] {
+            let with_filler = [&blocks[..], &vec![0xff; filler]].concat();
+            self.expect(rng, signer, [image; 2], with_filler, "state complete")?;
+        }
+        let cut = blocks[..blocks.len() - 1].to_vec();
+        self.expect(rng, signer, [image; 2], cut, "block 12")?;
+        let blocks = padded.block_messages().concat();
+        let end = if lacking > 0 {
+            "block 14"
+        } else {
+            "state complete"
+        };
+        self.expect(rng, signer, [image, &padded], blocks, end)
+    }
+
+    /// Images as long as the loader's flash and a byte longer; their blocks are missing.
+    pub fn longest_images(
+        &self,
+        rng: &mut Rng,
+        signer: &Signer,
+        block_length: usize,
+    ) -> Compared<()> {
+        for (length, end) in [(FLASH_LENGTH, "block 2"), (FLASH_LENGTH + 1, "slip 8")] {
+            let image = Image::random(rng, block_length, length);
+            self.expect(rng, signer, [&image; 2], Vec::new(), end)?;
+        }
+        Ok(())
+    }
+
+    /// One run that must end so. The manifest is that of the first image, its root the second's.
+    fn expect(
+        &self,
+        rng: &mut Rng,
+        signer: &Signer,
+        [image, hashed]: [&Image; 2],
+        blocks: Vec<u8>,
+        due: &str,
+    ) -> Compared<()> {
+        let model = rng.u32();
+        let program = signed(rng, signer, &image.manifest(model, 1, hashed));
+        let distance = program.len() as u32;
+        let end = self.run(Files {
+            key: Some([&signer.key[..], &model.to_be_bytes()].concat()),
+            bundle: Some([&blocks[..], &program, &distance.to_be_bytes()].concat()),
+        })?;
+        if end != due {
+            return Err(format!("ends in {end}, due is {due}"));
+        }
+        Ok(())
+    }
+
+    fn run(&self, files: Files) -> Compared<String> {
         put(&self.folder.join("key.bin"), &files.key);
         put(&self.folder.join("bundle.bin"), &files.bundle);
         let (key, bundle) = (
@@ -99,20 +158,26 @@ fn random_image(rng: &mut Rng) -> Image {
         2 | 3 => rng.range(1, 60_000 / block_length),
         _ => rng.range(1, 20),
     };
-    Image::random(rng, block_length, n)
+    let length = image_length(rng, block_length, n);
+    Image::random(rng, block_length, length)
 }
 
-fn files(rng: &mut Rng, signer: &Signer) -> Files {
+/// The kind 1 message.
+fn signed(rng: &mut Rng, signer: &Signer, manifest: &Manifest) -> Vec<u8> {
+    let bytes = manifest.bytes();
+    program_message(&bytes, &signer.sign(rng, &bytes))
+}
+
+fn random_files(rng: &mut Rng, signer: &Signer) -> Files {
     let model = rng.u32();
     let image = random_image(rng);
-    let mut manifest = Manifest {
-        version: 1,
-        block_length: image.block_length as u16,
-        model,
-        serial: rng.pick(&[1, 1, 7, u32::MAX]),
-        image_length: image.image_length as u32,
-        root: root(&image.area, image.block_length),
+    let hashed = if rng.one_in(10) {
+        image.padded()
+    } else {
+        image.clone()
     };
+    let serial = rng.pick(&[1, 1, 7, u32::MAX]);
+    let mut manifest = image.manifest(model, serial, &hashed);
     match rng.below(30) {
         0 => manifest.version = 0,
         1 => manifest.block_length += 1,
@@ -121,15 +186,11 @@ fn files(rng: &mut Rng, signer: &Signer) -> Files {
         4 => manifest.image_length = 0,
         _ => {}
     }
-    let signature = signer.sign(rng, &manifest.bytes());
-    let program = program_message(&manifest.bytes(), &signature);
-    let blocks = (1..=image.blocks())
-        .map(|i| block_message(&image.area, image.block_length, i))
-        .collect();
+    let program = signed(rng, signer, &manifest);
     let key = [&signer.key[..], &model.to_be_bytes()].concat();
     Files {
         key: key_file(rng, key),
-        bundle: bundle_file(rng, blocks, program),
+        bundle: bundle_file(rng, hashed.block_messages(), program),
     }
 }
 

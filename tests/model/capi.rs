@@ -1,5 +1,7 @@
-//! The C library (include/lertxuno.h). Whatever it may write lies between guard bytes, which are
-//! looked at after each call.
+//! The C library (include/lertxuno.h). The bytes that it reads or writes are all lent to it (lent.rs).
+
+use crate::lent::Lent;
+use crate::sender::Order;
 
 #[link(name = "capi", kind = "static")]
 unsafe extern "C" {
@@ -86,49 +88,19 @@ unsafe extern "C" {
     ) -> u32;
 }
 
-const GUARD: [u8; 64] = [0xa5; 64];
-
-/// Memory lent to the library.
-#[derive(Clone)]
-pub struct Lent(Vec<u8>);
-
-impl Lent {
-    pub fn new(bytes: &[u8]) -> Lent {
-        Lent([&GUARD, bytes, &GUARD].concat())
-    }
-
-    pub fn bytes(&self) -> &[u8] {
-        &self.0[GUARD.len()..self.0.len() - GUARD.len()]
-    }
-
-    pub fn guards_hold(&self) -> bool {
-        self.0.starts_with(&GUARD) && self.0.ends_with(&GUARD)
-    }
-
-    fn pointer(&mut self) -> *mut u8 {
-        self.0[GUARD.len()..].as_mut_ptr()
-    }
-}
-
 pub fn digest(message: &[u8]) -> Lent {
-    let mut out = Lent::new(&[0; 32]);
+    let (message, mut out) = (Lent::new(message), Lent::new(&[0; 32]));
+    let (m, ml) = message.parts();
     // SAFETY (here and below): the header's terms are kept: no null pointer, lengths as lent,
     // written memory overlaps nothing.
-    unsafe { lertxuno_digest(message.as_ptr(), message.len(), out.pointer()) };
+    unsafe { lertxuno_digest(m, ml, out.pointer()) };
     out
 }
 
 pub fn verify(key: &[u8], message: &[u8], signature: &[u8]) -> u32 {
-    unsafe {
-        lertxuno_verify(
-            key.as_ptr(),
-            key.len(),
-            message.as_ptr(),
-            message.len(),
-            signature.as_ptr(),
-            signature.len(),
-        )
-    }
+    let [key, message, signature] = [key, message, signature].map(Lent::new);
+    let ((k, kl), (m, ml), (s, sl)) = (key.parts(), message.parts(), signature.parts());
+    unsafe { lertxuno_verify(k, kl, m, ml, s, sl) }
 }
 
 /// Which sender function, with what it is given beyond the image and its values.
@@ -141,30 +113,31 @@ pub enum Send<'a> {
     Update(u8, u32, &'a [u8]),
 }
 
-pub fn send(
-    order: &crate::sender::Order,
-    what: Send,
-    out: &mut Lent,
-    room: usize,
-    written: &mut usize,
-) -> u32 {
-    let (image, length, block) = (order.image.as_ptr(), order.image.len(), order.block_length);
-    let (model, serial) = (order.model, order.serial);
-    let out = out.pointer();
+impl Send<'_> {
+    /// Empty where the function takes none.
+    fn signature(&self) -> &[u8] {
+        match self {
+            Send::Program(signature) | Send::Update(_, _, signature) => signature,
+            _ => &[],
+        }
+    }
+}
+
+pub fn send(order: &Order, what: Send, out: &mut Lent, written: &mut usize) -> u32 {
+    let (image, signature) = (Lent::new(order.image), Lent::new(what.signature()));
+    let ((image, length), (s, sl)) = (image.parts(), signature.parts());
+    let (block, model, serial) = (order.block_length, order.model, order.serial);
+    let (out, room) = (out.pointer(), out.bytes().len());
     unsafe {
         match what {
             Send::Manifest => {
                 lertxuno_manifest(image, length, block, model, serial, out, room, written)
             }
-            Send::Program(s) => {
-                let (s, sl) = (s.as_ptr(), s.len());
-                lertxuno_program(
-                    image, length, block, model, serial, s, sl, out, room, written,
-                )
-            }
+            Send::Program(_) => lertxuno_program(
+                image, length, block, model, serial, s, sl, out, room, written,
+            ),
             Send::Block(i) => lertxuno_block(image, length, block, i, out, room, written),
-            Send::Update(kind, i, s) => {
-                let (s, sl) = (s.as_ptr(), s.len());
+            Send::Update(kind, i, _) => {
                 let update = if kind == 3 {
                     lertxuno_update
                 } else {
@@ -179,31 +152,29 @@ pub fn send(
 }
 
 pub fn fresh(model: u32, key: &[u8; 56], state: &mut Lent) {
-    unsafe { lertxuno_fresh(model, key.as_ptr(), state.pointer()) }
+    let key = Lent::new(key);
+    unsafe { lertxuno_fresh(model, key.parts().0, state.pointer()) }
 }
 
 pub fn receive(state: &mut Lent, flash: &mut Lent, message: &[u8]) -> u32 {
+    let message = Lent::new(message);
+    let (m, ml) = message.parts();
     let (state_length, flash_length) = (state.bytes().len(), flash.bytes().len());
     let (state, flash) = (state.pointer(), flash.pointer());
-    unsafe {
-        lertxuno_receive(
-            state,
-            state_length,
-            flash,
-            flash_length,
-            message.as_ptr(),
-            message.len(),
-        )
-    }
+    unsafe { lertxuno_receive(state, state_length, flash, flash_length, m, ml) }
 }
 
 /// The seven numbers, and a guard on each side of them.
 pub type Status = [u32; 9];
 
 pub fn status(state: &[u8], out: &mut Status) -> u32 {
-    unsafe { lertxuno_status(state.as_ptr(), state.len(), out[1..].as_mut_ptr()) }
+    let state = Lent::new(state);
+    let (s, sl) = state.parts();
+    unsafe { lertxuno_status(s, sl, out[1..].as_mut_ptr()) }
 }
 
 pub fn block_message_length(state: &[u8], length: &mut usize) -> u32 {
-    unsafe { lertxuno_block_message_length(state.as_ptr(), state.len(), length) }
+    let state = Lent::new(state);
+    let (s, sl) = state.parts();
+    unsafe { lertxuno_block_message_length(s, sl, length) }
 }

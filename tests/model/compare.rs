@@ -1,13 +1,13 @@
 //! What the library left in memory against what the model has.
 
-use crate::capi::Lent;
+use crate::lent::Lent;
 
 /// The error says what differs.
 pub type Compared<T> = Result<T, String>;
 
 pub fn same(what: &str, library: &Lent, model: &[u8]) -> Compared<()> {
-    if !library.guards_hold() {
-        return Err(format!("{what}: bytes outside of it are written"));
+    if !library.guard_holds() {
+        return Err(format!("{what}: bytes before it are written"));
     }
     let theirs = library.bytes();
     if theirs == model {

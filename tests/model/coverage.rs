@@ -1,18 +1,27 @@
-//! How often each answer was given, by row (a kind of message, or a function), and each sort of path
-//! update accepted; and which of these must have occurred at least once.
+//! How often each answer was given, by row (a kind of message, or a function), each sort of path
+//! update accepted, and each case of the image's end; and which of these must have occurred at
+//! least once.
 
+use std::array;
+
+use crate::ends::{ENDS, End};
+use crate::lengths::{LASTS, shape};
+use crate::manifest::BLOCK_LENGTHS;
 use crate::tree::path;
 
 struct Row {
     name: &'static str,
-    /// The columns that the rules allow here: answers, or depths.
-    due: &'static [usize],
+    /// The columns that must have occurred: answers, depths, kinds or shapes.
+    due: Vec<usize>,
     counts: [u64; 16],
 }
 
 pub struct Coverage {
     answers: Vec<Row>,
     paths: Vec<Row>,
+    ends: Vec<Row>,
+    /// By row, block length and shape.
+    shapes: [[[u64; 16]; 5]; SHAPED.len()],
     /// The most blocks that a complete device had.
     largest: usize,
 }
@@ -61,26 +70,56 @@ const PATHS: [(&str, &[usize]); 4] = [
     ("other n", &[1, 2, 3, 4, 5, 6]),
 ];
 
-fn rows(from: &[(&'static str, &'static [usize])]) -> Vec<Row> {
-    let empty = |&(name, due)| Row {
+/// What was done with images of every shape: their last block accepted, as a block and by updates;
+/// any message of it accepted in a flash of T bytes, and one refused in a flash of a byte less; the
+/// sender's messages of it, into a buffer of just their length, and refused for a byte less.
+const SHAPED: [&str; 11] = [
+    "last, kind 2",
+    "last, kind 3",
+    "last, kind 4",
+    "flash T",
+    "flash T - 1",
+    "room, kind 2",
+    "room, kind 3",
+    "room, kind 4",
+    "room - 1, kind 2",
+    "room - 1, kind 3",
+    "room - 1, kind 4",
+];
+
+/// The rows of kind 2; those of 3 and 4 follow.
+pub const LAST: usize = 0;
+pub const ROOM: usize = 5;
+pub const ROOM_BYTE_SHORT: usize = 8;
+
+pub const FLASH: usize = 3;
+pub const FLASH_BYTE_SHORT: usize = 4;
+
+fn row(name: &'static str, due: impl IntoIterator<Item = usize>) -> Row {
+    Row {
         name,
-        due,
+        due: due.into_iter().collect(),
         counts: [0; 16],
-    };
+    }
+}
+
+fn rows(from: &[(&'static str, &[usize])]) -> Vec<Row> {
+    let empty = |(name, due): &(&'static str, &[usize])| row(name, due.iter().copied());
     from.iter().map(empty).collect()
 }
 
 /// Prints the rows; the number of due columns that stayed empty.
-fn table(title: &str, rows: &[Row]) -> u64 {
+fn table(title: &str, columns: impl Iterator<Item = String>, rows: &[Row]) -> u64 {
     print!("{title:18}");
-    for column in 0..16 {
+    let columns: Vec<String> = columns.collect();
+    for column in &columns {
         print!("{column:>7}");
     }
     println!();
     let mut missing = 0;
     for row in rows {
         print!("{:18}", row.name);
-        for (column, count) in row.counts.iter().enumerate() {
+        for (column, count) in row.counts[..columns.len()].iter().enumerate() {
             match (row.due.contains(&column), count) {
                 (false, 0) => print!("{:>7}", "."),
                 _ => print!("{count:>7}"),
@@ -94,9 +133,14 @@ fn table(title: &str, rows: &[Row]) -> u64 {
 
 impl Coverage {
     pub fn new() -> Coverage {
+        let end = |(name, due): &(&'static str, &[(usize, u32)])| {
+            row(name, due.iter().map(|(kind, _)| *kind))
+        };
         Coverage {
             answers: rows(&ANSWERS),
             paths: rows(&PATHS),
+            ends: ENDS.iter().map(end).collect(),
+            shapes: [[[0; 16]; 5]; SHAPED.len()],
             largest: 0,
         }
     }
@@ -117,9 +161,37 @@ impl Coverage {
         }
     }
 
-    /// Prints both tables; the number of due cases that never came.
+    /// A message was this case. It counts if it got the answer that is due to it, and none that
+    /// comes earlier.
+    pub fn end(&mut self, case: End, kind: usize, answer: u32) {
+        let due = ENDS[case as usize].1.contains(&(kind, answer));
+        self.ends[case as usize].counts[kind] += due as u64;
+    }
+
+    pub fn shape(&mut self, row: usize, image_length: usize, block_length: usize) {
+        let lengths = BLOCK_LENGTHS.iter().zip(&mut self.shapes[row]);
+        for (_, shapes) in lengths.filter(|(length, _)| **length as usize == block_length) {
+            shapes[shape(image_length, block_length)] += 1;
+        }
+    }
+
+    /// Of each shape the count for the block length that had it least.
+    fn least(&self) -> Vec<Row> {
+        let least = |(name, lengths): (&&'static str, &[[u64; 16]; 5])| Row {
+            counts: array::from_fn(|shape| lengths.iter().map(|l| l[shape]).min().unwrap()),
+            ..row(name, 0..16)
+        };
+        SHAPED.iter().zip(&self.shapes).map(least).collect()
+    }
+
+    /// Prints all tables; the number of due cases that never came.
     pub fn report(&self) -> u64 {
-        let missing = table("answers", &self.answers) + table("paths, by depth", &self.paths);
+        let numbers = |n: usize| (0..n).map(|column| column.to_string());
+        let shapes = ["1", "2", "3", "n"].map(|n| LASTS.map(|last| format!("{n}:{last}")));
+        let missing = table("answers", numbers(16), &self.answers)
+            + table("paths, by depth", numbers(16), &self.paths)
+            + table("ends, by kind", numbers(5), &self.ends)
+            + table("shapes, n:last", shapes.concat().into_iter(), &self.least());
         println!("largest complete image: {} blocks", self.largest);
         missing
     }

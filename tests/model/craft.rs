@@ -5,49 +5,75 @@ use std::collections::HashMap;
 
 use crate::damage::damage_byte;
 use crate::device::{Device, Stage};
+use crate::lengths::{blocks, image_length};
 use crate::manifest::{BLOCK_LENGTHS, MOST_BLOCKS, Manifest};
 use crate::plan::Plan;
 use crate::rng::Rng;
 use crate::sender::{Change, block_message, program_message, update_message};
 use crate::sha256::Hash;
 use crate::signer::Signer;
-use crate::tree::root;
+use crate::tree::{block, root};
 
-/// An image as its blocks lie in the flash, already filled.
 #[derive(Clone)]
 pub struct Image {
     pub block_length: usize,
-    pub image_length: usize,
-    pub area: Vec<u8>,
+    pub bytes: Vec<u8>,
 }
 
 impl Image {
-    pub fn random(rng: &mut Rng, block_length: usize, n: usize) -> Image {
-        let mut area = if rng.one_in(10) {
+    pub fn random(rng: &mut Rng, block_length: usize, length: usize) -> Image {
+        let bytes = if rng.one_in(10) {
             // Equal blocks give equal hashes all over the tree.
-            vec![rng.next() as u8; n * block_length]
+            vec![rng.next() as u8; length]
         } else {
-            rng.bytes(n * block_length)
+            rng.bytes(length)
         };
-        let spare = if rng.one_in(3) {
-            0
-        } else {
-            rng.below(block_length)
-        };
-        let image_length = area.len() - spare;
-        // The device does not look at the filler: some images have another one.
-        if !rng.one_in(8) {
-            area[image_length..].fill(0xff);
-        }
         Image {
             block_length,
-            image_length,
-            area,
+            bytes,
         }
     }
 
     pub fn blocks(&self) -> usize {
-        self.area.len() / self.block_length
+        self.bytes.len().div_ceil(self.block_length)
+    }
+
+    pub fn block_message(&self, i: usize) -> Vec<u8> {
+        block_message(&self.bytes, self.block_length, i)
+    }
+
+    pub fn block_messages(&self) -> Vec<Vec<u8>> {
+        (1..=self.blocks()).map(|i| self.block_message(i)).collect()
+    }
+
+    /// The manifest; its root is that of the image as it was hashed.
+    pub fn manifest(&self, model: u32, serial: u32, hashed: &Image) -> Manifest {
+        Manifest {
+            version: 1,
+            block_length: self.block_length as u16,
+            model,
+            serial,
+            image_length: self.bytes.len() as u32,
+            root: root(&hashed.bytes, hashed.block_length),
+        }
+    }
+
+    fn change_block(&mut self, rng: &mut Rng, i: usize) {
+        let start = (i - 1) * self.block_length;
+        let length = block(&self.bytes, self.block_length, i).len();
+        self.bytes.splice(start..start + length, rng.bytes(length));
+    }
+
+    /// How many bytes the last block has less than L.
+    pub fn lacking(&self) -> usize {
+        self.blocks() * self.block_length - self.bytes.len()
+    }
+
+    /// The image with its last block padded to L bytes. Nobody may hash or send it so.
+    pub fn padded(&self) -> Image {
+        let mut image = self.clone();
+        image.bytes.extend(vec![0xff; self.lacking()]);
+        image
     }
 }
 
@@ -59,17 +85,18 @@ pub struct Author<'a> {
     pub signer: &'a Signer,
     /// Another key of the same types.
     pub stranger: &'a Signer,
-    /// All images so far, by their roots.
+    /// All images so far as they were hashed, by their roots.
     pub images: HashMap<Hash, Image>,
 }
 
 impl Author<'_> {
-    /// The image whose manifest the device has, if this author made it.
+    /// The image whose root the device has, if this author made it. It has as many blocks as the
+    /// manifest says, but may have been hashed with more or fewer bytes in the last one.
     fn current(&self, device: &Device) -> Option<&Image> {
         let manifest = device.manifest()?;
         let image = self.images.get(&manifest.root)?;
         let same = image.block_length == manifest.block_length as usize
-            && image.area.len() == manifest.area_length();
+            && image.blocks() == manifest.blocks();
         same.then_some(image)
     }
 
@@ -78,12 +105,29 @@ impl Author<'_> {
         let program = self.rng.percent(self.plan.restarts);
         let update = self.rng.percent(self.plan.updates);
         match (&device.stage, self.current(device)) {
-            (Stage::Loading { next, .. }, Some(image)) if !program => {
-                block_message(&image.area, image.block_length, *next)
+            (Stage::Loading { manifest, next, .. }, Some(image)) if !program => {
+                let misfit = image.bytes.len() != manifest.image_length as usize;
+                let message = image.block_message(*next);
+                if misfit && *next == image.blocks() {
+                    return self.misfit_block(device, message);
+                }
+                message
             }
             (Stage::Complete { .. }, Some(_)) if update => self.update(device, false),
             _ => self.program(device, false),
         }
+    }
+
+    /// For the last block, if the image was hashed with more or fewer bytes than the manifest says:
+    /// the block as it was hashed, or as long as is due, or a new program, for the device takes
+    /// neither.
+    fn misfit_block(&mut self, device: &Device, mut message: Vec<u8>) -> Vec<u8> {
+        match self.rng.below(3) {
+            0 => return self.program(device, false),
+            1 => message.resize(device.due_length().unwrap_or(0), 0xff),
+            _ => {}
+        }
+        message
     }
 
     /// A message with wrong values, of the kind that the stage asks for more often than not.
@@ -97,15 +141,26 @@ impl Author<'_> {
         match self.rng.pick(&[usual, usual, 1, 2, 3]) {
             1 => self.program(device, true),
             2 => self.any_block(device),
+            _ if self.rng.one_in(5) => self.padded_update(device),
             _ => self.update(device, true),
         }
     }
 
-    /// A block of the device's image, or of any other, with any number.
+    /// A block of the device's image, or of any other: the next one, or any. The last one is at times
+    /// padded.
     fn any_block(&mut self, device: &Device) -> Vec<u8> {
         let image = self.some_image(device);
-        let i = self.rng.range(1, image.blocks());
-        block_message(&image.area, image.block_length, i)
+        let n = image.blocks();
+        let any = self.rng.range(1, n);
+        let next = match device.stage {
+            Stage::Loading { next, .. } => next.min(n),
+            _ => n,
+        };
+        let i = self.rng.pick(&[any, any, next]);
+        if i == n && self.rng.one_in(2) {
+            return image.padded().block_message(n);
+        }
+        image.block_message(i)
     }
 
     /// The device's image mostly, else one of the others or a new one.
@@ -123,19 +178,22 @@ impl Author<'_> {
         }
     }
 
-    /// An image that fits the flash, if any does; now and then a larger one.
+    /// An image that fits the flash, if any does; now and then a longer one.
     fn new_image(&mut self) -> Image {
         let (rng, plan) = (&mut self.rng, &self.plan);
         let block_length = rng.pick(&plan.block_lengths) as usize;
-        let fitting = (plan.flash_length / block_length).clamp(1, plan.most_blocks);
-        let n = if rng.percent(plan.filling) {
+        let fitting = plan.flash_length.clamp(1, plan.most_blocks * block_length);
+        let length = if rng.percent(plan.exact) {
             fitting
-        } else if rng.one_in(10) {
-            rng.range(1, 40)
+        } else if rng.one_in(6) {
+            let n = rng.range(1, 40);
+            let any = image_length(rng, block_length, n);
+            rng.pick(&[fitting + 1, fitting + 1, any])
         } else {
-            rng.range(1, fitting)
+            let n = blocks(rng, fitting.div_ceil(block_length));
+            image_length(rng, block_length, n).min(fitting)
         };
-        Image::random(rng, block_length, n)
+        Image::random(rng, block_length, length)
     }
 
     fn serial_above(&mut self, serial: u32) -> u32 {
@@ -148,18 +206,17 @@ impl Author<'_> {
         serial.saturating_add(step)
     }
 
-    /// A manifest for the image, its serial above the device's.
-    fn manifest(&mut self, device: &Device, image: &Image) -> Manifest {
-        let serial = device.serial();
-        let manifest = Manifest {
-            version: 1,
-            block_length: image.block_length as u16,
-            model: self.model,
-            serial: self.serial_above(serial),
-            image_length: image.image_length as u32,
-            root: root(&image.area, image.block_length),
+    /// A manifest for the image, its serial above the device's; its root may be that of the padded
+    /// image.
+    fn manifest(&mut self, device: &Device, image: &Image, padded: bool) -> Manifest {
+        let hashed = if padded {
+            image.padded()
+        } else {
+            image.clone()
         };
-        self.images.insert(manifest.root, image.clone());
+        let serial = self.serial_above(device.serial());
+        let manifest = image.manifest(self.model, serial, &hashed);
+        self.images.insert(manifest.root, hashed);
         manifest
     }
 
@@ -170,7 +227,8 @@ impl Author<'_> {
         } else {
             self.new_image()
         };
-        let mut manifest = self.manifest(device, &image);
+        let padded = self.rng.percent(self.plan.padded);
+        let mut manifest = self.manifest(device, &image, padded);
         if faulty {
             self.spoil(&mut manifest, device.serial());
         }
@@ -188,13 +246,11 @@ impl Author<'_> {
         }
         let n = image.blocks();
         let any = self.rng.range(1, n);
-        let mut i = self.rng.pick(&[any, any, 1, n]);
+        let mut i = self.rng.pick(&[any, 1, n, n]);
         if !self.rng.one_in(4) {
-            let block = self.rng.bytes(image.block_length);
-            let start = (i - 1) * image.block_length;
-            image.area[start..start + block.len()].copy_from_slice(&block);
+            image.change_block(&mut self.rng, i);
         }
-        let mut manifest = self.manifest(device, &image);
+        let mut manifest = self.manifest(device, &image, false);
         if faulty && self.rng.percent(35) {
             self.spoil(&mut manifest, device.serial());
         }
@@ -203,13 +259,28 @@ impl Author<'_> {
             i = self.rng.range(1, n);
         }
         let kind = self.rng.pick(&[3, 4]);
-        let mut change = Change::new(kind, &image.area, image.block_length, i);
+        let mut change = Change::new(kind, &image.bytes, image.block_length, i);
         if faulty {
             self.spoil_change(&mut change, n as u16);
         }
         let bytes = manifest.bytes();
         let signature = self.signature(&bytes, faulty);
         update_message(&bytes, &change, &signature)
+    }
+
+    /// Kind 3 or 4 of the last block, right but for the padding: that block was hashed so, or is sent
+    /// so, or both.
+    fn padded_update(&mut self, device: &Device) -> Vec<u8> {
+        let mut image = self.some_image(device);
+        let n = image.blocks();
+        image.change_block(&mut self.rng, n);
+        let (hash, send) = self.rng.pick(&[(true, false), (false, true), (true, true)]);
+        let manifest = self.manifest(device, &image, hash).bytes();
+        let sent = if send { image.padded() } else { image };
+        let kind = self.rng.pick(&[3, 4]);
+        let change = Change::new(kind, &sent.bytes, sent.block_length, n);
+        let signature = self.signature(&manifest, false);
+        update_message(&manifest, &change, &signature)
     }
 
     /// Number, block and hashes, each left as it is or made wrong.

@@ -6,7 +6,7 @@ use crate::craft::wrong_block_length;
 use crate::device::Device;
 use crate::layout::{HASHES_AT, MANIFEST_AT, NEXT_AT, STAGE_AT, STATE_LENGTH};
 use crate::lms::{Parameters, number};
-use crate::manifest::MOST_BLOCKS;
+use crate::manifest::{MOST_BLOCKS, Manifest};
 use crate::rng::Rng;
 
 /// The fields of a manifest that begins at `at`.
@@ -35,8 +35,19 @@ pub fn signature_fields(rng: &mut Rng, p: &Parameters, at: usize) -> Vec<Range<u
         .to_vec()
 }
 
-fn stage_block_length(device: &Device) -> usize {
-    device.manifest().map_or(64, |m| m.block_length as usize)
+/// L, and the length of the block that a message should carry: by the manifest that it has or, for
+/// kind 2, the device has, and by its number.
+fn block_lengths(device: &Device, message: &[u8]) -> (usize, usize) {
+    let (manifest, i) = match message.first() {
+        Some(2) => (device.manifest().cloned(), message.get(1..3)),
+        _ => (message.get(1..49).map(Manifest::read), message.get(49..51)),
+    };
+    match (manifest, i.map_or(0, number) as usize) {
+        (Some(m), i) if m.check_size().is_ok() && i >= 1 && i <= m.blocks() => {
+            (m.block_length as usize, m.place(i).len())
+        }
+        _ => (64, 64),
+    }
 }
 
 /// The fields of a message, so that each is damaged as often, however short it is.
@@ -48,12 +59,12 @@ fn fields(rng: &mut Rng, p: &Parameters, device: &Device, message: &[u8]) -> Vec
             found.extend(signature_fields(rng, p, 49));
         }
         Some(2) => {
-            let labels = 3 + stage_block_length(device);
+            let labels = 3 + block_lengths(device, message).1;
             found.extend([1..3, 1..3, 3..labels, 3..labels]);
             found.extend((labels..message.len()).step_by(32).map(|at| at..at + 32));
         }
         Some(3 | 4) if message.len() >= 51 => {
-            let hashes = 51 + number(&message[3..5]) as usize;
+            let hashes = 51 + block_lengths(device, message).1;
             let signature = message.len().saturating_sub(p.signature_length());
             found.extend(manifest_fields(1));
             found.extend([49..51, 51..hashes]);
@@ -101,22 +112,23 @@ pub fn damage(rng: &mut Rng, p: &Parameters, device: &Device, message: &mut [u8]
 /// Cut by some bytes, cut to a length near one that the rules name, or grown.
 pub fn resize(rng: &mut Rng, p: &Parameters, device: &Device, message: &mut Vec<u8>) {
     let length = message.len();
-    let block = stage_block_length(device);
-    // Where the signature begins, if there is one: kind 4 needs that many bytes.
+    let (whole, own) = block_lengths(device, message);
+    // Where the signature begins, if there is one: updates need that many bytes.
     let unsigned = length.saturating_sub(p.signature_length());
     let edges = [0, 1, 2, 3, 4, 48, 49, 50, 51, 52];
-    let due = [
-        2 + block,
-        3 + block,
-        4 + block,
-        50 + block,
-        51 + block,
+    let block = [2 + own, 3 + own, 4 + own, 3 + whole];
+    let update = [
+        50 + own,
+        51 + own,
+        50 + whole,
+        51 + whole,
         unsigned.saturating_sub(1),
         unsigned,
     ];
     let new_length = match rng.below(8) {
         0 => rng.pick(&edges),
-        1 | 2 => rng.pick(&due),
+        1 | 2 if message.first() == Some(&2) => rng.pick(&block),
+        1 | 2 => rng.pick(&update),
         3 => rng.below(length + 1),
         4 => length.saturating_sub(rng.pick(&[1, 1, 2, 32, 33])),
         _ => length + rng.pick(&[1, 1, 2, 31, 32, 33, 40]),

@@ -1,5 +1,5 @@
-//! Document 01 and change 1, the drive (here: the device): its state, and its refusals in the order
-//! of each kind.
+//! Document 01 and changes 1 and 2, the drive (here: the device): its state, and its refusals in
+//! the order of each kind.
 
 use crate::lms::{hashes, number, verify};
 use crate::manifest::*;
@@ -116,7 +116,7 @@ impl Device {
     fn program(&self, flash: &[u8], message: &[u8]) -> Outcome<Effect> {
         let manifest = Manifest::read(&message[1..49]);
         self.check_manifest(&manifest)?;
-        refuse_if(flash.len() < manifest.area_length(), AREA)?;
+        check_flash(&manifest, flash)?;
         let signed = verify(&self.key, &message[1..49], &message[49..]);
         refuse_if(!signed, UNSIGNED)?;
         let held = vec![manifest.root];
@@ -140,15 +140,12 @@ impl Device {
         else {
             return Err(STAGE);
         };
-        let (n, length, i) = (
-            manifest.blocks(),
-            manifest.block_length as usize,
-            number(&message[1..3]) as usize,
-        );
-        refuse_if(flash.len() < manifest.area_length(), AREA)?;
+        let (n, i) = (manifest.blocks(), number(&message[1..3]) as usize);
+        check_flash(manifest, flash)?;
         refuse_if(i != *next, TURN)?;
         refuse_if(message.len() != due_length(manifest, i), LENGTH)?;
-        let (block, labels) = message[3..].split_at(length);
+        let place = manifest.place(i);
+        let (block, labels) = message[3..].split_at(place.len());
         let labels = hashes(labels);
         let computed = labels
             .iter()
@@ -165,7 +162,7 @@ impl Device {
                 held: [&labels, &held[1..]].concat(),
             }
         };
-        let write = Some(((i - 1) * length, block.to_vec()));
+        let write = Some((place.start, block.to_vec()));
         Ok(Effect { stage, write })
     }
 
@@ -179,26 +176,26 @@ impl Device {
         let alike =
             manifest.block_length == old.block_length && manifest.image_length == old.image_length;
         refuse_if(!alike, UNLIKE)?;
-        refuse_if(flash.len() < manifest.area_length(), AREA)?;
+        check_flash(&manifest, flash)?;
         let (n, i) = (manifest.blocks(), number(&message[49..51]) as usize);
         refuse_if(i < 1 || i > n, TURN)?;
-        let length = manifest.block_length as usize;
+        let place = manifest.place(i);
         let by_path = message[0] == 4;
         let depth = if by_path { path(n, i).len() } else { 0 };
-        refuse_if(message.len() < 51 + length + 32 * depth, LENGTH)?;
-        let (block, rest) = message[51..].split_at(length);
+        refuse_if(message.len() < 51 + place.len() + 32 * depth, LENGTH)?;
+        let (block, rest) = message[51..].split_at(place.len());
         let (labels, signature) = rest.split_at(32 * depth);
         let signed = verify(&self.key, &message[1..49], signature);
         refuse_if(!signed, UNSIGNED)?;
-        let start = (i - 1) * length;
+        let start = place.start;
         let new_root = if by_path {
-            let (labels, old_block) = (hashes(labels), &flash[start..start + length]);
+            let (labels, old_block) = (hashes(labels), &flash[place]);
             refuse_if(root_by_path(n, i, old_block, &labels) != old.root, PATH)?;
             root_by_path(n, i, block, &labels)
         } else {
-            let mut area = flash[..manifest.area_length()].to_vec();
-            area[start..start + length].copy_from_slice(block);
-            root(&area, length)
+            let mut image = flash[..manifest.image_length as usize].to_vec();
+            image[place].copy_from_slice(block);
+            root(&image, manifest.block_length as usize)
         };
         refuse_if(new_root != manifest.root, MISMATCH)?;
         Ok(Effect {
@@ -208,9 +205,14 @@ impl Device {
     }
 }
 
-/// "3 + L + 32 × c(i) bytes"
+/// "the area must have T bytes"
+fn check_flash(manifest: &Manifest, flash: &[u8]) -> Outcome<()> {
+    refuse_if(flash.len() < manifest.image_length as usize, AREA)
+}
+
+/// "3 + L + 32 × c(i) bytes", and for the last block its own bytes in the place of L.
 fn due_length(manifest: &Manifest, i: usize) -> usize {
-    3 + manifest.block_length as usize + 32 * siblings(manifest.blocks(), i).len()
+    3 + manifest.place(i).len() + 32 * siblings(manifest.blocks(), i).len()
 }
 
 /// How many hashes are held: it follows from manifest and next number, which must be sound.

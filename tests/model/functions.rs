@@ -1,19 +1,21 @@
 //! The library's other functions against the model: the sender, the digest, the verdict on a
 //! signature.
 
-use crate::capi::{self, Lent, Send};
+use crate::capi::{self, Send};
 use crate::compare::{Compared, same, same_answer};
-use crate::coverage::{Coverage, SENDER, VERIFY};
+use crate::coverage::{Coverage, ROOM, ROOM_BYTE_SHORT, SENDER, VERIFY};
 use crate::craft::wrong_block_length;
 use crate::damage::{damage_byte, signature_fields};
+use crate::lengths;
+use crate::lent::Lent;
 use crate::lms;
-use crate::manifest::{BLOCK_LENGTHS, MOST_BLOCKS, Outcome, UNSIGNED};
+use crate::manifest::{AREA, BLOCK_LENGTHS, MOST_BLOCKS, Outcome, UNSIGNED};
 use crate::rng::Rng;
 use crate::sender::{Order, deliver};
 use crate::sha256::sha256;
 use crate::signer::Signer;
 
-/// An image's length for the block length: mostly up to 40 blocks, at times none; rarely, for it is
+/// An image's length for the block length: mostly up to 20 blocks, at times none; rarely, for it is
 /// slow, up to the most or one byte too long.
 fn image_length(rng: &mut Rng, block_length: usize) -> usize {
     let most = MOST_BLOCKS * block_length;
@@ -22,8 +24,11 @@ fn image_length(rng: &mut Rng, block_length: usize) -> usize {
         1 => most + 1,
         2 => rng.below(most + 1),
         3..=40 => 0,
-        41..=300 => rng.range(1, 40) * block_length,
-        _ => rng.range(1, 40 * block_length),
+        _ => {
+            let more = rng.range(4, 20);
+            let n = rng.pick(&[1, 2, 3, more]);
+            lengths::image_length(rng, block_length, n)
+        }
     }
 }
 
@@ -53,40 +58,46 @@ pub fn sender_call(rng: &mut Rng, coverage: &mut Coverage) -> Compared<()> {
     let any = rng.u32();
     let inside = 1 + any % n.max(1);
     let wrong = rng.pick(&[0, n + 1, any, inside + 65_536]);
-    let number = rng.pick(&[inside, inside, inside, 1, n, wrong, wrong]);
+    let number = rng.pick(&[inside, 1, n, n, n, wrong]);
     // The manifest alone, or a message.
-    let kind = rng.range(0, 4) as u8;
-    let (what, message) = match kind {
-        0 => (Send::Manifest, order.manifest()),
-        1 => (Send::Program(&signature), order.program(&signature)),
-        2 => (Send::Block(number), order.block(number)),
-        _ => (
-            Send::Update(kind, number, &signature),
-            order.update(kind, number, &signature),
-        ),
+    let kind = rng.pick(&[0, 1, 2, 2, 2, 3, 3, 3, 4, 4, 4]);
+    let what = match kind {
+        0 => Send::Manifest,
+        1 => Send::Program(&signature),
+        2 => Send::Block(number),
+        _ => Send::Update(kind as u8, number, &signature),
     };
-    let answer = compare_sender(rng, &order, what, message)
+    let message = sent(&order, what);
+    let due = message.as_ref().map_or(100, Vec::len);
+    let spare = rng.below(100);
+    let (less, more) = (due - 1, due + spare);
+    let room = rng.pick(&[due, due, due, less, less, less, due + 1, more, spare, 0]);
+    let answer = compare_sender(rng, &order, what, message, room)
         .map_err(|e| format!("kind {kind}, L {block_length}, T {length}, number {number}: {e}"))?;
-    coverage.count(SENDER + kind as usize, answer);
+    coverage.count(SENDER + kind, answer);
+    if kind >= 2 && number == n && answer == 0 && room == due {
+        coverage.shape(ROOM + kind - 2, length, block_length as usize);
+    }
+    if kind >= 2 && number == n && answer == AREA && room == due - 1 {
+        coverage.shape(ROOM_BYTE_SHORT + kind - 2, length, block_length as usize);
+    }
     Ok(())
 }
 
-/// Answer, whole buffer and number of written bytes.
-fn compare_sender(
+/// One call into so much room: answer, whole buffer and number of written bytes.
+pub fn compare_sender(
     rng: &mut Rng,
     order: &Order,
     what: Send,
     message: Outcome<Vec<u8>>,
+    room: usize,
 ) -> Compared<u32> {
-    let due = message.as_ref().map_or(100, |m| m.len());
-    let spare = rng.below(100);
-    let room = rng.pick(&[due, due, due + 1, due + spare, due - 1, 0, spare]);
     let mut out = rng.bytes(room);
     let mut library_out = Lent::new(&out);
     let mut written = rng.below(5000);
     let mut library_written = written;
     let answer = deliver(message, &mut out, &mut written);
-    let library = capi::send(order, what, &mut library_out, room, &mut library_written);
+    let library = capi::send(order, what, &mut library_out, &mut library_written);
     same_answer(library, answer)?;
     same("sender's buffer", &library_out, &out)?;
     if library_written != written {
@@ -95,6 +106,16 @@ fn compare_sender(
         ));
     }
     Ok(answer)
+}
+
+/// What the model's sender makes.
+pub fn sent(order: &Order, what: Send) -> Outcome<Vec<u8>> {
+    match what {
+        Send::Manifest => order.manifest(),
+        Send::Program(signature) => order.program(signature),
+        Send::Block(number) => order.block(number),
+        Send::Update(kind, number, signature) => order.update(kind, number, signature),
+    }
 }
 
 /// A digest, at lengths around the ends of blocks more often.

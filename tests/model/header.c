@@ -4,13 +4,15 @@
 #include <stdio.h>
 #include <string.h>
 
-/* Of the program that the sample's signature is over, and of the sample's key. */
-enum { IMAGE_LENGTH = 300, BLOCK_LENGTH = 64, BLOCKS = 5, MODEL = 7, SERIAL = 1, CHAINS = 34, HEIGHT = 5 };
+/* Of the program that the sample's signature is over, and of the sample's key. LAST is the last block's length. */
+enum { IMAGE_LENGTH = 300, BLOCK_LENGTH = 64, BLOCKS = 5, LAST = 44, MODEL = 7, SERIAL = 1, CHAINS = 34, HEIGHT = 5 };
 
 /* The longest, and a byte more. */
 static uint8_t image[LERTXUNO_MAX_BLOCKS * LERTXUNO_MAX_BLOCK_LENGTH + 1];
 static const size_t longest = sizeof image - 1;
-static uint8_t flash[LERTXUNO_FLASH_LENGTH(IMAGE_LENGTH, BLOCK_LENGTH)];
+/* Behind the image a byte of the caller's. */
+enum { BEHIND = 0x5A };
+static uint8_t flash[IMAGE_LENGTH + 1];
 static uint8_t signature[LERTXUNO_MAX_SIGNATURE_LENGTH];
 /* Ample, so that a length that the header has too short is told and not overrun. */
 static uint8_t state[4096], out[8192];
@@ -97,7 +99,7 @@ static void expect_field(const char *what, size_t offset, size_t length, uint32_
     expect(what, in_status, due);
 }
 
-static void fields(size_t stage, size_t next) {
+static void fields(size_t stage, size_t next, size_t serial) {
     expect("status", lertxuno_status(state, LERTXUNO_STATE_LENGTH, status), LERTXUNO_ACCEPTED);
     expect_field("model", LERTXUNO_STATE_MODEL, 4, status[LERTXUNO_STATUS_MODEL], MODEL);
     expect_true("key", memcmp(state + LERTXUNO_STATE_KEY, sample_key, sizeof sample_key) == 0);
@@ -105,33 +107,67 @@ static void fields(size_t stage, size_t next) {
     expect_field("next number", LERTXUNO_STATE_NEXT, 2, status[LERTXUNO_STATUS_NEXT], next);
     expect("block count", status[LERTXUNO_STATUS_BLOCKS], BLOCKS);
     expect_field("block length", LERTXUNO_STATE_MANIFEST + 2, 2, status[LERTXUNO_STATUS_BLOCK_LENGTH], BLOCK_LENGTH);
-    expect_field("serial", LERTXUNO_STATE_MANIFEST + 8, 4, status[LERTXUNO_STATUS_SERIAL], SERIAL);
+    expect_field("serial", LERTXUNO_STATE_MANIFEST + 8, 4, status[LERTXUNO_STATUS_SERIAL], serial);
     expect_field("image length", LERTXUNO_STATE_MANIFEST + 12, 4, status[LERTXUNO_STATUS_IMAGE_LENGTH], IMAGE_LENGTH);
 }
 
 static uint32_t receive(size_t flash_length) { return lertxuno_receive(state, LERTXUNO_STATE_LENGTH, flash, flash_length, out, written); }
 
+/* The message that the sender has just written: refused for a flash of a byte less than the image, then taken. */
+static void taken(const char *what, size_t flash_length) {
+    expect(what, receive(IMAGE_LENGTH - 1), LERTXUNO_AREA);
+    expect(what, receive(flash_length), LERTXUNO_ACCEPTED);
+}
+
+static void expect_flash(void) {
+    expect_true("flash, the image", memcmp(flash, image, IMAGE_LENGTH) == 0);
+    expect("flash, the byte behind the image", flash[IMAGE_LENGTH], BEHIND);
+}
+
+static void block(uint32_t number, size_t flash_length) {
+    size_t due = 0;
+    lertxuno_block(image, IMAGE_LENGTH, BLOCK_LENGTH, number, out, sizeof out, &written);
+    expect_true("block's place in its message", out[LERTXUNO_BLOCK_HEAD] == image[(number - 1) * BLOCK_LENGTH]);
+    expect("length due", lertxuno_block_message_length(state, LERTXUNO_STATE_LENGTH, &due), LERTXUNO_ACCEPTED);
+    expect("length due", due, written);
+    taken("block", flash_length);
+}
+
 /* The sample's program, from a fresh device to a complete one. */
-static void download(void) {
+static void download(size_t flash_length) {
     for (size_t i = 0; i < IMAGE_LENGTH; i++)
         image[i] = (uint8_t)(7 * i + 3);
-    expect("key's length", LERTXUNO_KEY_LENGTH, sizeof sample_key);
-    expect("signature's length", LERTXUNO_SIGNATURE_LENGTH(CHAINS, HEIGHT), sizeof sample_signature);
-    expect("image's blocks", LERTXUNO_BLOCKS(IMAGE_LENGTH, BLOCK_LENGTH), BLOCKS);
+    memset(flash, BEHIND, sizeof flash);
     lertxuno_fresh(MODEL, sample_key, state);
     lertxuno_program(image, IMAGE_LENGTH, BLOCK_LENGTH, MODEL, SERIAL, sample_signature, sizeof sample_signature, out, sizeof out, &written);
-    expect("flash of a byte less", receive(sizeof flash - 1), LERTXUNO_AREA);
-    expect("new program", receive(sizeof flash), LERTXUNO_ACCEPTED);
-    fields(LERTXUNO_LOADING, 1);
+    taken("new program", flash_length);
+    fields(LERTXUNO_LOADING, 1, SERIAL);
     /* The only hash held is the root, the manifest's last field. */
     expect_true("held root", memcmp(state + LERTXUNO_STATE_LENGTH - LERTXUNO_HASH_LENGTH, state + LERTXUNO_STATE_HASHES - LERTXUNO_HASH_LENGTH,
                                     LERTXUNO_HASH_LENGTH) == 0);
-    for (uint32_t number = 1; number <= BLOCKS; number++) {
-        lertxuno_block(image, IMAGE_LENGTH, BLOCK_LENGTH, number, out, sizeof out, &written);
-        expect_true("block's place in its message", out[LERTXUNO_BLOCK_HEAD] == image[(number - 1) * BLOCK_LENGTH]);
-        expect("block", receive(sizeof flash), LERTXUNO_ACCEPTED);
-    }
-    fields(LERTXUNO_COMPLETE, 0);
+    for (uint32_t number = 1; number <= BLOCKS; number++)
+        block(number, flash_length);
+    expect("last block's message", written, LERTXUNO_BLOCK_HEAD + LAST);
+    fields(LERTXUNO_COMPLETE, 0, SERIAL);
+    expect_flash();
+}
+
+typedef uint32_t sender_update(const uint8_t *, size_t, uint32_t, uint32_t, uint32_t, uint32_t, const uint8_t *, size_t, uint8_t *, size_t, size_t *);
+
+/* The sample's update, of the last block; `hashes` are those that its message has. */
+static void update(sender_update *sender, size_t hashes, size_t flash_length) {
+    const size_t least = LERTXUNO_UPDATE_HEAD + LAST + hashes * LERTXUNO_HASH_LENGTH;
+    image[IMAGE_LENGTH - 1] ^= 1;
+    sender(image, IMAGE_LENGTH, BLOCK_LENGTH, MODEL, SERIAL + 1, BLOCKS, sample_update_signature, sizeof sample_update_signature, out, sizeof out, &written);
+    expect("update's length", written, least + sizeof sample_update_signature);
+    written = least - 1;
+    expect("update without its last hash or byte", receive(flash_length), LERTXUNO_LENGTH);
+    written = least;
+    expect("update without signature", receive(flash_length), LERTXUNO_UNSIGNED);
+    written = least + sizeof sample_update_signature;
+    taken("update", flash_length);
+    fields(LERTXUNO_COMPLETE, 0, SERIAL + 1);
+    expect_flash();
 }
 
 int main(void) {
@@ -139,6 +175,12 @@ int main(void) {
     limits();
     longest_messages();
     state_length();
-    download();
+    expect("key's length", LERTXUNO_KEY_LENGTH, sizeof sample_key);
+    expect("signature's length", LERTXUNO_SIGNATURE_LENGTH(CHAINS, HEIGHT), sizeof sample_signature);
+    expect("image's blocks", LERTXUNO_BLOCKS(IMAGE_LENGTH, BLOCK_LENGTH), BLOCKS);
+    download(IMAGE_LENGTH);
+    update(lertxuno_update, 0, IMAGE_LENGTH);
+    download(sizeof flash);
+    update(lertxuno_path_update, 1, sizeof flash);
     return wrong;
 }

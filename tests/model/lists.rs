@@ -1,103 +1,20 @@
-//! Random lists of messages to the library's device and to the model's; after every call answer,
-//! state and flash are compared, and what both read off the state.
+//! Random lists of messages to the library's device and to the model's.
 
 use std::collections::HashMap;
 
-use crate::capi::{self, Lent};
-use crate::compare::{Compared, same, same_answer};
+use crate::compare::Compared;
 use crate::coverage::{ALTERED, Coverage};
 use crate::craft::Author;
-use crate::damage::{damage, damage_state, noise, resize};
+use crate::damage::{damage, noise, resize};
 use crate::device::{Device, Stage};
-use crate::layout::{self, MANIFEST_AT, STAGE_AT, STATE_LENGTH};
+use crate::ends::subject;
+use crate::layout::STAGE_AT;
 use crate::lms::number;
 use crate::manifest::Manifest;
+use crate::pair::Pair;
 use crate::plan::Plan;
-use crate::readers;
 use crate::rng::Rng;
 use crate::signer::Signer;
-
-/// Both devices, each with its own state and flash.
-#[derive(Clone)]
-struct Pair {
-    library_state: Lent,
-    library_flash: Lent,
-    state: Vec<u8>,
-    flash: Vec<u8>,
-}
-
-impl Pair {
-    /// A fresh device. What the header leaves free in its state is taken from the library.
-    fn fresh(rng: &mut Rng, model: u32, key: &[u8], flash_length: usize) -> Compared<Pair> {
-        let mut library_state = Lent::new(&rng.bytes(STATE_LENGTH));
-        capi::fresh(model, key.try_into().unwrap(), &mut library_state);
-        let mut state = layout::fresh(model, key);
-        state.extend(&library_state.bytes()[MANIFEST_AT..]);
-        same("fresh state", &library_state, &state)?;
-        let flash = rng.bytes(flash_length);
-        Ok(Pair {
-            library_flash: Lent::new(&flash),
-            library_state,
-            state,
-            flash,
-        })
-    }
-
-    fn call(&mut self, message: &[u8], coverage: &mut Coverage) -> Compared<u32> {
-        let answer = layout::receive(&mut self.state, &mut self.flash, message);
-        let library = capi::receive(&mut self.library_state, &mut self.library_flash, message);
-        same_answer(library, answer)?;
-        same("state", &self.library_state, &self.state)?;
-        same("flash", &self.library_flash, &self.flash)?;
-        readers::compare(&self.state, coverage)?;
-        Ok(answer)
-    }
-
-    fn device(&self) -> Device {
-        layout::read(&self.state).expect("fresh, or left by an accepted message")
-    }
-
-    /// Whether the message would be accepted now.
-    fn takes(&self, message: &[u8]) -> bool {
-        self.device().receive(&self.flash, message).is_ok()
-    }
-
-    /// The same pair with another state, another flash length or both.
-    fn changed(&self, rng: &mut Rng) -> Pair {
-        let mut other = self.clone();
-        let what = rng.below(10);
-        if what < 4 {
-            // The length that the stage asks for, or one byte less, or any.
-            let device = self.device();
-            let due = device
-                .manifest()
-                .map_or(self.flash.len(), Manifest::area_length);
-            let edges = [0, due.saturating_sub(1), due, rng.below(due + 1)];
-            other.flash.truncate(rng.pick(&edges));
-            other.library_flash = Lent::new(&other.flash);
-        }
-        if what >= 3 {
-            damage_state(rng, &mut other.state);
-            other.library_state = Lent::new(&other.state);
-        }
-        other
-    }
-
-    /// The same pair after somebody else wrote to the program's part of the flash: to the block
-    /// that an update names, or to any.
-    fn altered(&self, rng: &mut Rng, message: &[u8]) -> Pair {
-        let mut other = self.clone();
-        if let Some(manifest) = self.device().manifest() {
-            let (n, length) = (manifest.blocks(), manifest.block_length as usize);
-            let named = message.get(49..51).map_or(0, number) as usize;
-            let any = rng.range(1, n);
-            let i = rng.pick(&[any, named]).clamp(1, n);
-            other.flash[(i - 1) * length + rng.below(length)] ^= 1 << rng.below(8);
-            other.library_flash = Lent::new(&other.flash);
-        }
-        other
-    }
-}
 
 /// One list of messages.
 pub struct List<'a> {
@@ -155,9 +72,16 @@ impl<'a> List<'a> {
     }
 
     fn call(&mut self, message: &[u8], coverage: &mut Coverage) -> Compared<u32> {
-        let rng = &mut self.author.rng;
-        if !rng.percent(self.author.plan.aside) {
-            return self.pair.call(message, coverage);
+        let (rng, plan) = (&mut self.author.rng, &self.author.plan);
+        if !rng.percent(plan.aside) {
+            let tight = rng.percent(plan.tight);
+            return match subject(&self.pair.device(), message) {
+                Some((manifest, _)) if tight => {
+                    let length = manifest.image_length as usize - rng.one_in(5) as usize;
+                    self.pair.call_within(length, message, coverage)
+                }
+                _ => self.pair.call(message, coverage),
+            };
         }
         let altered = rng.one_in(3);
         let mut other = if altered {
@@ -174,7 +98,7 @@ impl<'a> List<'a> {
         if answer == 0
             && other.state[..STAGE_AT] == self.pair.state[..STAGE_AT]
             && other.flash.len() == self.pair.flash.len()
-            && rng.percent(self.author.plan.followed)
+            && rng.percent(plan.followed)
         {
             self.pair = other;
         }

@@ -4,10 +4,9 @@
 use crate::device::Stage;
 use crate::layout::{STATE_LENGTH, fresh, read, receive};
 use crate::lms::{KEY_LENGTH, number};
-use crate::tree::siblings;
 
 pub const LARGEST_BUNDLE: usize = 65_536;
-const FLASH_LENGTH: usize = 65_536;
+pub const FLASH_LENGTH: usize = 65_536;
 
 struct Run {
     state: Vec<u8>,
@@ -24,11 +23,9 @@ impl Run {
 
     /// The next block's number, and its message's due length.
     fn due(&self) -> Option<(usize, usize)> {
-        match read(&self.state).expect("the device's own state").stage {
-            Stage::Loading { manifest, next, .. } => {
-                let labels = siblings(manifest.blocks(), next).len();
-                Some((next, 3 + manifest.block_length as usize + 32 * labels))
-            }
+        let device = read(&self.state).expect("the device's own state");
+        match device.stage {
+            Stage::Loading { next, .. } => device.due_length().ok().map(|length| (next, length)),
             _ => None,
         }
     }

@@ -1,5 +1,6 @@
-//! The C library and the loader against a model written from the papers alone: random lists of
-//! messages, what is read off each state, sender calls, digests, verdicts and bundles.
+//! The C library and the loader against a model written from the papers alone: the image's end by
+//! hand, and random lists of messages, what is read off each state, sender calls, digests, verdicts
+//! and bundles.
 //!
 //! `model [CALLS [SEED]]`: CALLS messages to devices (200,000 if not given), and of the other calls
 //! a share of it.
@@ -11,12 +12,17 @@ mod coverage;
 mod craft;
 mod damage;
 mod device;
+mod ends;
 mod functions;
+mod handmade;
 mod layout;
+mod lengths;
+mod lent;
 mod lists;
 mod lms;
 mod loader;
 mod manifest;
+mod pair;
 mod plan;
 mod readers;
 mod rfc8554;
@@ -28,17 +34,23 @@ mod signer;
 mod tree;
 
 use std::collections::BTreeMap;
+use std::sync::atomic::{AtomicU64, Ordering};
 use std::time::{SystemTime, UNIX_EPOCH};
 
 use bundles::Bundles;
 use compare::Compared;
 use coverage::Coverage;
+use handmade::Case;
 use lists::List;
+use manifest::BLOCK_LENGTHS;
 use rng::Rng;
 use signer::Signer;
 
 /// One list in so many has a large image.
 const LARGE: u64 = 300;
+
+/// All comparisons so far, for a call that never comes back.
+static COMPARED: AtomicU64 = AtomicU64::new(0);
 
 /// With so many calls every case is sure to occur; with fewer a rare one may not.
 const ENOUGH: u64 = 100_000;
@@ -61,6 +73,12 @@ fn signers(seed: u64) -> Vec<[Signer; 2]> {
         .collect()
 }
 
+extern "C" fn fault(_: i32) {
+    let number = COMPARED.load(Ordering::Relaxed) + 1;
+    println!("DIFFERENCE in comparison {number}: memory touched that was not lent");
+    std::process::exit(1);
+}
+
 impl Test<'_> {
     fn self_test(&mut self) {
         for (index, (what, holds)) in selftest::run().into_iter().enumerate() {
@@ -72,6 +90,7 @@ impl Test<'_> {
     /// Counts one comparison; the first difference is printed with all that is needed to see it
     /// again.
     fn record(&mut self, group: &str, list: u64, index: usize, result: Compared<()>) -> bool {
+        COMPARED.fetch_add(1, Ordering::Relaxed);
         match &result {
             Ok(()) => self.passed += 1,
             Err(what) => {
@@ -87,8 +106,30 @@ impl Test<'_> {
         result.is_ok()
     }
 
+    /// The image's end, with the library's device and sender and with the loader.
+    fn by_hand(&mut self) {
+        let bundles = Bundles::new();
+        let signer = &self.signers[0][0];
+        let mut rng = Rng::new(self.seed, u64::MAX - 2);
+        let result = handmade::one_byte(Rng::new(self.seed, u64::MAX - 3), signer);
+        self.record("one byte by hand", 0, 0, result);
+        for (index, length) in BLOCK_LENGTHS.into_iter().enumerate() {
+            let result = bundles.longest_images(&mut rng, signer, length as usize);
+            self.record("longest images by hand", 0, index, result);
+        }
+        for (index, image) in handmade::images(&mut rng).into_iter().enumerate() {
+            let (length, block_length) = (image.bytes.len(), image.block_length);
+            let named = |e| format!("L {block_length}, T {length}: {e}");
+            let result = bundles.last_blocks(&mut rng, signer, &image);
+            self.record("loader by hand", 0, index, result.map_err(named));
+            let case_rng = Rng::new(self.seed, rng.next());
+            let result = Case::new(case_rng, signer, image).run();
+            self.record("device by hand", 0, index, result.map_err(named));
+        }
+    }
+
     /// At most so many messages of a list. It ends at its first difference: behind it the two
-    /// devices are no longer in the same state.
+    /// devices are in different states.
     fn list(&mut self, number: u64, most: u64) {
         let large = number % LARGE == 7;
         let mut list = match List::new(Rng::new(self.seed, number), self.signers, large) {
@@ -115,13 +156,16 @@ impl Test<'_> {
                 number += 1;
                 self.list(number, end - self.passed);
             }
-            println!("{number} lists, {} messages to devices", self.passed - begin);
+            println!(
+                "{number} lists, {} messages to devices",
+                self.passed - begin
+            );
         }
     }
 
     fn functions(&mut self, calls: u64) {
         let mut rng = Rng::new(self.seed, u64::MAX);
-        for index in 0..calls as usize / 4 {
+        for index in 0..calls as usize / 3 {
             let result = functions::sender_call(&mut rng, &mut self.coverage);
             self.record("sender", 0, index, result);
         }
@@ -143,7 +187,7 @@ impl Test<'_> {
         let bundles = Bundles::new();
         for index in 0..runs as usize {
             let signer = &self.signers[index % self.signers.len()][0];
-            let result = bundles.run(&mut rng, signer);
+            let result = bundles.random(&mut rng, signer);
             if let Ok(end) = &result {
                 *self.bundle_ends.entry(end.clone()).or_default() += 1;
             }
@@ -188,7 +232,10 @@ fn main() {
         passed: 0,
         failed: 0,
     };
+    lent::on_fault(fault);
     test.self_test();
+    println!("the image's end");
+    test.by_hand();
     test.lists(calls);
     println!("sender, digest, verdict");
     test.functions(calls);

@@ -1,6 +1,8 @@
 //! Document 01, the slip of 48 bytes (here: the manifest), and the refusals that follow from it
 //! alone: 4 and 5.
 
+use std::ops::Range;
+
 use crate::lms::number;
 use crate::sha256::Hash;
 
@@ -69,8 +71,16 @@ impl Manifest {
         (self.image_length as usize).div_ceil(self.block_length as usize)
     }
 
-    pub fn area_length(&self) -> usize {
-        self.blocks() * self.block_length as usize
+    /// Where block i stands in the image, and in the flash. "The last block ends with the image",
+    /// after T - (n - 1) × L bytes; all others have L.
+    pub fn place(&self, i: usize) -> Range<usize> {
+        let length = self.block_length as usize;
+        let end = if i == self.blocks() {
+            self.image_length as usize
+        } else {
+            i * length
+        };
+        (i - 1) * length..end
     }
 
     pub fn check_version(&self) -> Outcome<()> {

@@ -1,5 +1,6 @@
 //! How a random list is made up: the flash, the images, and how often things go wrong.
 
+use crate::lengths::{blocks, image_length};
 use crate::manifest::{BLOCK_LENGTHS, MOST_BLOCKS};
 use crate::rng::Rng;
 
@@ -9,14 +10,18 @@ pub struct Plan {
     /// The images' block lengths, and their most blocks.
     pub block_lengths: Vec<u32>,
     pub most_blocks: usize,
-    /// Percent of new images that fill the flash.
-    pub filling: usize,
+    /// Percent of new images that are as long as the flash.
+    pub exact: usize,
+    /// Percent of new programs whose root is that of the padded image.
+    pub padded: usize,
     /// Percent of messages that fit the stage.
     pub honest: usize,
     /// Percent of these that begin a new program while loading.
     pub restarts: usize,
     /// Percent of these that are updates of a complete program.
     pub updates: usize,
+    /// Percent of calls that are lent the image's part of the flash alone, or a byte less.
+    pub tight: usize,
     /// Percent of calls that go to a changed copy of the device.
     pub aside: usize,
     /// Percent of accepted ones among these from which the list goes on.
@@ -25,23 +30,23 @@ pub struct Plan {
 
 impl Plan {
     pub fn small(rng: &mut Rng) -> Plan {
-        let block_length = rng.pick(&BLOCK_LENGTHS) as usize;
-        let exact = rng.range(1, 40) * block_length;
-        let extra = rng.pick(&[0, 0, 1, 63, 64, 1000]);
-        let short = rng.one_in(10);
+        let own = rng.pick(&BLOCK_LENGTHS);
+        let (usual, any) = (blocks(rng, 40), rng.range(4, 40));
+        let n = rng.pick(&[usual, usual, any]);
+        let length = image_length(rng, own as usize, n);
+        // Too short by a byte, just right, or longer.
+        let extra = rng.pick(&[-1, 0, 0, 0, 0, 1, 63, 1000]);
         Plan {
             calls: rng.range(20, 140),
-            flash_length: if short {
-                exact.saturating_sub(extra)
-            } else {
-                exact + extra
-            },
-            block_lengths: BLOCK_LENGTHS.to_vec(),
+            flash_length: length.saturating_add_signed(extra),
+            block_lengths: [[own; 5], BLOCK_LENGTHS].concat(),
             most_blocks: 40,
-            filling: 30,
+            exact: 30,
+            padded: rng.pick(&[0, 5, 20]),
             honest: rng.pick(&[100, 85, 60, 30]),
             restarts: 2,
             updates: 80,
+            tight: rng.pick(&[0, 50]),
             aside: rng.pick(&[0, 20, 50]),
             followed: 33,
         }
@@ -56,13 +61,15 @@ impl Plan {
         let block_length = rng.pick(&[64, 64, 64, 128, 1024]);
         Plan {
             calls: n + n / 50 + 10,
-            flash_length: n * block_length + rng.pick(&[0, 1]),
+            flash_length: image_length(rng, block_length, n) + rng.pick(&[0, 1]),
             block_lengths: vec![block_length as u32],
             most_blocks: MOST_BLOCKS,
-            filling: 95,
+            exact: 95,
+            padded: 0,
             honest: rng.pick(&[99, 100]),
             restarts: 0,
             updates: 90,
+            tight: 0,
             aside: 1,
             followed: 0,
         }

@@ -30,7 +30,7 @@ fn main() -> std::io::Result<()> {
     let folder = std::env::args().nth(1).expect("a folder");
     let image: Vec<u8> = (0..300u32).map(|i| (7 * i + 3) as u8).collect();
     let mut updated = image.clone();
-    updated[2 * BLOCK_LENGTH as usize] ^= 1;
+    *updated.last_mut().expect("a byte") ^= 1;
     let mut rng = rng::Rng::new(1, 0);
     let signer = signer::Signer::new(&mut rng, 5, 4);
     let mut sign = |image: &[u8], serial: u32| {

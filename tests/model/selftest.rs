@@ -1,11 +1,13 @@
 //! The model against values known from outside, before it judges anything: FIPS 180-4's examples,
-//! two signatures of RFC 8554's appendix F, and the counts that document 01 works out by hand. And
-//! paths, against the tree.
+//! two signatures of RFC 8554's appendix F, and the counts and lengths that document 01 works out
+//! by hand. And paths and the last block, against the tree.
 
 use crate::lms::verify;
+use crate::manifest::check_size;
 use crate::rfc8554::CASES;
+use crate::sender::block_message;
 use crate::sha256::sha256;
-use crate::tree::{cover, path, root, root_by_path, siblings};
+use crate::tree::{block, cover, parent, path, root, root_by_path, siblings};
 
 fn unhex(text: &str) -> Vec<u8> {
     let digits: Vec<u8> = text
@@ -61,15 +63,45 @@ fn counts() -> bool {
         && held(3) == [1, 2, 1, 0]
 }
 
+/// Of the block messages with L = 256; and the limits of T.
+fn lengths() -> bool {
+    let of = |length: usize| -> Vec<usize> {
+        let message = |i| block_message(&vec![0; length], 256, i);
+        (1..=length.div_ceil(256))
+            .map(|i| message(i).len())
+            .collect()
+    };
+    of(256) == [259]
+        && of(257) == [291, 4]
+        && of(2048)[..2] == [355, 259]
+        && of(2048).iter().sum::<usize>() == 2296
+        && of(2047)[7] == 258
+        && check_size(1_048_576, 256).is_ok()
+        && check_size(1_048_577, 256).is_err()
+}
+
+/// It has the bytes that are left, and its label is over those.
+fn last_block() -> bool {
+    let image = [7; 129];
+    let (whole, one, less) = (sha256(&[7; 64]), sha256(&[7]), sha256(&[7; 63]));
+    block(&image, 64, 3) == [7]
+        && root(&image[..1], 64) == one
+        && root(&image[..63], 64) == less
+        && root(&image[..64], 64) == whole
+        && root(&image[..65], 64) == parent(&whole, &one)
+        && root(&image[..127], 64) == parent(&whole, &less)
+        && root(&image[..128], 64) == parent(&whole, &whole)
+        && root(&image, 64) == parent(&parent(&whole, &whole), &one)
+}
+
 /// The leaves' depths, read off the tree's figure for n = 3 and off the rule for others; and that
 /// each block of small trees leads to the root.
 fn paths() -> bool {
     let depths = |n| -> Vec<usize> { (1..=n).map(|i| path(n, i).len()).collect() };
-    let blocks = |n: usize| (1..=n).map(|i| vec![i as u8; 64]).collect::<Vec<_>>();
     let leads = |n: usize, i: usize| {
-        let area = blocks(n).concat();
-        let hashes: Vec<_> = path(n, i).iter().map(|s| s.hash(&area, 64)).collect();
-        root_by_path(n, i, &blocks(n)[i - 1], &hashes) == root(&area, 64)
+        let image: Vec<u8> = (0..64 * n - 5).map(|at| (at / 64) as u8).collect();
+        let hashes: Vec<_> = path(n, i).iter().map(|s| s.hash(&image, 64)).collect();
+        root_by_path(n, i, block(&image, 64, i), &hashes) == root(&image, 64)
     };
     depths(1) == [0]
         && depths(3) == [2, 2, 1]
@@ -79,11 +111,13 @@ fn paths() -> bool {
         && (1..=17).all(|n| (1..=n).all(|i| leads(n, i)))
 }
 
-pub fn run() -> [(&'static str, bool); 4] {
+pub fn run() -> [(&'static str, bool); 6] {
     [
         ("digests", digests()),
         ("signatures", signatures()),
         ("counts", counts()),
+        ("lengths", lengths()),
+        ("last block", last_block()),
         ("paths", paths()),
     ]
 }

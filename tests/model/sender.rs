@@ -1,9 +1,9 @@
-//! Document 01 and change 1, the sender: the bare manifest and the messages of each kind. It refuses
-//! 5, 11, 8 in this order.
+//! Document 01 and changes 1 and 2, the sender: the bare manifest and the messages of each kind.
+//! It refuses 5, 11, 8 in this order.
 
 use crate::manifest::{AREA, Manifest, Outcome, TURN, check_size, refuse_if};
 use crate::sha256::Hash;
-use crate::tree::{path, root, siblings};
+use crate::tree::{block, path, root, siblings};
 
 /// What the sender is given for every message.
 #[derive(Clone, Copy)]
@@ -15,14 +15,6 @@ pub struct Order<'a> {
 }
 
 impl Order<'_> {
-    /// The image's blocks, the last one filled with 0xFF.
-    pub fn filled(&self) -> Vec<u8> {
-        let length = self.block_length as usize;
-        let mut area = self.image.to_vec();
-        area.resize(self.image.len().div_ceil(length) * length, 0xff);
-        area
-    }
-
     fn check_number(&self, number: u32) -> Outcome<()> {
         let n = self.image.len().div_ceil(self.block_length as usize);
         refuse_if(number < 1 || number as usize > n, TURN)
@@ -36,7 +28,7 @@ impl Order<'_> {
             model: self.model,
             serial: self.serial,
             image_length: self.image.len() as u32,
-            root: root(&self.filled(), self.block_length as usize),
+            root: root(self.image, self.block_length as usize),
         };
         Ok(manifest.bytes())
     }
@@ -48,19 +40,16 @@ impl Order<'_> {
     pub fn block(&self, number: u32) -> Outcome<Vec<u8>> {
         check_size(self.image.len(), self.block_length)?;
         self.check_number(number)?;
-        Ok(block_message(
-            &self.filled(),
-            self.block_length as usize,
-            number as usize,
-        ))
+        let length = self.block_length as usize;
+        Ok(block_message(self.image, length, number as usize))
     }
 
     /// Kind 3 or 4.
     pub fn update(&self, kind: u8, number: u32, signature: &[u8]) -> Outcome<Vec<u8>> {
         let manifest = self.manifest()?;
         self.check_number(number)?;
-        let (area, length) = (self.filled(), self.block_length as usize);
-        let change = Change::new(kind, &area, length, number as usize);
+        let length = self.block_length as usize;
+        let change = Change::new(kind, self.image, length, number as usize);
         Ok(update_message(&manifest, &change, signature))
     }
 }
@@ -75,17 +64,17 @@ pub struct Change {
 }
 
 impl Change {
-    /// Block i as it is in this area.
-    pub fn new(kind: u8, area: &[u8], block_length: usize, i: usize) -> Change {
-        let mut path = path(area.len() / block_length, i);
+    /// Block i as it is in this image.
+    pub fn new(kind: u8, image: &[u8], block_length: usize, i: usize) -> Change {
+        let mut path = path(image.len().div_ceil(block_length), i);
         if kind == 3 {
             path.clear();
         }
         Change {
             kind,
             number: i as u16,
-            block: area[(i - 1) * block_length..i * block_length].to_vec(),
-            hashes: path.iter().map(|s| s.hash(area, block_length)).collect(),
+            block: block(image, block_length, i).to_vec(),
+            hashes: path.iter().map(|s| s.hash(image, block_length)).collect(),
         }
     }
 }
@@ -94,12 +83,12 @@ pub fn program_message(manifest: &[u8], signature: &[u8]) -> Vec<u8> {
     [&[1], manifest, signature].concat()
 }
 
-pub fn block_message(area: &[u8], block_length: usize, i: usize) -> Vec<u8> {
+pub fn block_message(image: &[u8], block_length: usize, i: usize) -> Vec<u8> {
     let mut out = vec![2];
     out.extend((i as u16).to_be_bytes());
-    out.extend(&area[(i - 1) * block_length..i * block_length]);
-    for sibling in siblings(area.len() / block_length, i) {
-        out.extend(sibling.hash(area, block_length));
+    out.extend(block(image, block_length, i));
+    for sibling in siblings(image.len().div_ceil(block_length), i) {
+        out.extend(sibling.hash(image, block_length));
     }
     out
 }

@@ -1,5 +1,6 @@
 //! Document 01, "Tree and labels": the tree over the blocks, what block message i carries and what
-//! the device holds; and 02's path from a block to the root. A label is a hash here.
+//! the device holds; and 02's path from a block to the root, and last block, which ends with the
+//! image. A label is a hash here.
 //!
 //! All is worked out by walking the tree as it is defined, never by a formula over block numbers.
 //! Blocks count from 1.
@@ -28,16 +29,15 @@ impl Subtree {
         (left, right)
     }
 
-    /// Its hash; `area` holds all blocks of the image.
-    pub fn hash(self, area: &[u8], block_length: usize) -> Hash {
+    /// Its hash in the tree over this image, or over as many bytes of the flash.
+    pub fn hash(self, image: &[u8], block_length: usize) -> Hash {
         if self.count == 1 {
-            let start = (self.first - 1) * block_length;
-            return sha256(&area[start..start + block_length]);
+            return sha256(block(image, block_length, self.first));
         }
         let (left, right) = self.halves();
         parent(
-            &left.hash(area, block_length),
-            &right.hash(area, block_length),
+            &left.hash(image, block_length),
+            &right.hash(image, block_length),
         )
     }
 }
@@ -50,8 +50,15 @@ pub fn whole(n: usize) -> Subtree {
     Subtree { first: 1, count: n }
 }
 
-pub fn root(area: &[u8], block_length: usize) -> Hash {
-    whole(area.len() / block_length).hash(area, block_length)
+/// Block i: the image is cut every L bytes, and the last block has the bytes that are left.
+pub fn block(image: &[u8], block_length: usize, i: usize) -> &[u8] {
+    let mut blocks = image.chunks(block_length);
+    blocks.nth(i - 1).expect("a block of the image")
+}
+
+pub fn root(image: &[u8], block_length: usize) -> Hash {
+    let n = image.len().div_ceil(block_length);
+    whole(n).hash(image, block_length)
 }
 
 /// The right siblings from block i up to the root of the largest subtree that begins with it,
