@@ -1,4 +1,4 @@
-/* A download and an update, both sides in one program: the sender makes a bundle of all messages, and the device takes it block by block, then a new block.
+/* A download and an update, both sides in one program: the sender makes a bundle of all messages, and the device takes it block by block, then a new last one.
  *
  *     rt staticlib capi
  *     gcc -Wall -Wextra -Werror -Iinclude -o target/download examples/download.c target/staticlib/libcapi.a
@@ -10,7 +10,8 @@
 #include <stdlib.h>
 #include <string.h>
 
-enum { IMAGE_LENGTH = 300, BLOCK_LENGTH = 64, BLOCKS = LERTXUNO_BLOCKS(IMAGE_LENGTH, BLOCK_LENGTH), MODEL = 7, SERIAL = 1, UPDATED = 3 };
+/* Five blocks; the last one has 44 bytes. */
+enum { IMAGE_LENGTH = 300, BLOCK_LENGTH = 64, BLOCKS = LERTXUNO_BLOCKS(IMAGE_LENGTH, BLOCK_LENGTH), MODEL = 7, SERIAL = 1 };
 
 static uint8_t image[IMAGE_LENGTH];
 
@@ -19,9 +20,11 @@ static uint8_t image[IMAGE_LENGTH];
 static uint8_t bundle[4096];
 static size_t starts[BLOCKS + 2];
 
-/* What the device keeps: in a drive, a page of its own and the program memory. */
+/* What the device keeps: in a drive, a page of its own and the program memory. Straight behind the program this one has travel heights, which are no part of
+ * any image: it lends the bytes before them and no more, so that a program too long for these is refused (8, area). */
+static const uint8_t heights[] = {72, 105, 118};
 static uint8_t state[LERTXUNO_STATE_LENGTH];
-static uint8_t flash[LERTXUNO_FLASH_LENGTH(IMAGE_LENGTH, BLOCK_LENGTH)];
+static uint8_t flash[IMAGE_LENGTH + sizeof heights];
 
 static void expect(const char *what, uint32_t answer, uint32_t due) {
     printf("%-24s %u %s\n", what, (unsigned)answer, lertxuno_refusal_word(answer));
@@ -58,7 +61,7 @@ static void make_bundle(void) {
 
 /* The device's side. */
 
-static uint32_t take(const uint8_t *message, size_t length) { return lertxuno_receive(state, sizeof state, flash, sizeof flash, message, length); }
+static uint32_t take(const uint8_t *message, size_t length) { return lertxuno_receive(state, sizeof state, flash, IMAGE_LENGTH, message, length); }
 
 static uint32_t receive(uint32_t i) { return take(bundle + starts[i], starts[i + 1] - starts[i]); }
 
@@ -86,16 +89,16 @@ static void take_block(uint32_t i) {
     expect("device, the same again", receive(i), (uint32_t)(i + 1 < BLOCKS ? LERTXUNO_TURN : LERTXUNO_STAGE));
 }
 
-/* One byte of block UPDATED changes. The device reads that block of its flash, and no other. */
+/* The image's last byte changes, and so its last block. The device reads that block of its flash, and no other. */
 static void update(void) {
     uint8_t message[LERTXUNO_MAX_PATH_UPDATE_LENGTH];
     size_t length;
-    image[(UPDATED - 1) * BLOCK_LENGTH] ^= 1;
-    expect("sender, path update", lertxuno_path_update(image, sizeof image, BLOCK_LENGTH, MODEL, SERIAL + 1, UPDATED, sample_update_signature,
+    image[IMAGE_LENGTH - 1] ^= 1;
+    expect("sender, path update", lertxuno_path_update(image, sizeof image, BLOCK_LENGTH, MODEL, SERIAL + 1, BLOCKS, sample_update_signature,
                                                        sizeof sample_update_signature, message, sizeof message, &length), LERTXUNO_ACCEPTED);
     expect("device, path update", take(message, length), LERTXUNO_ACCEPTED);
     /* The same as kind 3, for which a device reads its whole flash. This one has that serial already, and does not come so far. */
-    expect("sender, update", lertxuno_update(image, sizeof image, BLOCK_LENGTH, MODEL, SERIAL + 1, UPDATED, sample_update_signature,
+    expect("sender, update", lertxuno_update(image, sizeof image, BLOCK_LENGTH, MODEL, SERIAL + 1, BLOCKS, sample_update_signature,
                                              sizeof sample_update_signature, message, sizeof message, &length), LERTXUNO_ACCEPTED);
     expect("device, the same again", take(message, length), LERTXUNO_SERIAL);
 }
@@ -103,6 +106,7 @@ static void update(void) {
 int main(void) {
     for (unsigned i = 0; i < sizeof image; i++)
         image[i] = (uint8_t)(7 * i + 3);
+    memcpy(flash + IMAGE_LENGTH, heights, sizeof heights);
     sign();
     make_bundle();
     lertxuno_fresh(MODEL, sample_key, state);
@@ -112,8 +116,8 @@ int main(void) {
         take_block(i);
     report(LERTXUNO_COMPLETE, 0);
     update();
-    if (memcmp(flash, image, sizeof image) != 0)
+    if (memcmp(flash, image, sizeof image) != 0 || memcmp(flash + IMAGE_LENGTH, heights, sizeof heights) != 0)
         return 1;
-    puts("the flash begins with the image");
+    puts("the flash has the image, and behind it the travel heights as before");
     return 0;
 }
