@@ -8,8 +8,9 @@ use crate::sha256::sha256;
 use crate::tree::{path, root};
 
 /// The flash against T, for any message; and, where the last block is shorter than L, what a message
-/// of it carries: its own bytes, L of them, or another number. The hash that the device compares is
-/// over the own bytes, or over the block padded to L bytes, which nothing makes right.
+/// of it carries: its own bytes, L of them, or another number; and how it is cut. The hash that the
+/// device compares is over the own bytes, or over the block padded to L bytes, which nothing makes
+/// right.
 #[derive(Clone, Copy)]
 pub enum End {
     FlashByteShort,
@@ -22,10 +23,11 @@ pub enum End {
     ByteLess,
     ByteMore,
     NoSignature,
+    SignedByteLess,
 }
 
 /// By case: its name, and each kind that it must occur with, with the answer that is then due.
-pub const ENDS: [(&str, &[(usize, u32)]); 10] = [
+pub const ENDS: [(&str, &[(usize, u32)]); 11] = [
     ("flash T - 1", &[(1, 8), (2, 8), (3, 8), (4, 8)]),
     ("flash T", &[(1, 0), (2, 0), (3, 0), (4, 0)]),
     ("flash up to n x L", &[(1, 0), (2, 0), (3, 0), (4, 0)]),
@@ -36,6 +38,7 @@ pub const ENDS: [(&str, &[(usize, u32)]); 10] = [
     ("a byte less", &[(2, 12), (3, 12), (4, 12)]),
     ("a byte more", &[(2, 12)]),
     ("no signature", &[(3, 9), (4, 9)]),
+    ("signed, less 1", &[(3, 9), (4, 9)]),
 ];
 
 /// One message to a device that makes sense, and the answer.
@@ -108,15 +111,16 @@ impl Call<'_> {
         let head = if kind == 2 { 3 } else { 51 };
         let depth = if kind == 4 { path(n, n).len() } else { 0 };
         let unsigned = head + own + 32 * depth;
+        let signed = unsigned + self.signature_length();
         let mut cases = chosen(&[
             (End::ByteLess, bytes + 1 == unsigned),
             (End::ByteMore, bytes == unsigned + 1),
             (End::NoSignature, bytes == unsigned),
+            (End::SignedByteLess, bytes + 1 == signed),
         ]);
         let block = &self.message[head..bytes.min(head + own)];
         let mut padded = block.to_vec();
         padded.resize(manifest.block_length as usize, 0xff);
-        let signed = unsigned + self.signature_length();
         if bytes == signed {
             cases.extend(chosen(&[
                 (End::Own, self.hash_is_over(manifest, block)),

@@ -7,7 +7,7 @@ use crate::compare::Compared;
 use crate::coverage::Coverage;
 use crate::craft::Image;
 use crate::functions::{compare_sender, sent};
-use crate::manifest::{AREA, BLOCK_LENGTHS, LENGTH, MISMATCH, UNSIGNED};
+use crate::manifest::{AREA, BLOCK_LENGTHS, LENGTH, MISMATCH, UNLIKE, UNSIGNED};
 use crate::pair::Pair;
 use crate::rng::Rng;
 use crate::sender::{Change, Order, program_message, update_message};
@@ -62,8 +62,10 @@ impl<'a> Case<'a> {
     pub fn run(&mut self) -> Compared<()> {
         for behind in [0, BEHIND] {
             let mut pair = self.download(behind)?;
-            self.update(&mut pair, 3)?;
-            self.update(&mut pair, 4)?;
+            for kind in [3, 4] {
+                self.update(&mut pair, kind, 1)?;
+                self.update(&mut pair, kind, self.image.blocks())?;
+            }
         }
         if self.image.lacking() > 0 {
             self.padded_download()?;
@@ -82,7 +84,7 @@ impl<'a> Case<'a> {
         self.give("flash of T - 1 bytes", &mut short, message, AREA)
     }
 
-    /// The sender's message, into room for just its bytes; a byte less is refused.
+    /// The sender's message, into room for just its bytes or for more; a byte less is refused.
     fn sent(&mut self, what: Send) -> Compared<Vec<u8>> {
         let image = self.image.bytes.clone();
         let order = Order {
@@ -92,7 +94,12 @@ impl<'a> Case<'a> {
             serial: self.serial,
         };
         let message = sent(&order, what).expect("an order that is right");
-        for (room, due) in [(message.len() - 1, AREA), (message.len(), ACCEPTED)] {
+        let length = message.len();
+        for (room, due) in [
+            (length - 1, AREA),
+            (length, ACCEPTED),
+            (2 * length, ACCEPTED),
+        ] {
             let answer = compare_sender(&mut self.rng, &order, what, Ok(message.clone()), room)?;
             expect("sender", answer, due)?;
         }
@@ -145,28 +152,42 @@ impl<'a> Case<'a> {
         self.give_to_short_flash(pair, message)
     }
 
-    /// Kind 3 or 4 of the last block; first as it must be refused.
-    fn update(&mut self, pair: &mut Pair, kind: u8) -> Compared<()> {
+    /// Kind 3 or 4 of block i; first as it must be refused.
+    fn update(&mut self, pair: &mut Pair, kind: u8, i: usize) -> Compared<()> {
         let behind = pair.flash[self.image.bytes.len()..].to_vec();
-        let n = self.image.blocks();
-        *self.image.bytes.last_mut().expect("a byte") ^= 1;
+        self.image.bytes[(i - 1) * self.image.block_length] ^= 1;
         self.serial += 1;
         let signature = self.signature()?;
-        let message = self.sent(Send::Update(kind, n as u32, &signature))?;
-        let least = message.len() - signature.len();
-        self.give(
-            "update, its least less a byte",
-            pair,
-            &message[..least - 1],
-            LENGTH,
-        )?;
-        self.give("update, its least", pair, &message[..least], UNSIGNED)?;
+        let message = self.sent(Send::Update(kind, i as u32, &signature))?;
+        let (bytes, least) = (message.len(), message.len() - signature.len());
+        let without_block_byte = [&message[..51], &message[52..]].concat();
+        let cuts = [
+            (&message[..least - 1], LENGTH),
+            (&message[..least], UNSIGNED),
+            (&message[..bytes - 1], UNSIGNED),
+            (&without_block_byte, UNSIGNED),
+        ];
+        for (cut, due) in cuts {
+            self.give("update that is cut", pair, cut, due)?;
+        }
         self.give_to_short_flash(pair, &message)?;
-        if self.image.lacking() > 0 {
+        self.longer_update(pair, kind, i)?;
+        if i == self.image.blocks() && self.image.lacking() > 0 {
             self.padded_updates(pair, kind)?;
         }
         self.give("update", pair, &message, ACCEPTED)?;
         self.expect_flash(pair, &behind)
+    }
+
+    /// To an image that is a byte longer, be it in as many blocks.
+    fn longer_update(&mut self, pair: &mut Pair, kind: u8, i: usize) -> Compared<()> {
+        let mut longer = self.image.clone();
+        longer.bytes.push(0xff);
+        let manifest = longer.manifest(MODEL, self.serial, &longer).bytes();
+        let signature = self.signer.sign(&mut self.rng, &manifest);
+        let change = Change::new(kind, &longer.bytes, longer.block_length, i);
+        let message = update_message(&manifest, &change, &signature);
+        self.give("update to a longer image", pair, &message, UNLIKE)
     }
 
     /// The last block is sent padded, or was hashed padded, or both.
