@@ -70,8 +70,8 @@ static inline const char *lertxuno_refusal_word(uint32_t answer) {
 /* Order of the device's refusals, the first that applies: always 1, 2, 3; then new program 4, 5, 6, 7, 8, 9; block 10, 8, 11, 12, 14; update 10, 4, 5, 6, 7,
  * 13, 8, 11, 12, 9, 14; path update the same, with 15 before 14. The sender's: 5, 11, 8. */
 
-/* Sizes. A block has 64, 128, 256, 512 or 1,024 bytes, but for an image's last one, which ends with the image. The flash must have the image's bytes; it may
- * have more, and those are the caller's. */
+/* Sizes. A block has 64, 128, 256, 512 or 1,024 bytes, but for an image's last one, which ends with the image. The flash must have as many bytes as the
+ * image; what it has beyond them is the caller's. */
 #define LERTXUNO_BLOCKS(image_length, block_length) (((image_length) + (block_length) - 1) / (block_length))
 
 /* A signature's length, from the key's types: chains 67 for signature type 3 and 34 for type 4, height 5, 10, 15, 20, 25 for tree types 5 to 9. */
@@ -158,7 +158,7 @@ enum lertxuno_stage { LERTXUNO_IDLE = 0, LERTXUNO_LOADING = 1, LERTXUNO_COMPLETE
 void lertxuno_fresh(uint32_t model, const uint8_t key[LERTXUNO_KEY_LENGTH], uint8_t state[LERTXUNO_STATE_LENGTH]);
 
 /* Hands a whole message to the device. Accepted: state and flash are those after it. Refused: both are as before. Bytes that encode no state (another
- * length, another stage than 0, 1, 2) are refused with LERTXUNO_STATE. Of the flash no byte behind the manifest's image length is ever written, the
+ * length, another stage than 0, 1, 2) are refused with LERTXUNO_STATE. Of the flash no byte from the manifest's image length on is ever written, the
  * manifest being that of the state after the call. Writes are plain stores: memory that needs programming commands needs a copy in RAM, programmed from that
  * after the call. */
 uint32_t lertxuno_receive(uint8_t *state, size_t state_length, uint8_t *flash, size_t flash_length, const uint8_t *message, size_t message_length);

@@ -1,7 +1,7 @@
 // What an accepted message does. Only here is the flash written, and only `receive` calls this, where no refusal applies.
-use crate::conditions::block_len;
 use crate::conditions::count;
 use crate::conditions::next_of;
+use crate::conditions::own_len;
 use machine::Device;
 use machine::Stage;
 use wire::Kind;
@@ -80,7 +80,7 @@ fn accept_block(device: Device, flash: &mut [u8], message: &[u8]) -> Device
     let next = next_of(stage);
     let manifest = device.manifest;
     let n = count(manifest);
-    let len = block_len(manifest, next);
+    let len = own_len(manifest, next);
     write_block(
         flash,
         manifest.block_len as usize,
@@ -107,7 +107,7 @@ fn accept_update(device: Device, flash: &mut [u8], message: &[u8]) -> Device
 {
     let manifest = wire::manifest_in(message);
     let number = wire::update_number(message);
-    let len = block_len(manifest, number);
+    let len = own_len(manifest, number);
     write_block(
         flash,
         manifest.block_len as usize,

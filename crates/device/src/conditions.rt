@@ -145,8 +145,8 @@ pub fn next_of(stage: Stage) -> u16
     }
 }
 
-// The bytes of block `number`, from 1.
-pub fn block_len(manifest: Manifest, number: u16) -> usize
+// The bytes of block `number`, from 1: its own, which in the last one may be fewer than L.
+pub fn own_len(manifest: Manifest, number: u16) -> usize
     requires { ⌜ (0 < number) × (number ≤ countOf manifest) ⌝ }
     ensures { λ r. ⌜ r ≡ blockLength (manifest .«block_len») (manifest .«image_len») number ⌝ }
 {
@@ -221,7 +221,7 @@ pub fn mismatch(device: Device, next: u16, message: &[u8]) -> bool
 {
     let manifest = device.manifest;
     let hashes = device.hashes;
-    let len = block_len(manifest, next);
+    let len = own_len(manifest, next);
     !merkle::fits(
         &hashes,
         count(manifest),

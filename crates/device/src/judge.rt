@@ -1,6 +1,5 @@
 // The first refusal that applies, if any: the tests of each kind in the papers' order. Nothing is written here. What the
 // functions require their callers meet, which all stand here.
-use crate::conditions::block_len;
 use crate::conditions::count;
 use crate::conditions::cut_path;
 use crate::conditions::cut_update;
@@ -14,6 +13,7 @@ use crate::conditions::not_newer;
 use crate::conditions::not_next;
 use crate::conditions::old_block;
 use crate::conditions::other_model;
+use crate::conditions::own_len;
 use crate::conditions::senseless;
 use crate::conditions::strays;
 use crate::conditions::too_small;
@@ -167,7 +167,7 @@ fn judge_update(device: Device, flash: &[u8], message: &[u8]) -> Answer
     if cut_update(manifest, number, message) {
         return Answer::Refused(Refusal::Length);
     }
-    let len = block_len(manifest, number);
+    let len = own_len(manifest, number);
     if unsigned(
         device,
         wire::manifest_bytes(message),
@@ -195,7 +195,7 @@ fn judge_path_update(device: Device, flash: &[u8], message: &[u8]) -> Answer
     if cut_path(manifest, number, message) {
         return Answer::Refused(Refusal::Length);
     }
-    let len = block_len(manifest, number);
+    let len = own_len(manifest, number);
     let depth = leaf_depth(manifest, number);
     if unsigned(
         device,

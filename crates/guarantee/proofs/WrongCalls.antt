@@ -147,7 +147,7 @@ reordering-caught h =
     let z : _≡_ {A = ℕ} 8 7 = ap numberOf (h .answers (programFor toy old [])) in
     omega arith
 
--- It asks for the bytes of whole blocks, n × L: alone.
+-- It asks a new program for the bytes of whole blocks, n × L, and the messages after it have its lengths: alone.
 pub demanding : Step
 demanding = byKind (λ d f m.
     let s = manifestIn m in

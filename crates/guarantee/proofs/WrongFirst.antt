@@ -171,8 +171,8 @@ early-caught h =
     let z : _≡_ {A = ℕ} 1 2 = sym (r .1) ∙ c .all ∙ ap countOf q ∙ r .3 in
     omega arith
 
--- It is idle after an update, so that older serials are taken next: alone. (Where it is a download that does not end in complete, the honest run fails too: each
--- complete download is one.)
+-- It is idle after an update, so that older serials are taken next: alone. (A device whose download does not end in complete breaks the honest run too: every complete
+-- download of bytes is one.)
 pub lapsing : Step
 lapsing = byKind right right (λ d f m. let o = right d f m in but o (at Idle (o .device))) right
 
@@ -231,7 +231,7 @@ nearsighted = byKind right right right (λ d f m.
     let n = numberOf (o .answer) in
     let s = manifestIn m in
     cond (eqb n 0 || eqb n (refusalNumber refusal.Mismatch))
-    (outcome (cond (equal (toy (updateBlock (s .«block_len») m)) (s .root)) none (some refusal.Mismatch)) d f (acceptUpdate d f m)) o)
+    (outcome (cond (equal (toy (updateBlock (blockLength (s .«block_len») (s .«image_len») (updateNumber m)) m)) (s .root)) none (some refusal.Mismatch)) d f (acceptUpdate d f m)) o)
 
 pub ownHash : List ℕ
 ownHash = pathMessage (manifestWith 2 (toy (replicate 64 4))) 2 (replicate 64 4) (toy (replicate 64 3)) []

@@ -1,4 +1,4 @@
--- The cases that document 01 works out.
+-- The cases worked out by hand.
 use mathlib.Core.Path.{_≡_, refl, ap}
 use mathlib.Core.Logic.{_≢_}
 use mathlib.Core.Bool.{Bool, true, false}

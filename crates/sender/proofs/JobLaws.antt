@@ -1,4 +1,4 @@
--- The lengths of what the sender writes: manifest and messages are as long as 01 says.
+-- The lengths of what the sender writes: manifest and messages are as long as the papers say.
 use mathlib.Core.Path.{_≡_, ap, _∙_}
 use mathlib.Core.Bool.{Bool, true, false, cond}
 use mathlib.Core.List.{List, [], _++_, append-nil}

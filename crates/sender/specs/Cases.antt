@@ -1,4 +1,4 @@
--- Cases that document 01 works out by hand.
+-- Cases worked out by hand: document 01's, and one for change 2 of 02.
 use mathlib.Core.Path.{_≡_}
 use mathlib.Core.Logic.{_≢_}
 use mathlib.Core.List.{List, [], _∷_, _++_}

@@ -1,4 +1,4 @@
--- What is shown of the definitions (in proofs/): manifest and messages are as long as 01 says.
+-- What is shown of the definitions (in proofs/): manifest and messages are as long as the papers say.
 use mathlib.Core.Path.{_≡_}
 use mathlib.Core.Bool.{false}
 use mathlib.Core.List.{List}

@@ -174,7 +174,7 @@ more-blocks L j w old fits =
     (ap (λ k. drop k all) e ∙ sym (drop-drop (length b) (length front) all) ∙ ap (drop (length b)) (drop-at front (drop (length front) old) (length front) refl)
     ∙ drop-drop (length b) (length front) old ∙ ap (λ k. drop k old) (sym (ap length more ∙ length-append front b)))
 
--- a flash that begins with a program's bytes has their blocks and their tree
+-- a flash that begins with a program's bytes has their blocks
 module _ (s : Manifest) (w old : List ℕ) (whole : length w ≡ s .«image_len») where
   pub start-run : take (s .«image_len») (atStart w old) ≡ w
   start-run = take-at w (drop (length w) old) (s .«image_len») whole

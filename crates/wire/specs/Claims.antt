@@ -12,7 +12,8 @@ use Rattle.wire.specs.Manifest.{manifestLength, written, read, Fits}
 use Rattle.wire.specs.Geometry.{blockLength}
 use Rattle.wire.specs.Message.{kind, numberLength, programMessage, blockMessage, updateMessage, leastLength, manifestBytes, programSignature, numberIn, blockIn, hashesAfter, updateNumber, updateBlock, updateSignature, pathMessage, pathIn, pathSignature}
 
--- 02, change 2: "the last block travels with the bytes it has". Of n blocks that hold T bytes each but the last has L; the last has T - (n - 1) × L, which are 1 to L.
+-- 02, change 2: "the last block travels with the bytes it has". An image of T bytes has n blocks: each but the last has L bytes, and the
+-- last the T - (n - 1) × L that are left, 1 to L.
 pub record EachLength (L T : ℕ) : Type 0 where
   pub earlier : (i : ℕ) → 0 < i → i < blockCount L T → blockLength L T i ≡ L
   pub last : blockLength L T (blockCount L T) ≡ T - (blockCount L T - 1) * L

@@ -1,5 +1,5 @@
--- A program's blocks in the flash (01, 'Tree and labels' and 'Slip, messages, state'; 02, change 2): how many there are, where each stands, how long it is, and the
--- root of the tree over them. All of it follows from L and T.
+-- A program's blocks in the flash (01, 'Tree and labels' and 'Slip, messages, state'; 02, change 2): how many there are, where each stands and how long it is, all
+-- of which follows from L and T; and the root of the tree over them.
 use mathlib.Core.List.{List, _++_}
 use Prim.Native.Nat.{ℕ, pred, _+_, _-_, _*_, min}
 use lib.ListN.{length, take, drop}

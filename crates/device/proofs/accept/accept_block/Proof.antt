@@ -29,21 +29,21 @@ next-of-requires c κs = search needs
 count-requires : tie.Need-count-requires
 count-requires c κs = awaited (c .before) .size
 
-block-len-requires : tie.Need-block-len-requires
-block-len-requires c κs = let w = awaited (c .before .before) in omega (arith, w .low, w .high)
+own-len-requires : tie.Need-own-len-requires
+own-len-requires c κs = let w = awaited (c .before .before) in omega (arith, w .low, w .high)
 
 cast-write-block : tie.Need-cast-write-block
 cast-write-block c = search needs
 
 block-in-requires : tie.Need-block-in-requires
-block-in-requires c κs = rw (c .before .before .block-len .ensures) (is-due (c .before .before .before .before .before) .long)
+block-in-requires c κs = rw (c .before .before .own-len .ensures) (is-due (c .before .before .before .before .before) .long)
 
 write-block-requires : tie.Need-write-block-requires
 write-block-requires c κs =
     let n = c .before .before .before .before .before .before in
     let s = n .before .before .before in
     let w = awaited n in
-    let k = c .before .before .before .block-len .ensures in
+    let k = c .before .before .before .own-len .ensures in
     let l = ap length (c .block-in .ensures) ∙ length-block _ (s .args .message .now) (rw k (is-due n .long)) ∙ k in
     (w .low, omega (arith, l, room (s .args .device .manifest) (s .args .flash .now) _ (accepted s .room) (w .low) (w .high)))
 
@@ -54,7 +54,7 @@ sub-advance : tie.Need-sub-advance
 sub-advance c = awaited (c .before .before .before .before .before .before .before .before .before .before) .low
 
 hashes-after-requires : tie.Need-hashes-after-requires
-hashes-after-requires c κs = rw (c .before .before .before .before .before .before .before .block-len .ensures) (is-due (c .before .before .before .before .before .before .before .before .before .before) .long)
+hashes-after-requires c κs = rw (c .before .before .before .before .before .before .before .own-len .ensures) (is-due (c .before .before .before .before .before .before .before .before .before .before) .long)
 
 advance-requires : tie.Need-advance-requires
 unfolding countOf
@@ -64,7 +64,7 @@ advance-requires c κs =
     let w = awaited n in
     let z = sized _ _ (w .size) in
     let e = c .before .before .before .before .before .before .before .before .before .count .ensures in
-    (omega (arith, e, w .low, w .high), omega (arith, e, z .count), rest-long (s .args .device .manifest) _ _ _ (s .args .message .now) _ (w .low) e (c .before .before .before .before .before .before .before .before .block-len .ensures) (c .hashes-after .ensures) (is-due n))
+    (omega (arith, e, w .low, w .high), omega (arith, e, z .count), rest-long (s .args .device .manifest) _ _ _ (s .args .message .now) _ (w .low) e (c .before .before .before .before .before .before .before .before .own-len .ensures) (c .hashes-after .ensures) (is-due n))
 
 stage-after-requires : tie.Need-stage-after-requires
 unfolding countOf
@@ -77,7 +77,7 @@ same-length c = search needs
 
 returns : tie.Need-returns
 returns c =
-    block-is _ _ _ (c .before .before .before .before .before .before .before .before .before .before .before .before .before .before .next-of .ensures) (c .before .before .before .before .before .before .before .before .before .before .before .before .count .ensures) (c .before .before .before .before .before .before .before .before .before .before .before .block-len .ensures) (c .before .before .before .before .before .before .before .before .block-in .ensures) (c .before .before .before .hashes-after .ensures) (c .stage-after .ensures)
+    block-is _ _ _ (c .before .before .before .before .before .before .before .before .before .before .before .before .before .before .next-of .ensures) (c .before .before .before .before .before .before .before .before .before .before .before .before .count .ensures) (c .before .before .before .before .before .before .before .before .before .before .before .own-len .ensures) (c .before .before .before .before .before .before .before .before .block-in .ensures) (c .before .before .before .hashes-after .ensures) (c .stage-after .ensures)
     (c .before .before .advance .ensures) (c .before .before .before .before .before .before .before .write-block .ensures)
 
 pub accept-block-spec : {M : Type 1} → statement M
@@ -86,7 +86,7 @@ accept-block-spec =
     (tie.spec
     next-of-requires
     count-requires
-    block-len-requires
+    own-len-requires
     cast-write-block
     block-in-requires
     write-block-requires

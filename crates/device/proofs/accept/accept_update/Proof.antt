@@ -13,9 +13,9 @@ use Rattle.device.proofs.accept.accept_update.Statement.{statement}
 use Rattle.device.proofs.accept.accept_update.Tie as tie
 
 -- the new block is there, as the code measures it
-long : (c : tie.After-block-len) → leastLength Update + c .block-len .result ≤ length (c .before .before .before .before .before .args .message .now)
+long : (c : tie.After-own-len) → leastLength Update + c .own-len .result ≤ length (c .before .before .before .before .before .args .message .now)
 unfolding leastUpdate
-long c = rw (c .block-len .ensures, c .before .update-number .ensures, c .before .before .manifest-in .ensures) (c .before .before .before .before .before .pre .0)
+long c = rw (c .own-len .ensures, c .before .update-number .ensures, c .before .before .manifest-in .ensures) (c .before .before .before .before .before .pre .0)
 
 -- and its number is among the program's
 turn : (c : tie.After-update-number) → (0 < c .update-number .result) × (c .update-number .result ≤ countOf (c .before .manifest-in .result))
@@ -29,8 +29,8 @@ update-number-requires : tie.Need-update-number-requires
 unfolding leastUpdate
 update-number-requires c κs = let l = c .before .before .before .pre .0 in omega arith
 
-block-len-requires : tie.Need-block-len-requires
-block-len-requires c κs = turn c
+own-len-requires : tie.Need-own-len-requires
+own-len-requires c κs = turn c
 
 cast-write-block : tie.Need-cast-write-block
 cast-write-block c = search needs
@@ -46,14 +46,14 @@ write-block-requires c κs =
     let g = k .before .before .before .before .before .args in
     let p = k .before .before .before .before .before .pre in
     let t = turn (k .before) in
-    let l = ap length (c .update-block .ensures) ∙ length-update-block _ (g .message .now) (long k) ∙ k .block-len .ensures in
+    let l = ap length (c .update-block .ensures) ∙ length-update-block _ (g .message .now) (long k) ∙ k .own-len .ensures in
     (t .0, omega (arith, l, room s (g .flash .now) i (rw (k .before .before .manifest-in .ensures) (p .1)) (t .0) (t .1)))
 
 same-length : tie.Need-same-length
 same-length c = search needs
 
 returns : tie.Need-returns
-returns c = update-is _ _ _ (c .before .before .before .before .before .before .before .before .manifest-in .ensures) (c .before .before .before .before .before .before .before .update-number .ensures) (c .before .before .before .before .before .before .block-len .ensures) (c .before .before .before .update-block .ensures) (c .before .before .write-block .ensures)
+returns c = update-is _ _ _ (c .before .before .before .before .before .before .before .before .manifest-in .ensures) (c .before .before .before .before .before .before .before .update-number .ensures) (c .before .before .before .before .before .before .own-len .ensures) (c .before .before .before .update-block .ensures) (c .before .before .write-block .ensures)
 
 pub accept-update-spec : {M : Type 1} → statement M
 accept-update-spec =
@@ -61,7 +61,7 @@ accept-update-spec =
     (tie.spec
     manifest-in-requires
     update-number-requires
-    block-len-requires
+    own-len-requires
     cast-write-block
     update-block-requires
     write-block-requires

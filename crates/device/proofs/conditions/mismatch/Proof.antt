@@ -19,8 +19,8 @@ awaited c = awaits _ (c .pre .0) (rw (c .pre .1) refl) (rw (c .pre .1) refl)
 is-due : (c : tie.Start) → Due (c .args .device .manifest .«block_len») (c .args .device .manifest .«image_len») (c .args .next) (c .args .message .now)
 is-due c = due _ _ _ _ (measured _ _ _ (c .pre .2))
 
-block-len-requires : tie.Need-block-len-requires
-block-len-requires c κs = let w = awaited (c .before .before .before) in (w .low, w .high)
+own-len-requires : tie.Need-own-len-requires
+own-len-requires c κs = let w = awaited (c .before .before .before) in (w .low, w .high)
 
 slice-aggregate-fits : tie.Need-slice-aggregate-fits
 slice-aggregate-fits c = search needs
@@ -32,10 +32,10 @@ sub-fits : tie.Need-sub-fits
 sub-fits c = awaited (c .before .before .before .before .before .before) .low
 
 block-in-requires : tie.Need-block-in-requires
-block-in-requires c κs = rw (c .before .before .block-len .ensures) (is-due (c .before .before .before .before .before .before) .long)
+block-in-requires c κs = rw (c .before .before .own-len .ensures) (is-due (c .before .before .before .before .before .before) .long)
 
 hashes-after-requires : tie.Need-hashes-after-requires
-hashes-after-requires c κs = rw (c .before .before .before .block-len .ensures) (is-due (c .before .before .before .before .before .before .before) .long)
+hashes-after-requires c κs = rw (c .before .before .before .own-len .ensures) (is-due (c .before .before .before .before .before .before .before) .long)
 
 fits-requires : tie.Need-fits-requires
 unfolding countOf
@@ -44,7 +44,7 @@ fits-requires c κs =
     let w = awaited s in
     let z = sized _ _ (w .size) in
     let e = c .before .before .count .ensures in
-    let l = c .before .before .before .before .block-len .ensures in (
+    let l = c .before .before .before .before .own-len .ensures in (
       held-array (s .args .device) (s .good .0 .1 .1 .1 .1 .1 .1 .0 .1 .0 .1),
       omega (arith, e, w .low, w .high),
       omega (arith, e, z .count),
@@ -54,14 +54,14 @@ fits-requires c κs =
 returns : tie.Need-returns
 returns c =
     let s = c .before .before .before .before .before .before .before .before .before in
-    mismatch-found digest (s .args .device) (s .args .next) _ _ (s .args .message .now) _ _ _ (awaited s) (c .before .before .before .count .ensures) (c .before .before .before .before .before .block-len .ensures)
+    mismatch-found digest (s .args .device) (s .args .next) _ _ (s .args .message .now) _ _ _ (awaited s) (c .before .before .before .count .ensures) (c .before .before .before .before .before .own-len .ensures)
     (c .before .before .block-in .ensures) (c .before .hashes-after .ensures) (c .fits2 .ensures)
 
 pub mismatch-spec : {M : Type 1} → statement M
 mismatch-spec =
     tie.close
     (tie.spec
-    block-len-requires
+    own-len-requires
     slice-aggregate-fits
     count-requires
     sub-fits

@@ -70,23 +70,23 @@ unfolding ofPathUpdate ofSuccessor ofManifest behind
 long c = turn (c .before .before) past (sym (c .before .cut-path .ensures) ∙ c .if1 .left)
 
 -- the message has the block and its siblings whole
-enough : (c : tie.After-leaf-depth) → leastLength Update + c .before .block-len .result + hashLength * c .leaf-depth .result ≤ length (message (c .before .before .before .before .before .before))
+enough : (c : tie.After-leaf-depth) → leastLength Update + c .before .own-len .result + hashLength * c .leaf-depth .result ≤ length (message (c .before .before .before .before .before .before))
 unfolding leastUpdate leastPath countOf
-enough c = rw (c .before .block-len .ensures, c .leaf-depth .ensures) (ltb-false _ _ (sym (c .before .before .before .cut-path .ensures) ∙ c .before .before .if1 .left))
+enough c = rw (c .before .own-len .ensures, c .leaf-depth .ensures) (ltb-false _ _ (sym (c .before .before .before .cut-path .ensures) ∙ c .before .before .if1 .left))
 
 -- the verdict on manifest and signature, as they stand in the message
 verdict : (c : tie.After-unsigned) → let j = c .before .before .before .before .before .before .before .before .before in c .unsigned .result ≡ unsigned valid (start-of j .args .device) (manifestBytes (message j)) (pathSignature (size j) (depth j) (message j))
 verdict c =
     let j = c .before .before .before .before .before .before .before .before .before in
     let d = c .before .before .before in
-    c .unsigned .ensures ∙ ap₂ (unsigned valid _) (c .before .before .manifest-bytes .ensures) (c .before .path-signature .ensures ∙ ap₂ (λ k d. pathSignature k d (message j)) (d .before .block-len .ensures) (d .leaf-depth .ensures))
+    c .unsigned .ensures ∙ ap₂ (unsigned valid _) (c .before .before .manifest-bytes .ensures) (c .before .path-signature .ensures ∙ ap₂ (λ k d. pathSignature k d (message j)) (d .before .own-len .ensures) (d .leaf-depth .ensures))
 
 signed : (c : tie.Else2) → Past refusal.Unsigned (c .before .before .before .before .before .before .before .before .before .before)
 unfolding ofPathUpdate ofSuccessor ofManifest behind
 signed c = long (c .before .before .before .before .before .before) past (sym (verdict (c .before)) ∙ c .if2 .left)
 
 siblings-are : (c : tie.After-path-in) → c .path-in .result .now ≡ siblings (c .before .before .before .before .before .before .before .before .before .before .before)
-siblings-are c = let d = c .before .before .before .before .before in c .path-in .ensures ∙ ap₂ (λ k d. pathIn k d (message (c .before .before .before .before .before .before .before .before .before .before .before))) (d .before .block-len .ensures) (d .leaf-depth .ensures)
+siblings-are c = let d = c .before .before .before .before .before in c .path-in .ensures ∙ ap₂ (λ k d. pathIn k d (message (c .before .before .before .before .before .before .before .before .before .before .before))) (d .before .own-len .ensures) (d .leaf-depth .ensures)
 
 -- the old block and the new one, each with the siblings
 from : (c : tie.After-strays) → let j = c .before .before .before .before .before .before .before .before .before .before .before .before .before .before .before in c .strays .result ≡ strays digest (manifest j) (number j) (blocksOf (manifest j) (start-of j .args .flash .now) (pred (number j))) (siblings j) (start-of j .args .device .manifest .root)
@@ -99,7 +99,7 @@ rooted c = signed (c .before .before .before .before .before .before) past (sym 
 to : (c : tie.After-strays2) → let j = c .before .before .before .before .before .before .before .before .before .before .before .before .before .before .before .before .before .before .before .before in c .strays2 .result ≡ strays digest (manifest j) (number j) (updateBlock (size j) (message j)) (siblings j) (manifest j .root)
 to c =
     let j = c .before .before .before .before .before .before .before .before .before .before .before .before .before .before .before .before .before .before .before .before in
-    c .strays2 .ensures ∙ ap₂ (λ b y. strays digest (manifest j) (number j) b y (manifest j .root)) (c .before .before .before .update-block .ensures ∙ ap (λ k. updateBlock k (message j)) (c .before .before .before .before .before .before .before .before .before .before .before .before .before .before .before .block-len .ensures)) (siblings-are (c .before .before .before .before .before .before .before .before .before))
+    c .strays2 .ensures ∙ ap₂ (λ b y. strays digest (manifest j) (number j) b y (manifest j .root)) (c .before .before .before .update-block .ensures ∙ ap (λ k. updateBlock k (message j)) (c .before .before .before .before .before .before .before .before .before .before .before .before .before .before .before .own-len .ensures)) (siblings-are (c .before .before .before .before .before .before .before .before .before))
 
 -- what the first tests have shown
 known : (c : tie.After-enum-told) → let j = c .before .before in Known (manifest j) (start-of j .args .flash .now) (number j)
@@ -141,8 +141,8 @@ returns-2 : tie.Need-returns-2
 unfolding ofPathUpdate ofSuccessor ofManifest behind
 returns-2 c = refused (turn (c .before .before)) (sym (c .before .cut-path .ensures) ∙ c .if1 .taken)
 
-block-len-requires : tie.Need-block-len-requires
-block-len-requires c κs = inside _ _ (known (c .before .before) .2)
+own-len-requires : tie.Need-own-len-requires
+own-len-requires c κs = inside _ _ (known (c .before .before) .2)
 
 leaf-depth-requires : tie.Need-leaf-depth-requires
 leaf-depth-requires c κs = let p = known (c .before .before .before) in (p .0, p .2)
@@ -199,7 +199,7 @@ judge-path-update-spec =
     returns
     cut-path-requires
     returns-2
-    block-len-requires
+    own-len-requires
     leaf-depth-requires
     manifest-bytes-requires
     path-signature-requires

@@ -57,16 +57,16 @@ unfolding ofUpdate ofSuccessor ofManifest behind
 long c = turn (c .before .before) past (sym (c .before .cut-update .ensures) ∙ c .if1 .left)
 
 -- the message has the block whole
-enough : (c : tie.After-block-len) → leastLength Update + c .block-len .result ≤ length (message (c .before .before .before .before .before))
+enough : (c : tie.After-own-len) → leastLength Update + c .own-len .result ≤ length (message (c .before .before .before .before .before))
 unfolding leastUpdate
-enough c = rw (c .block-len .ensures) (ltb-false _ _ (sym (c .before .before .cut-update .ensures) ∙ c .before .if1 .left))
+enough c = rw (c .own-len .ensures) (ltb-false _ _ (sym (c .before .before .cut-update .ensures) ∙ c .before .if1 .left))
 
 -- the verdict on manifest and signature, as they stand in the message
 verdict : (c : tie.After-unsigned) → let j = c .before .before .before .before .before .before .before .before in let s = manifest j in
     c .unsigned .result ≡ unsigned valid (start-of j .args .device) (manifestBytes (message j)) (updateSignature (blockLength (s .«block_len») (s .«image_len») (number j)) (message j))
 verdict c =
     let j = c .before .before .before .before .before .before .before .before in
-    c .unsigned .ensures ∙ ap₂ (unsigned valid _) (c .before .before .manifest-bytes .ensures) (c .before .update-signature .ensures ∙ ap (λ k. updateSignature k (message j)) (c .before .before .before .block-len .ensures))
+    c .unsigned .ensures ∙ ap₂ (unsigned valid _) (c .before .before .manifest-bytes .ensures) (c .before .update-signature .ensures ∙ ap (λ k. updateSignature k (message j)) (c .before .before .before .own-len .ensures))
 
 signed : (c : tie.Else2) → Past refusal.Unsigned (c .before .before .before .before .before .before .before .before .before)
 unfolding ofUpdate ofSuccessor ofManifest behind
@@ -81,7 +81,7 @@ rooted c =
     let s = manifest j in
     let written : ℕ → List ℕ = λ i. withBlock (s .«block_len») (start-of j .args .flash .now) i (updateBlock (blockLength (s .«block_len») (s .«image_len») i) (message j)) in
     c .lacks-root .ensures
-    ∙ ap (λ b. lacksRoot digest s (withBlock (s .«block_len») (start-of j .args .flash .now) (number j) b)) (c .before .update-block .ensures ∙ ap (λ k. updateBlock k (message j)) (c .before .before .before .before .before .before .block-len .ensures))
+    ∙ ap (λ b. lacksRoot digest s (withBlock (s .«block_len») (start-of j .args .flash .now) (number j) b)) (c .before .update-block .ensures ∙ ap (λ k. updateBlock k (message j)) (c .before .before .before .before .before .before .own-len .ensures))
     ∙ ap (λ i. lacksRoot digest s (written i)) (j .before .update-number .ensures)
 
 -- what the first tests have shown
@@ -117,8 +117,8 @@ returns-2 : tie.Need-returns-2
 unfolding ofUpdate ofSuccessor ofManifest behind
 returns-2 c = refused (turn (c .before .before)) (sym (c .before .cut-update .ensures) ∙ c .if1 .taken)
 
-block-len-requires : tie.Need-block-len-requires
-block-len-requires c κs = inside _ _ (known (c .before .before) .2)
+own-len-requires : tie.Need-own-len-requires
+own-len-requires c κs = inside _ _ (known (c .before .before) .2)
 
 manifest-bytes-requires : tie.Need-manifest-bytes-requires
 manifest-bytes-requires c κs = search needs
@@ -141,7 +141,7 @@ lacks-root-requires c κs =
     let k = c .before .before .before .before .before in
     let t = k .before .before .before in
     let p = known t in
-    (p .0, p .1, p .2, ap length (c .update-block .ensures) ∙ length-update-block _ (message (t .before .before)) (enough k) ∙ k .block-len .ensures)
+    (p .0, p .1, p .2, ap length (c .update-block .ensures) ∙ length-update-block _ (message (t .before .before)) (enough k) ∙ k .own-len .ensures)
 
 returns-4 : tie.Need-returns-4
 unfolding ofUpdate ofSuccessor ofManifest behind
@@ -163,7 +163,7 @@ judge-update-spec =
     returns
     cut-update-requires
     returns-2
-    block-len-requires
+    own-len-requires
     manifest-bytes-requires
     update-signature-requires
     unsigned-requires

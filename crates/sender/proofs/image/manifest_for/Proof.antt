@@ -1,5 +1,7 @@
 use native.Mathlib.Omega.{arith}
 use lib.ListN.{length}
+use Rattle.merkle.specs.Blocks.{blockCount}
+use Rattle.merkle.proofs.TreeLaws.{left-fits}
 use Rattle.wire.proofs.SizeLaws.{Sized, sized}
 use Rattle.sender.specs.Job.{manifestFor, rootOf, blocks, count}
 use Rattle.sender.proofs.image.manifest_for.Statement.{statement}
@@ -13,7 +15,11 @@ block-count-requires : tie.Need-block-count-requires
 block-count-requires c κs = let z = sized _ _ (c .before .pre) in (omega (arith, z .least), z .some)
 
 root-requires : tie.Need-root-requires
-root-requires c κs = let z = size c in let k = c .block-count .ensures in rw k (z .first, omega (arith, z .below))
+root-requires c κs =
+    let z = size c in
+    let a = c .before .before .args in
+    let n = blockCount (a .len) (length (a .image .now)) in
+    (omega (arith, z .first, c .block-count .ensures), left-fits (a .len) _ n _ (omega (arith, z .first, c .block-count .ensures)) (omega (arith, z .below)))
 
 cast-t9 : tie.Need-cast-t9
 cast-t9 c = omega (arith, size (c .before) .most)

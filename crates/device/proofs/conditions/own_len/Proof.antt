@@ -1,7 +1,7 @@
 use borrow.Author.Needs.{needs}
 use Rattle.wire.specs.Geometry.{countOf}
-use Rattle.device.proofs.conditions.block_len.Statement.{statement}
-use Rattle.device.proofs.conditions.block_len.Tie as tie
+use Rattle.device.proofs.conditions.own_len.Statement.{statement}
+use Rattle.device.proofs.conditions.own_len.Tie as tie
 
 cast-block-length : tie.Need-cast-block-length
 cast-block-length c = search needs
@@ -16,5 +16,5 @@ block-length-requires c κs = search needs
 returns : tie.Need-returns
 returns c = search needs
 
-pub block-len-spec : {M : Type 1} → statement M
-block-len-spec = tie.close (tie.spec cast-block-length cast-block-length-2 block-length-requires returns)
+pub own-len-spec : {M : Type 1} → statement M
+own-len-spec = tie.close (tie.spec cast-block-length cast-block-length-2 block-length-requires returns)
