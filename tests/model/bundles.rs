@@ -1,4 +1,5 @@
-//! The loader program against the model's text, on random bundles in a folder of its own.
+//! The loader program against the model's text, on bundles made by hand and at random, in a folder of
+//! its own.
 
 use std::fs;
 use std::path::{Path, PathBuf};

@@ -1,4 +1,4 @@
-//! The C library (include/lertxuno.h). The bytes that it reads or writes are all lent to it (lent.rs).
+//! The C library (include/lertxuno.h). Byte arrays that it reads or writes are lent (lent.rs).
 
 use crate::lent::Lent;
 use crate::sender::Order;

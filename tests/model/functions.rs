@@ -41,6 +41,21 @@ fn block_length(rng: &mut Rng) -> u32 {
     }
 }
 
+/// A number of n blocks, often the last one's, or one that they have not.
+fn block_number(rng: &mut Rng, n: u32) -> u32 {
+    let any = rng.u32();
+    let inside = 1 + any % n.max(1);
+    let wrong = rng.pick(&[0, n + 1, any, inside + 65_536]);
+    rng.pick(&[inside, 1, n, n, n, wrong])
+}
+
+/// Room for the bytes due, for a byte less, or for any number.
+fn room_around(rng: &mut Rng, due: usize) -> usize {
+    let spare = rng.below(100);
+    let (less, more) = (due - 1, due + spare);
+    rng.pick(&[due, due, due, less, less, less, due + 1, more, spare, 0])
+}
+
 /// One call of one sender function, on a buffer of any room.
 pub fn sender_call(rng: &mut Rng, coverage: &mut Coverage) -> Compared<()> {
     let block_length = block_length(rng);
@@ -55,10 +70,7 @@ pub fn sender_call(rng: &mut Rng, coverage: &mut Coverage) -> Compared<()> {
     let signature_length = rng.pick(&[0, 1, 1292, 2348, 2508, 3000]);
     let signature = rng.bytes(signature_length);
     let n = length.div_ceil(block_length.max(1) as usize) as u32;
-    let any = rng.u32();
-    let inside = 1 + any % n.max(1);
-    let wrong = rng.pick(&[0, n + 1, any, inside + 65_536]);
-    let number = rng.pick(&[inside, 1, n, n, n, wrong]);
+    let number = block_number(rng, n);
     // The manifest alone, or a message.
     let kind = rng.pick(&[0, 1, 2, 2, 2, 3, 3, 3, 4, 4, 4]);
     let what = match kind {
@@ -69,9 +81,7 @@ pub fn sender_call(rng: &mut Rng, coverage: &mut Coverage) -> Compared<()> {
     };
     let message = sent(&order, what);
     let due = message.as_ref().map_or(100, Vec::len);
-    let spare = rng.below(100);
-    let (less, more) = (due - 1, due + spare);
-    let room = rng.pick(&[due, due, due, less, less, less, due + 1, more, spare, 0]);
+    let room = room_around(rng, due);
     let answer = compare_sender(rng, &order, what, message, room)
         .map_err(|e| format!("kind {kind}, L {block_length}, T {length}, number {number}: {e}"))?;
     coverage.count(SENDER + kind, answer);
