@@ -3,6 +3,7 @@ pub mod InvariantLaws
 pub mod MisledLaws
 pub mod RunLaws
 pub mod BeyondLaws
+pub mod BehindHolds
 pub mod FirstHalf
 pub mod SentLaws
 pub mod ProgramLaws

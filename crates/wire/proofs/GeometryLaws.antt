@@ -1,6 +1,6 @@
 -- A program's blocks in the flash: where they end, and a block written to its place.
 use mathlib.Core.Path.{_≡_, refl, sym, ap, ap₂, _∙_}
-use mathlib.Core.Logic.{_≢_}
+use mathlib.Core.Logic.{_⊎_, inl, inr, _≢_}
 use mathlib.Core.Bool.{false}
 use mathlib.Core.List.{List, _++_, append-assoc}
 use Prim.Native.Nat.{ℕ, suc, _+_, _-_, _*_, min, _≤_, _<_}
@@ -11,6 +11,7 @@ use lib.Seq.{paste, length-paste, length-take-le, take-all, take-at, drop-at, ta
 use Rattle.octets.specs.Octets.{part}
 use Rattle.octets.proofs.CopyLaws.{part-part}
 use Rattle.merkle.specs.Blocks.{blockCount, cut, overlay}
+use Rattle.merkle.proofs.ShapeLaws.{lt-or-le}
 use Rattle.merkle.proofs.BlockLaws.{block-count, block-starts, overlay-same, overlay-other, overlay-is, take-blocks, blocks-equal, written}
 use Rattle.wire.specs.declared.manifest.Manifest.{Manifest}
 use Rattle.wire.specs.Size.{wrongSize}
@@ -91,6 +92,41 @@ with-front L f g i x h =
     let at = blockStart L i in
     rw (take-append-le at f g (omega arith), drop-append-le (at + length x) f g h) (sym (append-assoc (take at f ++ x) (drop (at + length x) f) g))
 
+-- so neither is what stands behind the first T bytes, where the block ends within them
+pub with-split : (L T i : ℕ) (f x : List ℕ) → T ≤ length f → blockStart L i + length x ≤ T → withBlock L f i x ≡ withBlock L (take T f) i x ++ drop T f
+with-split L T i f x room h =
+    ap (λ y. withBlock L y i x) (sym (take-append-drop T f)) ∙ with-front L (take T f) (drop T f) i x (omega (arith, length-take-le T f room))
+
+-- and wherever it ends, what they are then follows from what they were
+pub with-run : (L T i : ℕ) (f g x : List ℕ) → length f ≡ length g → take T f ≡ take T g → take T (withBlock L f i x) ≡ take T (withBlock L g i x)
+with-run L T i f g x long same = go (lt-or-le T (length f)) (lt-or-le T (blockStart L i)) (lt-or-le T (blockStart L i + length x))
+  where
+    at : ℕ
+    at = blockStart L i
+
+    within : (y : List ℕ) → T < length y → at + length x ≤ T → take T (withBlock L y i x) ≡ withBlock L (take T y) i x
+    within y room h =
+        let lu : length (take T y) ≡ T = length-take-le T y (omega arith) in
+        ap (take T) (with-split L T i y x (omega arith) h) ∙ take-at (withBlock L (take T y) i x) (drop T y) T (length-written L (take T y) i x (omega arith) ∙ lu)
+
+    across : (y : List ℕ) → T < length y → at ≤ T → T < at + length x → take T (withBlock L y i x) ≡ take T (take at (take T y) ++ x)
+    across y room h end =
+        unfold withBlock in
+        take-append-le T (take at y ++ x) (drop (at + length x) y) (omega (arith, length-append (take at y) x, length-take-le at y (omega arith)))
+        ∙ ap (λ z. take T (z ++ x)) (sym (take-take at T y h))
+
+    behind : (y : List ℕ) → T < length y → T < at → take T (withBlock L y i x) ≡ take T y
+    behind y room h =
+        unfold withBlock in
+        let few : T ≤ length (take at y) = omega (arith, length-take at y) in
+        take-append-le T (take at y ++ x) (drop (at + length x) y) (omega (arith, length-append (take at y) x)) ∙ take-append-le T (take at y) x few ∙ take-take T at y (omega arith)
+
+    go : (T < length f) ⊎ (length f ≤ T) → (T < at) ⊎ (at ≤ T) → (T < at + length x) ⊎ (at + length x ≤ T) → take T (withBlock L f i x) ≡ take T (withBlock L g i x)
+    go (inr h) a b = ap (λ y. take T (withBlock L y i x)) (sym (take-all T f h) ∙ same ∙ take-all T g (omega arith))
+    go (inl h) (inl a) b = behind f h a ∙ same ∙ sym (behind g (omega arith) a)
+    go (inl h) (inr a) (inl b) = across f h a b ∙ ap (λ u. take T (take at u ++ x)) same ∙ sym (across g (omega arith) a b)
+    go (inl h) (inr a) (inr b) = within f h b ∙ ap (λ u. withBlock L u i x) same ∙ sym (within g (omega arith) b)
+
 -- the block with i blocks before it, in a flash that has room for the program
 module _ (s : Manifest) (i : ℕ) (flash : List ℕ) (below : i < countOf s) (room : s .«image_len» ≤ length flash) where
   abbrev L : ℕ
@@ -123,7 +159,7 @@ module _ (s : Manifest) (i : ℕ) (flash : List ℕ) (below : i < countOf s) (ro
 
     -- the program's bytes with the block written, and those behind as they were
     parts : withBlock L flash (suc i) x ≡ withBlock L (take T flash) (suc i) x ++ drop T flash
-    parts = ap (λ f. withBlock L f (suc i) x) (sym (take-append-drop T flash)) ∙ with-front L (take T flash) (drop T flash) (suc i) x fits
+    parts = with-split L T (suc i) flash x room (omega (arith, fits, run-long))
 
     run-with : length (withBlock L (take T flash) (suc i) x) ≡ T
     run-with = length-written L (take T flash) (suc i) x fits ∙ run-long
