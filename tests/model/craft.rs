@@ -190,7 +190,7 @@ impl Author<'_> {
             let any = image_length(rng, block_length, n);
             rng.pick(&[fitting + 1, fitting + 1, any])
         } else {
-            let n = blocks(rng, fitting.div_ceil(block_length));
+            let n = blocks(rng, (fitting / block_length).max(1));
             image_length(rng, block_length, n).min(fitting)
         };
         Image::random(rng, block_length, length)

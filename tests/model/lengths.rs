@@ -16,7 +16,7 @@ pub fn image_length(rng: &mut Rng, block_length: usize, n: usize) -> usize {
 pub fn blocks(rng: &mut Rng, most: usize) -> usize {
     let few = rng.range(4, 8);
     let more = rng.range(4, most.max(4));
-    rng.pick(&[1, 2, 2, 3, 3, few, more]).min(most)
+    rng.pick(&[1, 2, 2, 3, 3, 3, few, few, more]).min(most)
 }
 
 /// Which of 16 shapes an image has: 1, 2, 3 or more blocks, four times the last one's length.

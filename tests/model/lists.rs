@@ -77,7 +77,7 @@ impl<'a> List<'a> {
             let tight = rng.percent(plan.tight);
             return match subject(&self.pair.device(), message) {
                 Some((manifest, _)) if tight => {
-                    let length = manifest.image_length as usize - rng.one_in(5) as usize;
+                    let length = manifest.image_length as usize - rng.one_in(4) as usize;
                     self.pair.call_within(length, message, coverage)
                 }
                 _ => self.pair.call(message, coverage),
