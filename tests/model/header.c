@@ -79,6 +79,13 @@ static void longest_messages(void) {
     expect_message("longest path update", answer, LERTXUNO_PATH_UPDATE, LERTXUNO_MAX_PATH_UPDATE_LENGTH);
 }
 
+/* An image a byte longer than a block: its second block has that byte alone. */
+static void one_byte(void) {
+    expect("block of one byte, a byte too little room", lertxuno_block(image, 257, 256, 2, out, LERTXUNO_BLOCK_HEAD, &written), LERTXUNO_AREA);
+    uint32_t answer = lertxuno_block(image, 257, 256, 2, out, LERTXUNO_BLOCK_HEAD + 1, &written);
+    expect_message("block of one byte", answer, LERTXUNO_BLOCK, LERTXUNO_BLOCK_HEAD + 1);
+}
+
 static void state_length(void) {
     memset(status, 0xFF, sizeof status);
     lertxuno_fresh(MODEL, sample_key, state);
@@ -174,6 +181,7 @@ int main(void) {
     words();
     limits();
     longest_messages();
+    one_byte();
     state_length();
     expect("key's length", LERTXUNO_KEY_LENGTH, sizeof sample_key);
     expect("signature's length", LERTXUNO_SIGNATURE_LENGTH(CHAINS, HEIGHT), sizeof sample_signature);
