@@ -153,13 +153,16 @@ fn summary(text: &str) -> String {
 
 fn random_image(rng: &mut Rng) -> Image {
     let block_length = rng.pick(&BLOCK_LENGTHS) as usize;
-    let n = match rng.below(10) {
-        0 => LARGEST_BUNDLE / block_length,
-        1 => LARGEST_BUNDLE / block_length + 1,
-        2 | 3 => rng.range(1, 60_000 / block_length),
+    let n = match rng.below(8) {
+        0 | 1 => rng.range(1, 60_000 / block_length),
         _ => rng.range(1, 20),
     };
-    let length = image_length(rng, block_length, n);
+    // As long as the loader's flash, or longer, now and then.
+    let length = match rng.below(10) {
+        0 => FLASH_LENGTH,
+        1 => FLASH_LENGTH + rng.pick(&[1, block_length]),
+        _ => image_length(rng, block_length, n),
+    };
     Image::random(rng, block_length, length)
 }
 
