@@ -1,10 +1,10 @@
--- No message reads what stands behind the program.
-use mathlib.Core.Path.{_≡_, refl}
+-- No message reads or writes what stands behind the program.
+use mathlib.Core.Path.{_≡_, refl, subst}
 use mathlib.Core.Bool.{Bool, cond}
 use mathlib.Core.List.{List}
 use mathlib.Core.Option.{Option, none, some}
 use Prim.Native.Nat.{ℕ}
-use lib.ListN.{length, take}
+use lib.ListN.{length, take, drop}
 use Rattle.wire.specs.declared.kind.Kind.{Kind}
 use Rattle.wire.specs.declared.kind.Kind.the-variants.{Program, Block, Update, PathUpdate, Unknown}
 use Rattle.wire.specs.declared.manifest.Manifest.{Manifest}
@@ -13,19 +13,40 @@ use Rattle.wire.specs.Geometry.{blocksOf, treeOver}
 use Rattle.wire.specs.Message.{kind, carries, manifestIn}
 use Rattle.wire.proofs.GeometryLaws.{with-run}
 use Rattle.machine.specs.declared.state.Device.{Device}
-use Rattle.machine.specs.Device.{nextOf}
+use Rattle.machine.specs.Device.{nextOf, Outcome}
 use Rattle.machine.specs.Flash.{stored, updated}
 use Rattle.machine.specs.Refusals.{tooSmall, lacksRoot, ofProgram, ofBlock, ofSuccessor, ofUpdate, ofPathUpdate, ofKind, refusals}
 use Rattle.machine.specs.Step.{acceptProgram, acceptBlock, acceptUpdate, accept, outcome, refusalOf, step}
-use Rattle.guarantee.specs.Behind.{goesBy, Alike, BehindUnread}
+use Rattle.machine.proofs.RefusalLaws.{passed}
+use Rattle.guarantee.specs.Behind.{goesBy, BehindUnread}
+use Rattle.guarantee.proofs.BeyondLaws.{kept}
+
+-- the image's length that a message of this kind goes by
+abbrev by : Device → List ℕ → Kind → ℕ
+by d m k = cond (carries k) (manifestIn m) (d .manifest) .«image_len»
+
+-- what stands behind stays
+module _ (H : List ℕ → List ℕ) (valid : (key message signature : List ℕ) → Bool) (d : Device) (flash m : List ℕ) where
+  held-by : (k : Kind) → accept k d flash m .device .manifest .«image_len» ≡ by d m k
+  unfolding carries accept acceptProgram acceptBlock acceptUpdate
+  held-by Program = refl
+  held-by Block = refl
+  held-by Update = refl
+  held-by PathUpdate = refl
+  held-by Unknown = refl
+
+  stays : drop (by d m (kind m)) (step H valid d flash m .flash) ≡ drop (by d m (kind m)) flash
+  unfolding step outcome
+  stays = go (refusalOf H valid d flash m) refl
+    where
+      go : (r : Option Refusal) → refusalOf H valid d flash m ≡ r → drop (by d m (kind m)) (outcome r d flash (accept (kind m) d flash m) .flash) ≡ drop (by d m (kind m)) flash
+      go none e = subst (λ T. drop T (accept (kind m) d flash m .flash) ≡ drop T flash) (held-by (kind m)) (kept H valid d flash m (passed H valid d flash m e))
+      go (some r) e = refl
 
 module _ (H : List ℕ → List ℕ) (valid : (key message signature : List ℕ) → Bool) (d : Device) (f g m : List ℕ) (long : length f ≡ length g) where
-  -- the first bytes that a message of this kind goes by are the same in both
-  abbrev by : Kind → ℕ
-  by k = cond (carries k) (manifestIn m) (d .manifest) .«image_len»
-
+  -- the first bytes are the same in both
   abbrev Same : Kind → Type 0
-  Same k = take (by k) f ≡ take (by k) g
+  Same k = take (by d m k) f ≡ take (by d m k) g
 
   -- a block written to either
   stored-same : (s : Manifest) (i : ℕ) → take (s .«image_len») f ≡ take (s .«image_len») g → take (s .«image_len») (stored s i f m) ≡ take (s .«image_len») (stored s i g m)
@@ -45,7 +66,7 @@ module _ (H : List ℕ → List ℕ) (valid : (key message signature : List ℕ)
   refused PathUpdate e same = rw (e, long, same)
   refused Unknown e same = rw e
 
-  accepted : (k : Kind) → Same k → (accept k d f m .device ≡ accept k d g m .device) × (take (by k) (accept k d f m .flash) ≡ take (by k) (accept k d g m .flash))
+  accepted : (k : Kind) → Same k → (accept k d f m .device ≡ accept k d g m .device) × (take (by d m k) (accept k d f m .flash) ≡ take (by d m k) (accept k d g m .flash))
   unfolding carries accept acceptProgram acceptBlock acceptUpdate
   accepted Program same = (refl, same)
   accepted Block same = (refl, stored-same (d .manifest) (nextOf (d .stage)) same)
@@ -53,14 +74,19 @@ module _ (H : List ℕ → List ℕ) (valid : (key message signature : List ℕ)
   accepted PathUpdate same = (refl, updated-same (manifestIn m) same)
   accepted Unknown same = (refl, same)
 
-  alike : Same (kind m) → Alike (by (kind m)) (step H valid d f m) (step H valid d g m)
+  abbrev Matches : Outcome → Outcome → Type 0
+  Matches a b = (a .answer ≡ b .answer) × (a .device ≡ b .device) × (take (by d m (kind m)) (a .flash) ≡ take (by d m (kind m)) (b .flash))
+
+  alike : Same (kind m) → Matches (step H valid d f m) (step H valid d g m)
   unfolding step outcome
   alike same = rw (refused (kind m) refl same) (go (refusalOf H valid d g m))
     where
-      go : (r : Option Refusal) → Alike (by (kind m)) (outcome r d f (accept (kind m) d f m)) (outcome r d g (accept (kind m) d g m))
-      go none = let a = accepted (kind m) same in record { answer = refl; device = a .0; program = a .1 }
-      go (some r) = record { answer = refl; device = refl; program = same }
+      go : (r : Option Refusal) → Matches (outcome r d f (accept (kind m) d f m)) (outcome r d g (accept (kind m) d g m))
+      go none = let a = accepted (kind m) same in (refl, a .0, a .1)
+      go (some r) = (refl, refl, same)
 
 pub behind-unread : (H : List ℕ → List ℕ) (valid : (key message signature : List ℕ) → Bool) → BehindUnread H valid
 unfolding goesBy
-behind-unread H valid d f g m long same = alike H valid d f g m long same
+behind-unread H valid d f g m long same =
+    let a = alike H valid d f g m long same in
+    record { answer = a .0; device = a .1; program = a .2; behind = (stays H valid d f m, stays H valid d g m) }

@@ -47,7 +47,7 @@ module _ (H : List ℕ → List ℕ) (valid : (key message signature : List ℕ)
         let size : ℕ = blockLength (s .«block_len») (s .«image_len») i in
         behind-block s i flash (updateBlock size m) (p .turn .0) (p .turn .1) (p .room) (length-update-block size m long)
 
-    kept : Passed H valid d flash m → Kept (accept (kind m) d flash m)
+    pub kept : Passed H valid d flash m → Kept (accept (kind m) d flash m)
     unfolding accept acceptProgram
     kept (took-program q p) = rw q refl
     kept (took-block q p) = rw q (kept-block p)

@@ -20,6 +20,7 @@ use Rattle.merkle.specs.Path.{pathSiblings, leafDepth, way, besideInput, ascend
 use Rattle.merkle.specs.Held.{hashesIn, heldStart, heldIn, nextHeld, begun, advanced, fits, sent}
 use Rattle.wire.specs.declared.kind.Kind.the-variants.{Program, Block, Update, PathUpdate, Unknown}
 use Rattle.wire.specs.declared.manifest.Manifest.{Manifest}
+use Rattle.wire.specs.declared.refusal.Refusal.{Refusal}
 use Rattle.wire.specs.declared.refusal.Refusal.the-variants as refusal
 use Rattle.wire.specs.Refusal.{firstThatApplies}
 use Rattle.wire.specs.Size.{allowedLength, wrongSize, outside}
@@ -96,8 +97,11 @@ right = step toy any
 unfoldable pub taking : Step
 taking d f m = outcome none d f (accept (kind m) d f m)
 
+unfoldable pub refusingAs : Refusal → Step
+refusingAs r d f m = outcome (some r) d f (record { device = d; flash = f })
+
 unfoldable pub refusing : Step
-refusing d f m = outcome (some refusal.State) d f (record { device = d; flash = f })
+refusing = refusingAs refusal.State
 
 -- An accepted message's outcome with another device, or another flash; a refused one's stays.
 unfoldable pub but : Outcome → Device → Outcome
@@ -137,7 +141,7 @@ unfolding stored updated acceptProgram stageAfter acceptBlock acceptUpdate accep
 run-computes = 0
 
 unfoldable pub computing : ℕ
-unfolding tree-computes wire-computes sender-computes refusals-compute run-computes toy any nobody job newer old uneven unevenNewer fresh flash program manifestWith nobodys noImage right taking refusing but butFlash byKind NoneCollides
+unfolding tree-computes wire-computes sender-computes refusals-compute run-computes toy any nobody job newer old uneven unevenNewer fresh flash program manifestWith nobodys noImage right taking refusingAs refusing but butFlash byKind NoneCollides
 computing = 0
 
 abbrev pub loaded : Messages

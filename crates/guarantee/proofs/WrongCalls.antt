@@ -2,7 +2,6 @@
 use mathlib.Core.Path.{_≡_, refl, ap}
 use mathlib.Core.Bool.{cond, _&&_}
 use mathlib.Core.List.{List, [], _∷_}
-use mathlib.Core.Option.{some}
 use Prim.Native.Nat.{ℕ, _-_, _*_}
 use native.Mathlib.Omega.{arith}
 use lib.Dec.{eqb, ltb}
@@ -20,11 +19,11 @@ use Rattle.machine.specs.Device.{Situation}
 use Rattle.machine.specs.Flash.{updated}
 use Rattle.machine.specs.Refusals.{tooSmall, notLoading, refusals}
 use Rattle.machine.specs.Readers.{numberOf}
-use Rattle.machine.specs.Step.{acceptBlock, outcome}
+use Rattle.machine.specs.Step.{acceptBlock}
 use Rattle.machine.proofs.RefusalLaws.{testOf}
 use Rattle.guarantee.specs.Run.{empty, _▷_}
 use Rattle.guarantee.specs.Demand3.{Calls}
-use Rattle.guarantee.proofs.Toy.{Step, toy, any, job, newer, old, uneven, fresh, flash, program, right, refusing, but, byKind, computing, loaded}
+use Rattle.guarantee.proofs.Toy.{Step, toy, any, job, newer, old, uneven, fresh, flash, program, right, refusingAs, refusing, but, byKind, computing, loaded}
 
 -- It refuses every manifest, or every path update: each alone.
 pub closed : Step
@@ -139,7 +138,7 @@ spilling-caught h =
 
 -- It looks at the flash before it looks at the serial, 8 before 7: alone.
 pub reordering : Step
-reordering = byKind (λ d f m. cond (tooSmall (manifestIn m) f) (outcome (some refusal.Area) d f (record { device = d; flash = f })) (right d f m)) right right right
+reordering = byKind (λ d f m. cond (tooSmall (manifestIn m) f) (refusingAs refusal.Area d f m) (right d f m)) right right right
 
 pub reordering-caught : Calls toy any reordering fresh [] empty → ⊥
 unfolding computing reordering
@@ -151,7 +150,7 @@ reordering-caught h =
 pub demanding : Step
 demanding = byKind (λ d f m.
     let s = manifestIn m in
-    cond (eqb (numberOf (right d f m .answer)) 0 && ltb (length f) (countOf s * s .«block_len»)) (outcome (some refusal.Area) d f (record { device = d; flash = f })) (right d f m)) right right right
+    cond (eqb (numberOf (right d f m .answer)) 0 && ltb (length f) (countOf s * s .«block_len»)) (refusingAs refusal.Area d f m) (right d f m)) right right right
 
 pub demanding-caught : Calls toy any demanding fresh (replicate 257 5) empty → ⊥
 unfolding computing demanding
@@ -164,7 +163,7 @@ pub swapping : Step
 swapping = byKind right right right (λ d f m.
     let o = right d f m in
     cond (eqb (numberOf (o .answer)) 15 && testOf refusal.Mismatch (refusals toy any PathUpdate d f m))
-    (outcome (some refusal.Mismatch) d f (record { device = d; flash = f })) o)
+    (refusingAs refusal.Mismatch d f m) o)
 
 pub swapping-caught : Calls toy any swapping fresh flash loaded → ⊥
 unfolding computing testOf swapping
