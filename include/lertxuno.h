@@ -1,11 +1,11 @@
-/* Lertxuno: updates for motor drives. Sender, device, signature verdict and SHA-256 for C.
+/* Lertxuno: updates for motor drives. Sender, Intel HEX reader, device, signature verdict and SHA-256 for C.
  *
  * Every function ends, for all inputs. Those that return a number give 0, or the number of the first refusal that applies (enum lertxuno_refusal); after a
- * refusal whatever the function could have written is as it was. lertxuno_digest and lertxuno_fresh refuse nothing and return nothing. Nothing is allocated,
- * kept between calls, read or written but through the arguments, so calls on different memory may run at the same time.
+ * refusal whatever the function could have written is as it was, but for lertxuno_ihex's *line. lertxuno_digest and lertxuno_fresh refuse nothing and return
+ * nothing. Nothing is allocated, kept between calls, read or written but through the arguments, so calls on different memory may run at the same time.
  *
  * The caller's part: a pointer is not null, also where its length is 0; it has as many bytes as its length, or its array type, says; and memory that a
- * function writes (out, written, length, state, flash) overlaps no other argument. What firmware must do around the calls is in docs/INTEGRATION.md.
+ * function writes (out, written, line, length, state, flash) overlaps no other argument. What firmware must do around the calls is in docs/INTEGRATION.md.
  *
  * The library is for x86-64 Linux. Stack of a call there, at most about: 7 KB for lertxuno_receive, 6 KB for the sender's functions, 4 KB for lertxuno_verify,
  * 1.1 KB for lertxuno_digest, 100 bytes for the others. Time goes into SHA-256 compressions, one for each 64 bytes hashed: a signature's verdict takes about
@@ -41,7 +41,10 @@ enum lertxuno_refusal {
     LERTXUNO_LENGTH = 12,   /* block: not the length due; update: shorter than its block and hashes need. A longer update is one with a longer signature: 9 */
     LERTXUNO_UNLIKE = 13,   /* the update's block length or image length differs from the complete one's */
     LERTXUNO_MISMATCH = 14, /* the hash worked out differs from the one held or signed */
-    LERTXUNO_PATH = 15      /* path update: the old block with the message's hashes does not lead to the root held */
+    LERTXUNO_PATH = 15,     /* path update: the old block with the message's hashes does not lead to the root held */
+    LERTXUNO_TEXT = 16,     /* Intel HEX: a broken line, or no end record */
+    LERTXUNO_PLACE = 17,    /* Intel HEX: a byte outside the image */
+    LERTXUNO_TWICE = 18     /* Intel HEX: a byte named a second time */
 };
 
 /* An answer's word, for logs: "accepted" for 0, and "unknown" for a number that no function returns. */
@@ -63,12 +66,15 @@ static inline const char *lertxuno_refusal_word(uint32_t answer) {
     case LERTXUNO_UNLIKE: return "unlike";
     case LERTXUNO_MISMATCH: return "mismatch";
     case LERTXUNO_PATH: return "path";
+    case LERTXUNO_TEXT: return "text";
+    case LERTXUNO_PLACE: return "place";
+    case LERTXUNO_TWICE: return "twice";
     default: return "unknown";
     }
 }
 
 /* Order of the device's refusals, the first that applies: always 1, 2, 3; then new program 4, 5, 6, 7, 8, 9; block 10, 8, 11, 12, 14; update 10, 4, 5, 6, 7,
- * 13, 8, 11, 12, 9, 14; path update the same, with 15 before 14. The sender's: 5, 11, 8. */
+ * 13, 8, 11, 12, 9, 14; path update the same, with 15 before 14. The sender's: 5, 11, 8. The Intel HEX reader's: 5, 8, then line by line 16, 17, 18. */
 
 /* Sizes. A block has 64, 128, 256, 512 or 1,024 bytes, but for an image's last one, which ends with the image. The flash must have as many bytes as the
  * image; what it has beyond them is the caller's. */
@@ -137,6 +143,21 @@ uint32_t lertxuno_update(const uint8_t *image, size_t image_length, uint32_t blo
 /* Kind 4, path update: the same update for a device that is to read that one block of its flash, and not the whole of it. */
 uint32_t lertxuno_path_update(const uint8_t *image, size_t image_length, uint32_t block_length, uint32_t model, uint32_t serial, uint32_t number,
                               const uint8_t *signature, size_t signature_length, uint8_t *out, size_t room, size_t *written);
+
+/* Intel HEX: the image of `length` bytes that a text denotes, its first byte at address base. Accepted: the image is at the start of out, which has room for
+ * `room` bytes; bytes behind it stay. A byte that the text does not name is 0xFF.
+ *
+ * A line is ':', then pairs of digits, in either case, for count (1 byte), address (2), type (1), data (count bytes) and checksum (1), which sum to 0 modulo
+ * 256, then LF or CR LF, the last line too. Type 00 has data; 01, without data, is the end record, and nothing stands behind its line; 04, with two bytes,
+ * is the upper half of the addresses to come, 0 before any. The address field of 01 and 04 is not looked at. Any other type is a broken line. A byte's
+ * address is the upper half times 65,536, plus the record's address, plus the byte's position, modulo 2 to the power 32; so no wrap at 64 KiB.
+ *
+ * Refused, before any line: LERTXUNO_SIZE for a length outside 1 to LERTXUNO_MAX_IHEX_LENGTH or a last byte above address 4,294,967,295, LERTXUNO_AREA for
+ * too little room. Then the earliest line at fault, and of that the first that applies: LERTXUNO_TEXT, LERTXUNO_PLACE, LERTXUNO_TWICE; *line is its number,
+ * from 1. A missing end record is LERTXUNO_TEXT at the line after the last. In all other cases *line is 0. */
+enum { LERTXUNO_MAX_IHEX_LENGTH = 32768 };
+
+uint32_t lertxuno_ihex(const uint8_t *text, size_t text_length, uint32_t base, size_t length, uint8_t *out, size_t room, size_t *line);
 
 /* The device. Its whole state is LERTXUNO_STATE_LENGTH bytes, which the caller keeps, across power loss too (docs/INTEGRATION.md: in which order state and
  * flash are made durable). The bytes of a state are those between an offset below and the next. */

@@ -9,6 +9,8 @@ use Rattle.wire.specs.declared.refusal.Refusal.the-variants as refusal
 use Rattle.wire.specs.Refusal.{refusalNumber}
 use Rattle.sender.specs.declared.send.Sent.{Sent}
 use Rattle.sender.specs.declared.send.Sent.the-variants as sent
+use Rattle.ihex.specs.declared.reading.Answer.the-variants as answer
+use Rattle.ihex.specs.Read as ihex
 use Rattle.machine.specs.declared.state.Device.{Device}
 use Rattle.machine.specs.declared.state.Answer.{Answer}
 use Rattle.machine.specs.declared.state.Answer.the-variants.{Accepted, Refused}
@@ -29,6 +31,22 @@ pub record Told : Type 0 where
 abbrev pub told : ℕ → Sent → Told
 told before (sent.Written n) = record { answer = 0; written = n }
 told before (sent.Refused r) = record { answer = refusalNumber r; written = before }
+
+-- The Intel HEX reader: the number that is returned, the line at fault, 0 where none is, and the buffer.
+pub record TextRead : Type 0 where
+  pub answer : ℕ
+  pub line : ℕ
+  pub buffer : List ℕ
+
+abbrev pub toldOf : ihex.Outcome → TextRead
+toldOf o =
+    elim (o .answer) [
+      | answer.Read ↦ record { answer = 0; line = 0; buffer = o .buffer }
+      | answer.Refused r n ↦ record { answer = refusalNumber r; line = n; buffer = o .buffer }
+    ]
+
+unfoldable pub readText : (text : List ℕ) (base k : ℕ) (buffer : List ℕ) → TextRead
+readText text base k buffer = toldOf (ihex.read text base k buffer)
 
 -- The device: answer, state bytes and flash after a message.
 pub record Called : Type 0 where

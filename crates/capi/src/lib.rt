@@ -1,5 +1,6 @@
 // The interface for C (include/lertxuno.h). A slice crosses as a pointer and a length, a reference to an array or a number as a pointer. Those that
-// return a number give 0 or that of a refusal; what they write through a pointer is as before where they refuse.
+// return a number give 0 or that of a refusal; what they write through a pointer is as before where they refuse, but for the line that lertxuno_ihex
+// refuses at.
 mod state;
 mod status;
 
@@ -16,7 +17,7 @@ ghost use Rattle.sender.specs.Job.{inBlocks, job};
 ghost use Rattle.sender.specs.Send.{Does, sendManifest, sendProgram, sendBlock, sendUpdate, sendPath};
 ghost use Rattle.machine.specs.Device.{freshWith};
 ghost use Rattle.capi.specs.State.{encode};
-ghost use Rattle.capi.specs.Call.{verdict, told, receive};
+ghost use Rattle.capi.specs.Call.{verdict, told, readText, receive};
 ghost use Rattle.capi.specs.Status.{status, blockMessageLength};
 
 // SHA-256 of the message.
@@ -140,6 +141,29 @@ pub extern "C" fn lertxuno_path_update(
 {
     let sent = sender::path_update(image, len, model, serial, number, signature, out);
     report(sent, written)
+}
+
+// The image that an Intel HEX text denotes.
+#[no_mangle]
+pub extern "C" fn lertxuno_ihex(
+    text: &[u8],
+    base: u32,
+    length: usize,
+    out: &mut [u8],
+    line: &mut usize,
+) -> u32
+    ensures { λ r. ⌜ readText (now (text .entry)) base length (now (out .entry)) ≡ record { answer = r; line = now (line .exit); buffer = now (out .exit) } ⌝ }
+{
+    match ihex::read(text, base, length, out) {
+        ihex::Answer::Read => {
+            *line = 0;
+            0
+        }
+        ihex::Answer::Refused(refusal, number) => {
+            *line = number;
+            wide(wire::refusal_number(refusal))
+        }
+    }
 }
 
 // A fresh device's state.

@@ -1,7 +1,9 @@
 // The showroom's tool. In a folder with image.bin, `pack BLOCK MODEL SERIAL` writes slip.bin, the manifest for signing, and, where signature.bin is there
-// too, bundle.bin: both or neither, unless the last renaming alone fails. What was written is told on standard output, what went wrong on standard error.
+// too, bundle.bin: both or neither, unless the last renaming alone fails. `pack BLOCK MODEL SERIAL BASE LENGTH` does so with the image in image.hex, LENGTH
+// bytes from address BASE on. What was written is told on standard output, what went wrong on standard error.
 mod decimal;
 mod files;
+mod hex;
 mod make;
 
 use decimal::Parsed;
@@ -102,28 +104,53 @@ fn with_image(image: &[u8], len: u32, model: u32, serial: u32) {
     }
 }
 
-fn with_numbers(len: u32, model: u32, serial: u32) {
-    let mut image = image_buffer();
-    let input = files::read(b"image.bin", &mut image);
+// Where the image comes from.
+enum Source {
+    // image.bin, as it is.
+    Binary,
+    // image.hex: the image's first address, and its length.
+    Hex(u32, u32),
+}
+
+fn name_of(source: Source) -> [u8; 9] {
+    match source {
+        Source::Binary => *b"image.bin",
+        Source::Hex(_, _) => *b"image.hex",
+    }
+}
+
+fn with_file(source: Source, file: &[u8], len: u32, model: u32, serial: u32) {
+    match source {
+        Source::Binary => with_image(file, len, model, serial),
+        Source::Hex(base, image_len) => {
+            let mut image = hex::buffer();
+            let made = hex::image(file, base, image_len, &mut image);
+            let n = made.len;
+            if made.done {
+                with_image(&image[..n], len, model, serial);
+            }
+        }
+    }
+}
+
+fn with_source(source: Source, len: u32, model: u32, serial: u32) {
+    let name = name_of(source);
+    // Room for the longest image; a text may be as long.
+    let mut file = image_buffer();
+    let input = files::read(&name, &mut file);
     let n = input.len;
     let found = input.found;
     match found {
-        Found::Whole => with_image(&image[..n], len, model, serial),
+        Found::Whole => with_file(source, &file[..n], len, model, serial),
         Found::Missing => {
-            io::write_all(STDERR_FILENO, b"image.bin: missing\n");
+            io::write_all(STDERR_FILENO, &name);
+            io::write_all(STDERR_FILENO, b": missing\n");
         }
         Found::Unusable => {}
     }
 }
 
-fn main() {
-    if os::arg_count() != 4 {
-        io::write_all(
-            STDERR_FILENO,
-            b"usage: pack BLOCK MODEL SERIAL, in a folder with image.bin\n",
-        );
-        return;
-    }
+fn with_numbers(source: Source) {
     let Parsed::Number(len) = argument(1, b"BLOCK") else {
         return;
     };
@@ -133,5 +160,29 @@ fn main() {
     let Parsed::Number(serial) = argument(3, b"SERIAL") else {
         return;
     };
-    with_numbers(len, model, serial);
+    with_source(source, len, model, serial);
+}
+
+fn with_place() {
+    let Parsed::Number(base) = argument(4, b"BASE") else {
+        return;
+    };
+    let Parsed::Number(image_len) = argument(5, b"LENGTH") else {
+        return;
+    };
+    with_numbers(Source::Hex(base, image_len));
+}
+
+fn main() {
+    let count = os::arg_count();
+    if count == 4 {
+        with_numbers(Source::Binary);
+    } else if count == 6 {
+        with_place();
+    } else {
+        io::write_all(
+            STDERR_FILENO,
+            b"usage: pack BLOCK MODEL SERIAL, in a folder with image.bin; or pack BLOCK MODEL SERIAL BASE LENGTH, in one with image.hex\n",
+        );
+    }
 }

@@ -4,7 +4,7 @@ use mathlib.Core.List.{List, [], _∷_}
 use mathlib.Core.Option.{Option, none, some}
 use Prim.Native.Nat.{ℕ}
 use Rattle.wire.specs.declared.refusal.Refusal.{Refusal}
-use Rattle.wire.specs.declared.refusal.Refusal.the-variants.{State, Kind, Short, Version, Size, Model, Serial, Area, Unsigned, Stage, Turn, Length, Unlike, Mismatch, Path}
+use Rattle.wire.specs.declared.refusal.Refusal.the-variants.{State, Kind, Short, Version, Size, Model, Serial, Area, Unsigned, Stage, Turn, Length, Unlike, Mismatch, Path, Text, Place, Twice}
 
 -- the number of each
 abbrev pub refusalNumber : Refusal → ℕ
@@ -23,6 +23,9 @@ refusalNumber Length = 12
 refusalNumber Unlike = 13
 refusalNumber Mismatch = 14
 refusalNumber Path = 15
+refusalNumber Text = 16
+refusalNumber Place = 17
+refusalNumber Twice = 18
 
 -- "Order, first that applies": of refusals in order, each with whether it applies
 unfoldable pub firstThatApplies : List (Refusal × Bool) → Option Refusal

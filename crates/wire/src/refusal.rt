@@ -18,6 +18,9 @@ pub enum Refusal {
     Unlike,
     Mismatch,
     Path,
+    Text,
+    Place,
+    Twice,
 }
 
 // Its number there.
@@ -40,5 +43,8 @@ pub fn refusal_number(refusal: Refusal) -> u8
         Refusal::Unlike => 13,
         Refusal::Mismatch => 14,
         Refusal::Path => 15,
+        Refusal::Text => 16,
+        Refusal::Place => 17,
+        Refusal::Twice => 18,
     }
 }

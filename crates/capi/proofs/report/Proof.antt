@@ -1,3 +1,6 @@
+use mathlib.Core.Path.{sym, ap, _∙_}
+use Prim.Native.Nat.{ℕ}
+use Rattle.capi.specs.Call.{Told, told}
 use borrow.Author.Needs.{needs}
 use Rattle.capi.proofs.report.Statement.{statement}
 use Rattle.capi.proofs.report.Tie as tie
@@ -18,7 +21,9 @@ returns : tie.Need-returns
 returns c = search needs
 
 returns-2 : tie.Need-returns-2
-returns-2 c = cc
+returns-2 c =
+    let before = c .before .before .before .before .before .args .written .now in
+    ap {B = Told} (λ (n : ℕ). record { answer = n; written = before }) (c .wide .ensures ∙ c .before .refusal-number .ensures) ∙ sym (ap (told before) (c .before .before .before .sent2 .given .1))
 
 pub report-spec : {M : Type 1} → statement M
 report-spec =

@@ -1,3 +1,5 @@
+use mathlib.Core.Path.{sym, ap}
+use Rattle.pack.specs.Make.{made}
 use borrow.Author.Needs.{needs}
 use Rattle.pack.proofs.make.outcome.Statement.{statement}
 use Rattle.pack.proofs.make.outcome.Tie as tie
@@ -12,10 +14,10 @@ refuse-requires : tie.Need-refuse-requires
 refuse-requires c κs = search needs
 
 returns : tie.Need-returns
-returns c = cc
+returns c = sym (ap made (c .before .sent .given .1))
 
 returns-2 : tie.Need-returns-2
-returns-2 c = cc
+returns-2 c = sym (ap made (c .before .before .sent2 .given .1))
 
 pub outcome-spec : {M : Type 1} → statement M
 outcome-spec =

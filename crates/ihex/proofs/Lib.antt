@@ -1,0 +1,12 @@
+pub mod DigitLaws
+pub mod LineLaws
+pub mod RecordLaws
+pub mod SeenLaws
+pub mod NamedLaws
+pub mod StepLaws
+pub mod JudgeLaws
+pub mod PlaceLaws
+pub mod ReadLaws
+pub mod ImageLaws
+pub mod WriteLaws
+pub mod RoundLaws

@@ -1,0 +1,6 @@
+pub mod Line
+pub mod Text
+pub mod Read
+pub mod Write
+pub mod Claims
+pub mod Found

@@ -1,0 +1,15 @@
+// Intel HEX: the image that a text denotes. The text is read twice, first to judge it and then to write, so that a refused one leaves the buffer as it was.
+mod digits;
+mod judge;
+mod line;
+mod reading;
+mod record;
+mod seen;
+mod write;
+
+pub use line::record_at;
+pub use reading::Answer;
+pub use reading::MAX_LEN;
+pub use reading::read;
+pub use record::Found;
+pub use record::Record;

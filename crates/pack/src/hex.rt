@@ -1,0 +1,82 @@
+// The image in image.hex. A refusal is told on standard error by its word, with the number of its line.
+use crate::make::Made;
+use crate::make::tell;
+use ihex::Answer;
+use ihex::Found;
+use libc::STDERR_FILENO;
+use wire::Refusal;
+ghost use mathlib.Core.Path.{_≡_};
+ghost use Prim.Native.Nat.{_<_};
+ghost use lib.ListN.{length};
+ghost use Rattle.io.specs.Counts.{Counts};
+ghost use Rattle.ihex.specs.Read as spec;
+ghost use Rattle.pack.specs.Make.{Reads};
+
+// Zeros for the longest image. The contract says all that a caller needs, so that no proof counts them one by one.
+pub fn buffer() -> [u8; ihex::MAX_LEN]
+    ensures { λ r. ⌜ spec.maxLength ≡ length r ⌝ }
+{
+    [0u8; ihex::MAX_LEN]
+}
+
+// A number below 16, as a digit.
+fn figure(number: u8) -> u8
+    requires { ⌜ number < 16 ⌝ }
+{
+    let figures = *b"0123456789ABCDEF";
+    figures[number as usize]
+}
+
+// What is wrong with a line that is no record of the three types.
+fn broken(text: &[u8], line: usize) {
+    tell(b"text: image.hex, line ", line, b": ");
+    if 0 < line {
+        if let Found::Sound(record) = ihex::record_at(text, line - 1) {
+            let kind = record.kind;
+            let digits = [figure(kind / 16), figure(kind % 16)];
+            io::write_all(STDERR_FILENO, b"record type ");
+            io::write_all(STDERR_FILENO, &digits);
+            io::write_all(
+                STDERR_FILENO,
+                b"; only 00, 01 without data and 04 with two bytes are read, and no line behind 01\n",
+            );
+            return;
+        }
+    }
+    io::write_all(STDERR_FILENO, b"broken, or no end record\n");
+}
+
+fn refuse(text: &[u8], refusal: Refusal, line: usize) {
+    match refusal {
+        Refusal::Text => broken(text, line),
+        Refusal::Place => tell(
+            b"place: image.hex, line ",
+            line,
+            b": a byte outside the LENGTH bytes from address BASE on\n",
+        ),
+        Refusal::Twice => tell(b"twice: image.hex, line ", line, b": a byte named before\n"),
+        _ => tell(
+            b"size: LENGTH must be 1 to ",
+            ihex::MAX_LEN,
+            b", and BASE + LENGTH at most 4294967296\n",
+        ),
+    }
+}
+
+// Puts the image at the start of `out`.
+pub fn image(text: &[u8], base: u32, len: u32, out: &mut [u8]) -> Made
+    ensures { λ r. ⌜ Reads len (spec.read (now (text .entry)) base len (now (out .entry))) r (now (out .exit)) ⌝ }
+    ensures { λ r. ⌜ Counts (r .len) (now (out .exit)) ⌝ }
+{
+    let len = len as usize;
+    match ihex::read(text, base, len, out) {
+        Answer::Read => Made { len, done: true },
+        Answer::Refused(refusal, line) => {
+            refuse(text, refusal, line);
+            Made {
+                len: 0,
+                done: false,
+            }
+        }
+    }
+}
