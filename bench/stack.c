@@ -1,6 +1,7 @@
 /* The stack that a call uses: it runs on a painted one, and what is not painted any more was used, less the same for an empty call. 4,096 blocks, where the
-   tree is deepest. A part that a function reserves below its deepest write is not seen. */
+   tree is deepest, and the longest image of Intel HEX. A part that a function reserves below its deepest write is not seen. */
 #include "device.h"
+#include "ihex_text.h"
 #include <string.h>
 #include <ucontext.h>
 
@@ -9,8 +10,10 @@ enum { PAINT = 0xA5, BLOCK_LENGTH = 64 };
 static uint8_t stack[1 << 16];
 static messages made;
 static device_memory device;
-static uint8_t out[4096];
+static uint8_t out[LERTXUNO_MAX_IHEX_LENGTH];
 static size_t written;
+static char text[IHEX_TEXT_ROOM];
+static size_t text_length, line;
 static uint32_t status[LERTXUNO_STATUS_NUMBERS];
 
 static void nothing(void) {}
@@ -57,6 +60,10 @@ static void send_update(void) { send_either(lertxuno_update); }
 
 static void send_path_update(void) { send_either(lertxuno_path_update); }
 
+static void read_ihex(void) {
+    accepted(lertxuno_ihex((const uint8_t *)text, text_length, IHEX_BASE, LERTXUNO_MAX_IHEX_LENGTH, out, sizeof out, &line));
+}
+
 static void verify(void) { judge(&made, &made.program); }
 
 static void digest(void) { lertxuno_digest(made.image, made.length, out); }
@@ -80,6 +87,7 @@ static void measure(const char *name, void (*call)(void)) { printf("%-34s %8zu\n
 
 int main(void) {
     make_messages((size_t)MOST_BLOCKS * BLOCK_LENGTH, BLOCK_LENGTH, &made);
+    text_length = ihex_text(made.image, LERTXUNO_MAX_IHEX_LENGTH, 16, "\r\n", text);
     printf("%-34s %8s\n", "stack", "bytes");
     measure("device, fresh", make_fresh);
     measure("device, program", take_program);
@@ -93,6 +101,7 @@ int main(void) {
     measure("sender, all blocks", send_all_blocks);
     measure("sender, update", send_update);
     measure("sender, path update", send_path_update);
+    measure("ihex", read_ihex);
     measure("verify", verify);
     measure("digest", digest);
     return 0;
