@@ -3,7 +3,7 @@ use mathlib.Core.Path.{_≡_, refl, sym, ap, ap₂, _∙_}
 use mathlib.Core.Bool.{Bool, true, false, cond, _&&_}
 use mathlib.Core.List.{List, [], _∷_}
 use mathlib.Core.Option.{Option, none, some}
-use Prim.Native.Nat.{ℕ, zero, suc, _+_, _-_, _*_, _%_, _≤_, _<_}
+use Prim.Native.Nat.{ℕ, suc, _+_, _-_, _*_, _%_, _≤_, _<_}
 use native.Mathlib.Decide.{decLt}
 use native.Mathlib.Omega.{arith}
 use lib.Dec.{leb}
@@ -72,10 +72,10 @@ some-of none f = absurd (f refl)
 some-of (some d) f = refl
 
 -- what the code's number for a digit tells
-pub digit-none : (c : ℕ) → digitOr (digit c) ≡ 16 → digit c ≡ none
+digit-none : (c : ℕ) → digitOr (digit c) ≡ 16 → digit c ≡ none
 digit-none c = none-of (digit c) (digit-small c)
 
-pub digit-some : (c : ℕ) → (digitOr (digit c) ≡ 16 → ⊥) → digit c ≡ some (digitOr (digit c))
+digit-some : (c : ℕ) → (digitOr (digit c) ≡ 16 → ⊥) → digit c ≡ some (digitOr (digit c))
 digit-some c = some-of (digit c)
 
 -- The sum of bytes, pair by pair.
@@ -89,15 +89,15 @@ sum-low a none o = refl
 sum-low a (some x) o = refl
 
 module _ (a h l : ℕ) (s : List ℕ) where
-  pub sum-pair : (digitOr (digit h) ≡ 16 → ⊥) → (digitOr (digit l) ≡ 16 → ⊥) → sumOf a (octets (h ∷ l ∷ s)) ≡ sumOf ((a + 16 * digitOr (digit h) + digitOr (digit l)) % 256) (octets s)
+  sum-pair : (digitOr (digit h) ≡ 16 → ⊥) → (digitOr (digit l) ≡ 16 → ⊥) → sumOf a (octets (h ∷ l ∷ s)) ≡ sumOf ((a + 16 * digitOr (digit h) + digitOr (digit l)) % 256) (octets s)
   unfolding octets
   sum-pair f g = ap₂ {C = ℕ} (λ (x y : Option ℕ). sumOf a (byteAnd x y (octets s))) (digit-some h f) (digit-some l g) ∙ sum-byte a (digitOr (digit h)) (digitOr (digit l)) (octets s)
 
-  pub sum-no-high : digitOr (digit h) ≡ 16 → sumOf a (octets (h ∷ l ∷ s)) ≡ 256
+  sum-no-high : digitOr (digit h) ≡ 16 → sumOf a (octets (h ∷ l ∷ s)) ≡ 256
   unfolding octets
   sum-no-high e = ap (λ (x : Option ℕ). sumOf a (byteAnd x (digit l) (octets s))) (digit-none h e)
 
-  pub sum-no-low : digitOr (digit l) ≡ 16 → sumOf a (octets (h ∷ l ∷ s)) ≡ 256
+  sum-no-low : digitOr (digit l) ≡ 16 → sumOf a (octets (h ∷ l ∷ s)) ≡ 256
   unfolding octets
   sum-no-low e = ap (λ (x : Option ℕ). sumOf a (byteAnd (digit h) x (octets s))) (digit-none l e) ∙ sum-low a (digit h) (octets s)
 

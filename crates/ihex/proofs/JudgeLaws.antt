@@ -1,9 +1,9 @@
 -- The lines of a text, judged one by one.
 use mathlib.Core.Path.{_≡_, refl, sym, ap, _∙_}
-use mathlib.Core.Bool.{Bool, true, false, cond, _||_, true≢false}
+use mathlib.Core.Bool.{true, false}
 use mathlib.Core.List.{List, [], _∷_, _++_}
 use mathlib.Core.Option.{Option, none, some, bind}
-use Prim.Native.Nat.{ℕ, zero, suc, _+_, _-_, _*_, _/_, _%_, _^_, _≤_, _<_}
+use Prim.Native.Nat.{ℕ, zero, suc, _+_, _-_, _/_, _%_, _^_, _≤_, _<_}
 use native.Mathlib.Numerals.{add-one}
 use native.Mathlib.Omega.{arith}
 use lib.Pow.{shr-le}
@@ -19,7 +19,7 @@ use Rattle.ihex.specs.declared.judge.Step.the-variants.{Next, End, Fault
 use Rattle.ihex.specs.declared.reading.Answer.the-variants.{Read, Refused}
 use Rattle.ihex.specs.Line.{content, recordIn, Line, data00, end01, upper04, lineOf}
 use Rattle.ihex.specs.Text.{lines, Byte, isNamed}
-use Rattle.ihex.specs.Read.{Before, start, namedBy, upperAfter, isEnd, after, refusals, Judged, names, fault, judge, judged}
+use Rattle.ihex.specs.Read.{Before, start, namedBy, upperAfter, isEnd, after, refusals, names, fault, judge, judged}
 use Rattle.ihex.specs.Found.{bit, firstLine, Seen, stepOf, Steps, answerFound}
 use Rattle.ihex.proofs.LineLaws.{lines-first, first-taken}
 use Rattle.ihex.proofs.StepLaws.{unended}
@@ -30,7 +30,7 @@ zero-at zero i = refl
 zero-at (suc n) zero = refl
 zero-at (suc n) (suc i) = zero-at n i
 
-pub nothing-seen : (base k n : ℕ) → Seen base k [] (replicate n 0)
+nothing-seen : (base k n : ℕ) → Seen base k [] (replicate n 0)
 unfolding bit isNamed
 nothing-seen base k n i h = rw (zero-at n (i / 8)) (ne-eqb (0 / 2 ^ (i % 8) % 2) 1 (λ e. omega (arith, shr-le 0 (i % 8))))
 
@@ -105,7 +105,7 @@ step-next none u (some (upper04 w)) v e = (refl, refl, cc)
 
 module _ (base k : ℕ) where
   -- a line that no refusal applies to, and one that one applies to
-  pub judge-on : (b : Before) (n : ℕ) (l : List ℕ) (ls : List (List ℕ)) → firstThatApplies (refusals base k b (lineOf l)) ≡ none
+  judge-on : (b : Before) (n : ℕ) (l : List ℕ) (ls : List (List ℕ)) → firstThatApplies (refusals base k b (lineOf l)) ≡ none
       → judge base k b n (l ∷ ls) ≡ judge base k (after b (lineOf l)) (suc n) ls
   unfolding judge
   judge-on b n l ls e = rw (e, judge)

@@ -93,7 +93,7 @@ module _ (base k x : ℕ) (vs : List ℕ) (last : base + k ≤ 2 ^ 32) (low : ba
           pasted-in image vs (x - base) fits i (omega arith) (omega arith)
           ∙ sym (rw e at (value-unnamed (x + j) bs (placed x vs) (apart j (omega arith)) ∙ placed-value x vs (omega arith) j (omega arith)))
 
-  pub image-placed : paste image (x - base) vs (length vs) ≡ imageOf base k (bs ++ placed x vs)
+  image-placed : paste image (x - base) vs (length vs) ≡ imageOf base k (bs ++ placed x vs)
   image-placed =
       ext-getD 0 (paste image (x - base) vs (length vs)) (imageOf base k (bs ++ placed x vs))
       (length-paste image (x - base) vs (length vs) fits (omega arith) ∙ size ∙ sym (image-length base k (bs ++ placed x vs)))

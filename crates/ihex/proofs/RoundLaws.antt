@@ -1,49 +1,26 @@
--- The text for an image keeps the rules and denotes that image.
+-- The text for an image keeps the rules and denotes that image, and so is read back.
 use mathlib.Core.Path.{_≡_, refl, sym, ap, ap₂, _∙_}
 use mathlib.Core.Bool.{Bool, true, false, cond}
-use mathlib.Core.List.{List, [], _∷_, _++_, append-nil, List·Memᴰ, List·Memᴰ·not-nil, List·Memᴰ·head, List·Memᴰ·tail}
+use mathlib.Core.List.{List, [], _∷_, _++_, append-nil}
 use mathlib.Core.Option.{some, bind}
 use Prim.Native.Nat.{ℕ, zero, suc, _+_, _-_, _*_, _/_, _%_, _^_, _≤_, _<_}
 use native.Mathlib.Omega.{arith}
-use lib.Dec.{eqb, ltb}
+use lib.Dec.{eqb}
 use lib.ListN.{length, take, drop, length-take, length-drop}
-use lib.Seq.{getD-take, getD-drop}
-use borrow.Author.Tests.{ltb-false, eqb-true, eq-eqb, ne-eqb}
+use lib.Seq.{getD-take, getD-drop, ext-getD}
+use borrow.Author.Tests.{eqb-true}
 use Rattle.octets.specs.Octets.{Bytes, bytes}
 use Rattle.octets.proofs.NumberLaws.{number-back}
-use Rattle.wire.proofs.SizeLaws.{or-false}
 use Rattle.ihex.specs.declared.reading.Answer.{Answer}
 use Rattle.ihex.specs.Line.{data00, end01, upper04, meaning, lineOf}
-use Rattle.ihex.specs.Text.{lines, Byte, placed, Names, ended, named, under, valueAt, imageOf}
-use Rattle.ihex.specs.Read.{maxLength, wrongLength, Outcome}
+use Rattle.ihex.specs.Text.{lines, Byte, placed, Names, ended, named, under, imageOf}
+use Rattle.ihex.specs.Read.{wrongLength, Outcome}
 use Rattle.ihex.specs.Write.{recordLine, textFrom, textOf}
-use Rattle.ihex.specs.Claims.{Once, Denotes, OnceInRecord, AllRead, RoundTrip}
+use Rattle.ihex.specs.Claims.{Denotes, RoundTrip}
+use Rattle.ihex.proofs.NamedLaws.{image-length, image-at, at-placed, once-in-record, placed-value}
+use Rattle.ihex.proofs.StepLaws.{fits}
+use Rattle.ihex.proofs.ReadLaws.{all-read}
 use Rattle.ihex.proofs.WriteLaws.{lines-line, line-back}
-
--- where data placed from a on has a byte
-placed-at : {b : Byte} (a : ℕ) (s : List ℕ) → List·Memᴰ b (placed a s) → (i : ℕ) × (i < length s) × (b .address ≡ (a + i) % 2 ^ 32)
-unfolding placed
-placed-at a [] m = absurd (List·Memᴰ·not-nil m)
-placed-at a (v ∷ s) (List·Memᴰ·head e) = (0, omega arith, ap (λ (c : Byte). c .address) e ∙ omega arith)
-placed-at a (v ∷ s) (List·Memᴰ·tail m) = let r = placed-at (suc a) s m in (suc (r .0), omega arith, omega arith)
-
-pub once-in-record : OnceInRecord
-unfolding Once placed
-once-in-record a [] h = tt
-once-in-record a (v ∷ s) h = (λ c m e. let r = placed-at (suc a) s m in omega arith, once-in-record (suc a) s (omega arith))
-
--- the image of data is the data, where no address is beyond the last
-image-past : (b : Byte) (bs : List Byte) (a k : ℕ) → b .address < a → imageOf a k (b ∷ bs) ≡ imageOf a k bs
-unfolding imageOf valueAt
-image-past b bs a zero h = refl
-image-past b bs a (suc k) h = rw (ne-eqb (b .address) a (λ e. omega arith), image-past b bs (suc a) k (omega arith))
-
-image-placed : (a : ℕ) (s : List ℕ) → a + length s ≤ 2 ^ 32 → imageOf a (length s) (placed a s) ≡ s
-unfolding imageOf valueAt placed
-image-placed a [] h = refl
-image-placed a (v ∷ s) h =
-    let here : Byte = record { address = a % 2 ^ 32; value = v } in
-    rw (eq-eqb (a % 2 ^ 32) a (omega arith), image-past here (placed (suc a) s) (suc a) (length s) (omega arith), image-placed (suc a) s (omega arith))
 
 -- data in two pieces
 placed-split : (n a : ℕ) (s : List ℕ) → placed a (take n s) ++ placed (a + n) (drop n s) ≡ placed a s
@@ -106,28 +83,26 @@ names-text (suc k) u a (v ∷ s) l h b =
     let d = named first rest in
     names-under u (a / 65536) _ (omega arith) (rw lines-line (rw (e, placed-split n a (v ∷ s)) at d))
 
--- the last byte is at an address
-fits : (base k : ℕ) → wrongLength base k ≡ false → base + k ≤ 2 ^ 32
-unfolding wrongLength
-fits base k w = ltb-false (2 ^ 32) (base + k) (or-false (ltb maxLength k) _ (or-false (ltb k 1) _ w .1) .1)
-
-pub own : (image : List ℕ) (base : ℕ) → Bytes image → wrongLength base (length image) ≡ false → Denotes (textOf base image) base (length image) (placed base image)
+own : (image : List ℕ) (base : ℕ) → Bytes image → wrongLength base (length image) ≡ false → Denotes (textOf base image) base (length image) (placed base image)
 unfolding textOf
 own image base b w =
-    let f = fits base (length image) w in
+    let f = fits base (length image) w .last in
     record {
       rules = names-text (length image) 0 base image (omega arith) f b;
-      inside = λ c m. let r = placed-at base image m in (omega arith, omega arith);
+      inside = λ c m. let r = at-placed base image m in (omega arith, omega arith);
       once = once-in-record base image (omega arith);
     }
 
-pub own-image : (image : List ℕ) (base : ℕ) → wrongLength base (length image) ≡ false → imageOf base (length image) (placed base image) ≡ image
-own-image image base w = image-placed base image (fits base (length image) w)
+own-image : (image : List ℕ) (base : ℕ) → wrongLength base (length image) ≡ false → imageOf base (length image) (placed base image) ≡ image
+own-image image base w =
+    let f = fits base (length image) w .last in
+    let l = image-length base (length image) (placed base image) in
+    ext-getD 0 (imageOf base (length image) (placed base image)) image l
+    (λ i h. image-at base (length image) (placed base image) i (omega arith) ∙ placed-value base image f i (omega arith))
 
--- so that it is read back, once all texts are read as they should be
-pub round-trip : AllRead → RoundTrip
-round-trip all image base buffer b w l =
-    let r = all (textOf base image) base (length image) buffer w l in
+pub round-trip : RoundTrip
+round-trip image base buffer b w l =
+    let r = all-read (textOf base image) base (length image) buffer w l in
     let d = own image base b w in
     ap₂ {C = Outcome} (λ (x : Answer) (y : List ℕ). record { answer = x; buffer = y })
     (r .exactly .1 (placed base image, d)) (rw (own-image image base w) at (r .image (placed base image) d))

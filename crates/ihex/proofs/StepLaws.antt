@@ -1,5 +1,5 @@
 -- One line, judged with the bits in the place of the bytes named before it.
-use mathlib.Core.Path.{_≡_, refl, sym, ap, ap₂, _∙_}
+use mathlib.Core.Path.{_≡_, refl, sym, ap, _∙_}
 use mathlib.Core.Bool.{Bool, true, false, _&&_, _||_}
 use mathlib.Core.List.{List, [], _∷_, _++_, append-nil}
 use mathlib.Core.Option.{Option, none, some}
@@ -25,7 +25,6 @@ use Rattle.ihex.proofs.NamedLaws.{isNamed-append, placed-named, placed-
 
 -- the image's length and place
 pub record Fits (base k : ℕ) : Type 0 where
-  pub least : 0 < k
   pub most : k ≤ 32768
   pub last : base + k ≤ 2 ^ 32
 
@@ -34,7 +33,7 @@ unfolding wrongLength
 fits base k e =
     let a = or-false (ltb k 1) _ e in
     let b = or-false (ltb maxLength k) _ (a .1) in
-    record { least = ltb-false k 1 (a .0); most = ltb-false maxLength k (b .0); last = ltb-false (2 ^ 32) (base + k) (b .1) }
+    record { most = ltb-false maxLength k (b .0); last = ltb-false (2 ^ 32) (base + k) (b .1) }
 
 -- before the end record, with u the last 04 value and bs named
 abbrev pub unended : ℕ → List Byte → Before

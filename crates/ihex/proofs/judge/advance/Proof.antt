@@ -3,7 +3,6 @@ use mathlib.Core.Option.{some}
 use Prim.Native.Nat.{ℕ}
 use lib.ListN.{length}
 use Rattle.ihex.specs.Line.{data00, lineOf}
-use Rattle.ihex.specs.Found.{Marked}
 use mathlib.Core.Path.{_≡_, sym, _∙_}
 use native.Mathlib.Omega.{arith}
 use Rattle.ihex.proofs.StepLaws.{fits, steps-broken, steps-end, steps-upper, is-broken, is-end, is-upper, is-data, steps-empty, steps-below, steps-above, steps-twice, steps-next}

@@ -1,5 +1,5 @@
 use native.Mathlib.Omega.{arith}
-use Rattle.ihex.proofs.RecordLaws.{found-none, finds, found-data, found-end, found-long-end, found-upper, found-wrong-upper, found-other, found-long, found-value}
+use Rattle.ihex.proofs.FoundLaws.{found-none, finds, found-data, found-end, found-long-end, found-upper, found-wrong-upper, found-other, found-long, found-value}
 use borrow.Author.Needs.{needs}
 use Rattle.ihex.proofs.line.line_of.Statement.{statement}
 use Rattle.ihex.proofs.line.line_of.Tie as tie

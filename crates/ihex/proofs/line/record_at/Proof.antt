@@ -1,11 +1,11 @@
-use mathlib.Core.Path.{_≡_, refl, sym, ap, _∙_}
+use mathlib.Core.Path.{_≡_, sym, ap, _∙_}
 use mathlib.Core.List.{List, []}
 use Prim.Native.Nat.{ℕ, suc, _+_, _-_, _≤_}
 use native.Mathlib.Omega.{arith}
 use lib.ListN.{length, drop, getD}
 use Rattle.ihex.specs.Line.{recordIn}
 use Rattle.ihex.specs.Text.{lines}
-use Rattle.ihex.specs.Found.{recordFound, firstLine}
+use Rattle.ihex.specs.Found.{recordFound}
 use Rattle.ihex.proofs.JudgeLaws.{line-at, end-within, line-first, line-later, line-none, no-record}
 use borrow.Author.Needs.{needs}
 use Rattle.ihex.proofs.line.record_at.Statement.{statement}

@@ -7,7 +7,7 @@ use lib.ListN.{length, length-set, getD, set}
 use lib.Seq.{paste, paste-zero, paste-suc}
 use Rattle.ihex.specs.Line.{lineOf}
 use Rattle.ihex.specs.Found.{dataIn}
-use Rattle.ihex.proofs.RecordLaws.{data-at}
+use Rattle.ihex.proofs.FoundLaws.{data-at}
 use borrow.Author.Needs.{needs}
 use Rattle.ihex.proofs.write.put.Statement.{statement}
 use Rattle.ihex.proofs.write.put.Tie as tie

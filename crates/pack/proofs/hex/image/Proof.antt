@@ -1,9 +1,8 @@
-use mathlib.Core.Path.{_≡_, refl, sym, ap, _∙_}
-use Prim.Native.Nat.{ℕ, _≤_}
+use mathlib.Core.Path.{refl, sym, ap, _∙_}
+use Prim.Native.Nat.{_≤_}
 use native.Mathlib.Omega.{arith}
 use lib.ListN.{length}
 use lib.Seq.{length-take-le}
-use Rattle.ihex.specs.declared.reading.Answer.{Answer}
 use Rattle.ihex.specs.Read.{Outcome}
 use Rattle.ihex.proofs.ReadLaws.{read-room}
 use Rattle.pack.specs.Make.{madeImage}
