@@ -71,6 +71,15 @@ unsafe extern "C" {
         room: usize,
         written: *mut usize,
     ) -> u32;
+    fn lertxuno_ihex(
+        text: *const u8,
+        text_length: usize,
+        base: u32,
+        length: usize,
+        out: *mut u8,
+        room: usize,
+        line: *mut usize,
+    ) -> u32;
     fn lertxuno_fresh(model: u32, key: *const u8, state: *mut u8);
     fn lertxuno_receive(
         state: *mut u8,
@@ -149,6 +158,16 @@ pub fn send(order: &Order, what: Send, out: &mut Lent, written: &mut usize) -> u
             }
         }
     }
+}
+
+/// The line's number, and a guard on each side of it.
+pub type LineNumber = [usize; 3];
+
+pub fn ihex(text: &[u8], base: u32, length: usize, out: &mut Lent, line: &mut LineNumber) -> u32 {
+    let text = Lent::new(text);
+    let (t, tl) = text.parts();
+    let (out, room) = (out.pointer(), out.bytes().len());
+    unsafe { lertxuno_ihex(t, tl, base, length, out, room, &mut line[1]) }
 }
 
 pub fn fresh(model: u32, key: &[u8; 56], state: &mut Lent) {

@@ -1,17 +1,19 @@
 //! How often each answer was given, by row (a kind of message, or a function), each sort of path
-//! update accepted, and each case of the image's end; and which of these must have occurred at
-//! least once.
+//! update accepted, each case of the image's end and each of Intel HEX texts; and which of these
+//! must have occurred at least once.
 
 use std::array;
 
 use crate::ends::{ENDS, End};
+use crate::hexcases;
+use crate::ihex::{BROKEN, Broken};
 use crate::lengths::{LASTS, shape};
 use crate::manifest::BLOCK_LENGTHS;
 use crate::tree::path;
 
 struct Row {
     name: &'static str,
-    /// The columns that must have occurred: answers, depths, kinds or shapes.
+    /// The columns that must have occurred: answers, depths, kinds, shapes or faults.
     due: Vec<usize>,
     counts: [u64; 16],
 }
@@ -20,6 +22,9 @@ pub struct Coverage {
     answers: Vec<Row>,
     paths: Vec<Row>,
     ends: Vec<Row>,
+    texts: Vec<Row>,
+    /// Broken lines: by a single fault, and by several.
+    broken: [Row; 2],
     /// By row, block length and shape.
     shapes: [[[u64; 16]; 5]; SHAPED.len()],
     /// The most blocks that a complete device had.
@@ -108,6 +113,11 @@ fn rows(from: &[(&'static str, &[usize])]) -> Vec<Row> {
     from.iter().map(empty).collect()
 }
 
+fn text_column(answer: u32) -> usize {
+    let column = hexcases::ANSWERS.iter().position(|some| *some == answer);
+    column.expect("an answer of the Intel HEX reader")
+}
+
 /// Prints the rows; the number of due columns that stayed empty.
 fn table(title: &str, columns: impl Iterator<Item = String>, rows: &[Row]) -> u64 {
     print!("{title:18}");
@@ -136,10 +146,15 @@ impl Coverage {
         let end = |(name, due): &(&'static str, &[(usize, u32)])| {
             row(name, due.iter().map(|(kind, _)| *kind))
         };
+        let text = |(name, due, _): &hexcases::Case| {
+            row(name, due.iter().map(|answer| text_column(*answer)))
+        };
         Coverage {
             answers: rows(&ANSWERS),
             paths: rows(&PATHS),
             ends: ENDS.iter().map(end).collect(),
+            texts: hexcases::CASES.concat().iter().map(text).collect(),
+            broken: [row("one fault", 0..BROKEN.len()), row("several", [])],
             shapes: [[[0; 16]; 5]; SHAPED.len()],
             largest: 0,
         }
@@ -168,6 +183,18 @@ impl Coverage {
         self.ends[case as usize].counts[kind] += due as u64;
     }
 
+    /// A call of the Intel HEX reader was this case.
+    pub fn text(&mut self, case: usize, answer: u32) {
+        self.texts[case].counts[text_column(answer)] += 1;
+    }
+
+    /// It refused a line for these.
+    pub fn broken(&mut self, faults: &[Broken]) {
+        for fault in faults {
+            self.broken[(faults.len() > 1) as usize].counts[*fault as usize] += 1;
+        }
+    }
+
     pub fn shape(&mut self, row: usize, image_length: usize, block_length: usize) {
         let lengths = BLOCK_LENGTHS.iter().zip(&mut self.shapes[row]);
         for (_, shapes) in lengths.filter(|(length, _)| **length as usize == block_length) {
@@ -187,10 +214,14 @@ impl Coverage {
     /// Prints all tables; the number of due cases that never came.
     pub fn report(&self) -> u64 {
         let numbers = |n: usize| (0..n).map(|column| column.to_string());
+        let answers = hexcases::ANSWERS.iter().map(u32::to_string);
+        let faults = BROKEN.iter().map(|fault| fault.to_string());
         let shapes = ["1", "2", "3", "n"].map(|n| LASTS.map(|last| format!("{n}:{last}")));
         let missing = table("answers", numbers(16), &self.answers)
             + table("paths, by depth", numbers(16), &self.paths)
             + table("ends, by kind", numbers(5), &self.ends)
+            + table("texts, by answer", answers, &self.texts)
+            + table("broken lines", faults, &self.broken)
             + table("shapes, n:last", shapes.concat().into_iter(), &self.least());
         println!("largest complete image: {} blocks", self.largest);
         missing

@@ -1,6 +1,6 @@
 //! The C library and the loader against a model written from the papers alone: the image's end by
-//! hand, and random lists of messages, what is read off each state, sender calls, digests, verdicts
-//! and bundles.
+//! hand, and random lists of messages, what is read off each state, sender calls, digests, verdicts,
+//! Intel HEX texts and bundles.
 //!
 //! `model [CALLS [SEED]]`: CALLS messages to devices (200,000 if not given), and of the other calls
 //! a share of it.
@@ -15,6 +15,11 @@ mod device;
 mod ends;
 mod functions;
 mod handmade;
+mod hexcall;
+mod hexcases;
+mod hexdamage;
+mod hextexts;
+mod ihex;
 mod layout;
 mod lengths;
 mod lent;
@@ -125,6 +130,14 @@ impl Test<'_> {
             let case_rng = Rng::new(self.seed, rng.next());
             let result = Case::new(case_rng, signer, image).run();
             self.record("device by hand", 0, index, result.map_err(named));
+        }
+    }
+
+    fn texts(&mut self, calls: u64) {
+        let mut rng = Rng::new(self.seed, u64::MAX - 4);
+        for index in 0..calls as usize / 4 {
+            let result = hexcall::random(&mut rng, &mut self.coverage);
+            self.record("Intel HEX", 0, index, result);
         }
     }
 
@@ -239,6 +252,8 @@ fn main() {
     test.lists(calls);
     println!("sender, digest, verdict");
     test.functions(calls);
+    println!("Intel HEX");
+    test.texts(calls);
     println!("loader");
     test.bundles((calls / 400).clamp(1, 2000));
     test.report(calls);

@@ -25,6 +25,9 @@ pub const LENGTH: u32 = 12;
 pub const UNLIKE: u32 = 13;
 pub const MISMATCH: u32 = 14;
 pub const PATH: u32 = 15;
+pub const TEXT: u32 = 16;
+pub const PLACE: u32 = 17;
+pub const TWICE: u32 = 18;
 
 /// The first refusal that applies.
 pub type Outcome<T> = Result<T, u32>;

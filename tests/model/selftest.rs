@@ -1,7 +1,8 @@
 //! The model against values known from outside, before it judges anything: FIPS 180-4's examples,
-//! two signatures of RFC 8554's appendix F, and the counts and lengths that document 01 works out
-//! by hand. And paths and the last block, against the tree.
+//! two signatures of RFC 8554's appendix F, a well-known Intel HEX text, and the counts and lengths
+//! that document 01 works out by hand. And paths and the last block, against the tree.
 
+use crate::ihex::Reading;
 use crate::lms::verify;
 use crate::manifest::check_size;
 use crate::rfc8554::CASES;
@@ -111,7 +112,21 @@ fn paths() -> bool {
         && (1..=17).all(|n| (1..=n).all(|i| leads(n, i)))
 }
 
-pub fn run() -> [(&'static str, bool); 6] {
+/// The usual example of a text, which others have published with its checksums.
+fn hex_text() -> bool {
+    let text = b":10010000214601360121470136007EFE09D2190140\n\
+        :100110002146017E17C20001FF5F16002148011928\n\
+        :10012000194E79234623965778239EDA3F01B2CAA7\n\
+        :100130003F0156702B5E712B722B732146013421C7\n\
+        :00000001FF\n";
+    let image = "214601360121470136007EFE09D219012146017E17C20001FF5F160021480119\
+        194E79234623965778239EDA3F01B2CA3F0156702B5E712B722B732146013421";
+    let reading = Reading::new(text, 0x100, 64);
+    let named: Option<Vec<u8>> = reading.image.iter().copied().collect();
+    reading.fault.is_none() && named == Some(unhex(image))
+}
+
+pub fn run() -> [(&'static str, bool); 7] {
     [
         ("digests", digests()),
         ("signatures", signatures()),
@@ -119,5 +134,6 @@ pub fn run() -> [(&'static str, bool); 6] {
         ("lengths", lengths()),
         ("last block", last_block()),
         ("paths", paths()),
+        ("Intel HEX", hex_text()),
     ]
 }
