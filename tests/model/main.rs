@@ -1,6 +1,6 @@
-//! The C library and the loader against a model written from the papers alone: the image's end by
-//! hand, and random lists of messages, what is read off each state, sender calls, digests, verdicts,
-//! Intel HEX texts and bundles.
+//! The C library and the loader against a model written from the papers alone: the image's end and
+//! Intel HEX by hand, and random lists of messages, what is read off each state, sender calls,
+//! digests, verdicts, Intel HEX texts and bundles.
 //!
 //! `model [CALLS [SEED]]`: CALLS messages to devices (200,000 if not given), and of the other calls
 //! a share of it.
@@ -18,6 +18,7 @@ mod handmade;
 mod hexcall;
 mod hexcases;
 mod hexdamage;
+mod hexhand;
 mod hextexts;
 mod ihex;
 mod layout;
@@ -135,6 +136,11 @@ impl Test<'_> {
 
     fn texts(&mut self, calls: u64) {
         let mut rng = Rng::new(self.seed, u64::MAX - 4);
+        let mut index = 0;
+        hexhand::run(&mut rng, |result| {
+            self.record("Intel HEX by hand", 0, index, result);
+            index += 1;
+        });
         for index in 0..calls as usize / 4 {
             let result = hexcall::random(&mut rng, &mut self.coverage);
             self.record("Intel HEX", 0, index, result);
