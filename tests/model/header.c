@@ -37,7 +37,8 @@ static void expect(const char *what, size_t got, size_t due) {
 /* Document 01's table with the changes' refusals, and what stands for a number behind it. */
 static void words(void) {
     static const char *const due[] = {"accepted", "state", "kind", "short", "version", "size", "model", "serial",
-                                      "area", "unsigned", "stage", "turn", "length", "unlike", "mismatch", "path", "unknown"};
+                                      "area", "unsigned", "stage", "turn", "length", "unlike", "mismatch", "path", "text", "place", "twice",
+                                      "unknown"};
     for (uint32_t answer = 0; answer < sizeof due / sizeof *due; answer++) {
         if (strcmp(lertxuno_refusal_word(answer), due[answer]) != 0) {
             printf("wrong: word of answer %u: %s\n", (unsigned)answer, lertxuno_refusal_word(answer));
@@ -84,6 +85,38 @@ static void one_byte(void) {
     expect("block of one byte, a byte too little room", lertxuno_block(image, 257, 256, 2, out, LERTXUNO_BLOCK_HEAD, &written), LERTXUNO_AREA);
     uint32_t answer = lertxuno_block(image, 257, 256, 2, out, LERTXUNO_BLOCK_HEAD + 1, &written);
     expect_message("block of one byte", answer, LERTXUNO_BLOCK, LERTXUNO_BLOCK_HEAD + 1);
+}
+
+static uint32_t ihex(const char *text, uint32_t base, size_t length, size_t room, size_t *line) {
+    return lertxuno_ihex((const uint8_t *)text, strlen(text), base, length, out, room, line);
+}
+
+/* A text and length, at address 65,535. */
+static void expect_ihex(const char *what, const char *text, size_t length, uint32_t due, size_t due_line) {
+    size_t line = SIZE_MAX;
+    expect(what, ihex(text, 65535, length, sizeof out, &line), due);
+    expect(what, line, due_line);
+}
+
+/* The Intel HEX reader. The image has two bytes of one record, on either side of 64 KiB, and one that no record names. */
+static void intel_hex(void) {
+    static const char end[] = ":00000001FF\n", text[] = ":02FFFF000102fd\r\n:00000001FF\n";
+    size_t line = SIZE_MAX;
+    memset(out, BEHIND, sizeof out);
+    expect_ihex("no end", "", 3, LERTXUNO_TEXT, 1);
+    expect_ihex("no end behind a line", ":02FFFF000102FD\n", 3, LERTXUNO_TEXT, 2);
+    expect_ihex("a line without LF", ":00000001FF", 3, LERTXUNO_TEXT, 1);
+    expect_ihex("a byte outside", text, 1, LERTXUNO_PLACE, 1);
+    expect_ihex("a byte twice", ":02FFFF000102FD\n:02FFFF000102FD\n:00000001FF\n", 3, LERTXUNO_TWICE, 2);
+    expect_ihex("no byte", end, 0, LERTXUNO_SIZE, 0);
+    expect_ihex("longest image and a byte", end, LERTXUNO_MAX_IHEX_LENGTH + 1, LERTXUNO_SIZE, 0);
+    expect("last byte above all addresses", ihex(end, UINT32_MAX, 2, sizeof out, &line), LERTXUNO_SIZE);
+    expect("a byte too little room", ihex(end, 0, 3, 2, &line), LERTXUNO_AREA);
+    expect("what is refused", out[0], BEHIND);
+    expect_ihex("a text", text, 3, LERTXUNO_ACCEPTED, 0);
+    expect_true("its image", memcmp(out, "\x01\x02\xFF", 3) == 0);
+    expect("the byte behind its image", out[3], BEHIND);
+    expect("longest image", lertxuno_ihex((const uint8_t *)end, strlen(end), 0, LERTXUNO_MAX_IHEX_LENGTH, image, sizeof image, &line), LERTXUNO_ACCEPTED);
 }
 
 static void state_length(void) {
@@ -182,6 +215,7 @@ int main(void) {
     limits();
     longest_messages();
     one_byte();
+    intel_hex();
     state_length();
     expect("key's length", LERTXUNO_KEY_LENGTH, sizeof sample_key);
     expect("signature's length", LERTXUNO_SIGNATURE_LENGTH(CHAINS, HEIGHT), sizeof sample_signature);
