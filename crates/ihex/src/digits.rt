@@ -9,7 +9,7 @@ ghost use Rattle.ihex.specs.Found.{digitOr, octetAt, sumOf};
 // What stands for 'no digit', and for 'no sum'.
 const NO_DIGIT: u8 = 16;
 
-pub const NO_SUM: u16 = 256;
+const NO_SUM: u16 = 256;
 
 // The digit's value, or NO_DIGIT.
 fn digit(c: u8) -> u8
