@@ -1,4 +1,5 @@
-/* A download and an update, both sides in one program: the sender makes a bundle of all messages, and the device takes it block by block, then a new last one.
+/* A download and an update, both sides in one program: the sender has its program from a text, makes a bundle of all messages, and the device takes it block
+ * by block, then a new last one.
  *
  *     rt staticlib capi
  *     gcc -Wall -Wextra -Werror -Iinclude -o target/download examples/download.c target/staticlib/libcapi.a
@@ -11,7 +12,7 @@
 #include <string.h>
 
 /* Five blocks; the last one has 44 bytes. */
-enum { IMAGE_LENGTH = 300, BLOCK_LENGTH = 64, BLOCKS = LERTXUNO_BLOCKS(IMAGE_LENGTH, BLOCK_LENGTH), MODEL = 7, SERIAL = 1 };
+enum { IMAGE_LENGTH = 300, BLOCK_LENGTH = 64, BLOCKS = LERTXUNO_BLOCKS(IMAGE_LENGTH, BLOCK_LENGTH), MODEL = 7, SERIAL = 1, BASE = 0x08000000 };
 
 static uint8_t image[IMAGE_LENGTH];
 
@@ -33,6 +34,16 @@ static void expect(const char *what, uint32_t answer, uint32_t due) {
 }
 
 /* The sender's side. */
+
+/* The supplier delivers the program as Intel HEX. */
+static void read_text(void) {
+    size_t line;
+    expect("sender, Intel HEX", lertxuno_ihex(sample_text, sizeof sample_text - 1, BASE, sizeof image, image, sizeof image, &line), LERTXUNO_ACCEPTED);
+    /* An image that begins a byte later: the first data record, in line 2, names a byte before it, and the image is left as it is. */
+    expect("sender, another place", lertxuno_ihex(sample_text, sizeof sample_text - 1, BASE + 1, sizeof image, image, sizeof image, &line), LERTXUNO_PLACE);
+    if (line != 2)
+        exit(1);
+}
 
 static void sign(void) {
     uint8_t manifest[LERTXUNO_MANIFEST_LENGTH], hash[LERTXUNO_HASH_LENGTH];
@@ -104,8 +115,7 @@ static void update(void) {
 }
 
 int main(void) {
-    for (unsigned i = 0; i < sizeof image; i++)
-        image[i] = (uint8_t)(7 * i + 3);
+    read_text();
     memcpy(flash + IMAGE_LENGTH, heights, sizeof heights);
     sign();
     make_bundle();

@@ -7,8 +7,9 @@
  * The caller's part: a pointer is not null, also where its length is 0; it has as many bytes as its length, or its array type, says; and memory that a
  * function writes (out, written, line, length, state, flash) overlaps no other argument. What firmware must do around the calls is in docs/INTEGRATION.md.
  *
- * The library is for x86-64 Linux. Stack of a call there, at most about: 7 KB for lertxuno_receive, 6 KB for the sender's functions, 4 KB for lertxuno_verify,
- * 1.1 KB for lertxuno_digest, 100 bytes for the others. Time goes into SHA-256 compressions, one for each 64 bytes hashed: a signature's verdict takes about
+ * The library is for x86-64 Linux. Stack of a call there, at most about: 7 KB for lertxuno_receive, 6 KB for the sender's functions, 4.5 KB for
+ * lertxuno_ihex, 4 KB for lertxuno_verify, 1.1 KB for lertxuno_digest, 100 bytes for the others. The time of lertxuno_ihex grows with its text, which it
+ * reads twice. Otherwise time goes into SHA-256 compressions, one for each 64 bytes hashed: a signature's verdict takes about
  * 4,400 (signature type 4, height 5) or 600 (type 3, height 10), at the device a block takes those of its bytes and two for each hash that it carries, a path
  * update those of two blocks and four for each hash, an update those of the whole image; the sender's functions take those of the whole image,
  * lertxuno_path_update twice as many, and lertxuno_block those of the part that its hashes stand for. Measured stack, code and time: README.
@@ -31,7 +32,7 @@ enum lertxuno_refusal {
     LERTXUNO_KIND = 2,      /* empty message, or its kind is not 1 to 4 */
     LERTXUNO_SHORT = 3,     /* fewer bytes than the kind's least */
     LERTXUNO_VERSION = 4,   /* the manifest's version is not 1 */
-    LERTXUNO_SIZE = 5,      /* block length not allowed, image empty, or more than LERTXUNO_MAX_BLOCKS blocks */
+    LERTXUNO_SIZE = 5,      /* block length not allowed, image empty, or more than LERTXUNO_MAX_BLOCKS blocks; Intel HEX: no such image */
     LERTXUNO_MODEL = 6,     /* the manifest's model is not the device's */
     LERTXUNO_SERIAL = 7,    /* the manifest's serial is not above the device's */
     LERTXUNO_AREA = 8,      /* flash or output buffer too short */
