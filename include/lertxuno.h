@@ -32,7 +32,7 @@ enum lertxuno_refusal {
     LERTXUNO_KIND = 2,      /* empty message, or its kind is not 1 to 4 */
     LERTXUNO_SHORT = 3,     /* fewer bytes than the kind's least */
     LERTXUNO_VERSION = 4,   /* the manifest's version is not 1 */
-    LERTXUNO_SIZE = 5,      /* block length not allowed, image empty, or more than LERTXUNO_MAX_BLOCKS blocks; Intel HEX: no such image */
+    LERTXUNO_SIZE = 5,      /* block length not allowed, image empty, or more than LERTXUNO_MAX_BLOCKS blocks; Intel HEX: length or last address not allowed */
     LERTXUNO_MODEL = 6,     /* the manifest's model is not the device's */
     LERTXUNO_SERIAL = 7,    /* the manifest's serial is not above the device's */
     LERTXUNO_AREA = 8,      /* flash or output buffer too short */
@@ -149,9 +149,10 @@ uint32_t lertxuno_path_update(const uint8_t *image, size_t image_length, uint32_
  * `room` bytes; bytes behind it stay. A byte that the text does not name is 0xFF.
  *
  * A line is ':', then pairs of digits, in either case, for count (1 byte), address (2), type (1), data (count bytes) and checksum (1), which sum to 0 modulo
- * 256, then LF or CR LF, the last line too. Type 00 has data; 01, without data, is the end record, and nothing stands behind its line; 04, with two bytes,
- * is the upper half of the addresses to come, 0 before any. The address field of 01 and 04 is not looked at. Any other type is a broken line. A byte's
- * address is the upper half times 65,536, plus the record's address, plus the byte's position, modulo 2 to the power 32; so no wrap at 64 KiB.
+ * 256, then LF or CR LF, the last line too. Type 00 has data, which may be none and then names no byte; 01, without data, is the end record, and nothing
+ * stands behind its line; 04, with two bytes, is the upper half of the addresses to come, 0 before any. The address field of 01 and 04 is not looked at. Any
+ * other type is a broken line, and so are an empty line, blanks, and whatever stands behind the end record's line. A byte's address is the upper half times
+ * 65,536, plus the record's address, plus the byte's position, modulo 2 to the power 32; so no wrap at 64 KiB.
  *
  * Refused, before any line: LERTXUNO_SIZE for a length outside 1 to LERTXUNO_MAX_IHEX_LENGTH or a last byte above address 4,294,967,295, LERTXUNO_AREA for
  * too little room. Then the earliest line at fault, and of that the first that applies: LERTXUNO_TEXT, LERTXUNO_PLACE, LERTXUNO_TWICE; *line is its number,

@@ -1,7 +1,7 @@
 -- What the code finds in a line, from the record that it was read from.
 use mathlib.Core.Path.{_≡_, refl, sym, ap, _∙_}
 use mathlib.Core.Bool.{Bool, true, false, cond, _&&_}
-use mathlib.Core.List.{List}
+use mathlib.Core.List.{List, [], _∷_}
 use mathlib.Core.Option.{Option, none, some, bind}
 use Prim.Native.Nat.{ℕ, _+_, _*_, _≤_, _<_}
 use native.Mathlib.Omega.{arith}
@@ -16,7 +16,10 @@ use Rattle.ihex.specs.declared.record.Found.{Found}
 use Rattle.ihex.specs.declared.record.Found.the-variants.{Sound, Broken}
 use Rattle.ihex.specs.declared.line.Line.the-variants as line
 use Rattle.ihex.specs.Line.{Record, recordIn, Line, data00, end01, upper04, meaning, lineOf}
+use Rattle.ihex.specs.Text.{placed}
+use Rattle.ihex.specs.Claims.{Once, OnceInLine}
 use Rattle.ihex.specs.Found.{octetAt, recordFound, lineFound, dataIn}
+use Rattle.ihex.proofs.NamedLaws.{placed-once}
 use Rattle.ihex.proofs.RecordLaws.{recordWith, Parts, of-parts, from-record, parts-size, octet-is, octet-small, data-size}
 
 -- What a line says, from the record that the code found in it.
@@ -64,22 +67,20 @@ module _ (l : List ℕ) where
     count-of : length (r .bytes) ≡ x .count
     count-of = data-size (f .parts) ∙ sym (f .count)
 
-    -- the tests of the type
-    module _ (t : ℕ) (e : x .kind ≡ t) where
-      type-is : r .type ≡ t
-      type-is = sym (f .type) ∙ e
+    type-is : {t : ℕ} → x .kind ≡ t → r .type ≡ t
+    type-is e = sym (f .type) ∙ e
 
     pub found-data : x .kind ≡ 0 → line.Data (x .address) (x .count) ≡ lineFound (lineOf l)
     unfolding meaning
-    found-data e = rw (line-is, type-is 0 e, f .address, sym count-of)
+    found-data e = rw (line-is, type-is e, f .address, sym count-of)
 
     pub found-end : x .kind ≡ 1 → x .count ≡ 0 → line.End ≡ lineFound (lineOf l)
     unfolding meaning
-    found-end e k = rw (line-is, type-is 1 e, eq-eqb (length (r .bytes)) 0 (count-of ∙ k))
+    found-end e k = rw (line-is, type-is e, eq-eqb (length (r .bytes)) 0 (count-of ∙ k))
 
     pub found-long-end : x .kind ≡ 1 → (x .count ≡ 0 → ⊥) → line.Broken ≡ lineFound (lineOf l)
     unfolding meaning
-    found-long-end e k = rw (line-is, type-is 1 e, ne-eqb (length (r .bytes)) 0 (λ g. k (sym count-of ∙ g)))
+    found-long-end e k = rw (line-is, type-is e, ne-eqb (length (r .bytes)) 0 (λ g. k (sym count-of ∙ g)))
 
     pub found-upper : {v : ℕ} → x .kind ≡ 4 → x .count ≡ 2 → v ≡ octetAt l 4 * 256 + octetAt l 5 → line.Upper v ≡ lineFound (lineOf l)
     unfolding meaning
@@ -90,11 +91,11 @@ module _ (l : List ℕ) where
         ∙ number-two (f .bs) 4 (omega (arith, f .parts .count))
         ∙ rw (octet-is (f .parts) 4 (omega (arith, f .parts .count)), octet-is (f .parts) 5 (omega (arith, f .parts .count))) (sym g)
         in
-        rw (line-is, type-is 4 e, eq-eqb (length (r .bytes)) 2 (count-of ∙ k), h)
+        rw (line-is, type-is e, eq-eqb (length (r .bytes)) 2 (count-of ∙ k), h)
 
     pub found-wrong-upper : x .kind ≡ 4 → (x .count ≡ 2 → ⊥) → line.Broken ≡ lineFound (lineOf l)
     unfolding meaning
-    found-wrong-upper e k = rw (line-is, type-is 4 e, ne-eqb (length (r .bytes)) 2 (λ g. k (sym count-of ∙ g)))
+    found-wrong-upper e k = rw (line-is, type-is e, ne-eqb (length (r .bytes)) 2 (λ g. k (sym count-of ∙ g)))
 
     pub found-other : (x .kind ≡ 0 → ⊥) → (x .kind ≡ 1 → ⊥) → (x .kind ≡ 4 → ⊥) → line.Broken ≡ lineFound (lineOf l)
     unfolding meaning
@@ -127,6 +128,7 @@ pub record DataAt (l : List ℕ) (i : ℕ) : Type 0 where
   pub is : octetAt l (4 + i) ≡ getD (dataIn (lineOf l)) i 0
   pub long : 12 + 2 * i < length l
   pub small : octetAt l (4 + i) < 256
+  pub short : length (dataIn (lineOf l)) < 256
 
 data-in : (l bs : List ℕ) (i : ℕ) → Parts l bs → dataIn (lineOf l) ≡ recordWith bs .bytes → i < length (dataIn (lineOf l)) → DataAt l i
 data-in l bs i p e h =
@@ -136,6 +138,7 @@ data-in l bs i p e h =
       is = sym (ap (λ (s : List ℕ). getD s i 0) e ∙ getD-take (getD bs 0 0) (drop 4 bs) i 0 k ∙ getD-drop 4 bs i 0 ∙ octet-is p (4 + i) g);
       long = omega (arith, parts-size p, p .count, p .ended);
       small = octet-small p (4 + i) g;
+      short = omega (arith, ap length e, data-size p, octet-is p 0 (omega arith), octet-small p 0 (omega arith));
     }
 
 pub data-at : (l : List ℕ) (i : ℕ) → i < length (dataIn (lineOf l)) → DataAt l i
@@ -148,3 +151,10 @@ data-at l i h = go (recordIn l) refl
         let f = from-record l r e in
         let d : dataIn (lineOf l) ≡ dataIn (meaning r) = ap (λ (p : Option Record). dataIn (bind p meaning)) e in
         data-in l (f .bs) i (f .parts) (d ∙ data-whole r (omega (arith, h, ap length d)) ∙ ap (λ (q : Record). q .bytes) (f .is)) h
+
+pub once-in-line : OnceInLine
+unfolding Once placed
+once-in-line u a l [] e = tt
+once-in-line u a l (v ∷ vs) e =
+    let d : dataIn (lineOf l) ≡ v ∷ vs = ap dataIn e in
+    placed-once (u * 65536 + a) (v ∷ vs) (omega (arith, ap length d, data-at l 0 (omega (arith, ap length d)) .short))

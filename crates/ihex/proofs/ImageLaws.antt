@@ -8,6 +8,7 @@ use native.Mathlib.Omega.{arith}
 use lib.Seq.{ext-getD}
 use Rattle.ihex.specs.Text.{Byte, isNamed, valueAt, imageOf}
 use Rattle.ihex.specs.Claims.{Once, ImageHolds, SameImage}
+use Rattle.ihex.proofs.ReadLaws.{read-names, denoted}
 use Rattle.ihex.proofs.NamedLaws.{value-none, image-length, image-at, member-named, named-member, unnamed, value-member}
 
 pub image-holds : ImageHolds
@@ -29,6 +30,9 @@ same-value a bs cs o p f = go (isNamed a bs) refl
     go false e = value-none a bs e ∙ sym (value-none a cs (unnamed a cs (λ b m q. true≢false (sym (rw q at (member-named (f b .1 m))) ∙ e))))
 
 pub same-image : SameImage
-same-image text other base k bs cs d c f =
+same-image text other base k buffer bs cs w h d c f =
+    let same : imageOf base k bs ≡ imageOf base k cs =
     ext-getD 0 (imageOf base k bs) (imageOf base k cs) (image-length base k bs ∙ sym (image-length base k cs))
-    (λ i h. let l = image-length base k bs in rw (image-at base k bs i (omega arith), image-at base k cs i (omega arith)) (same-value (base + i) bs cs (d .once) (c .once) f))
+    (λ i g. let l = image-length base k bs in rw (image-at base k bs i (omega arith), image-at base k cs i (omega arith)) (same-value (base + i) bs cs (d .once) (c .once) f))
+    in
+    read-names base k text buffer bs w h (denoted base k d) ∙ rw same (sym (read-names base k other buffer cs w h (denoted base k c)))

@@ -1,6 +1,6 @@
 -- A line's end, and where lines end in a text.
 use mathlib.Core.Path.{_≡_, refl, ap, _∙_}
-use mathlib.Core.Bool.{Bool, true, false, cond, _&&_}
+use mathlib.Core.Bool.{Bool, true, false, cond, _&&_, and-true, and-false}
 use mathlib.Core.List.{List, [], _∷_}
 use Prim.Native.Nat.{ℕ, suc, _+_, _-_, _≤_, _<_}
 use native.Mathlib.Numerals.{add-one}
@@ -15,10 +15,6 @@ use Rattle.octets.proofs.EqualLaws.{equal-lengths}
 use Rattle.ihex.specs.Line.{LF, CR, lineEnd}
 use Rattle.ihex.specs.Text.{lines, longer}
 use Rattle.ihex.specs.Found.{firstLine}
-
-and-last : (t : Bool) → t && false ≡ false
-and-last true = refl
-and-last false = refl
 
 module _ (l : List ℕ) where
   abbrev last : ℕ
@@ -38,11 +34,7 @@ module _ (l : List ℕ) where
   -- the two tests of a line's end
   lf : 0 < length l → equal (drop (length l - 1) l) (LF ∷ []) ≡ eqb last LF
   unfolding equal
-  lf h = ap (λ (s : List ℕ). equal s (LF ∷ [])) (last-one h) ∙ and-true-last (eqb last LF)
-    where
-      and-true-last : (t : Bool) → t && true ≡ t
-      and-true-last true = refl
-      and-true-last false = refl
+  lf h = ap (λ (s : List ℕ). equal s (LF ∷ [])) (last-one h) ∙ and-true (eqb last LF)
 
   crlf : 1 < length l → equal (drop (length l - 2) l) (CR ∷ LF ∷ []) ≡ eqb second CR && (eqb last LF && true)
   unfolding equal
@@ -60,7 +52,7 @@ module _ (l : List ℕ) where
   end-none h f = rw (two (decLt 1 (length l)), lf h, ne-eqb last LF f)
     where
       two : Dec (1 < length l) → equal (drop (length l - 2) l) (CR ∷ LF ∷ []) ≡ false
-      two (yes g) = crlf g ∙ rw (ne-eqb last LF f) (and-last (eqb second CR))
+      two (yes g) = crlf g ∙ rw (ne-eqb last LF f) (and-false (eqb second CR))
       two (no g) = no-crlf (omega arith)
 
   pub end-alone : length l ≡ 1 → last ≡ LF → 1 ≡ lineEnd l

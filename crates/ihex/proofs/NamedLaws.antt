@@ -11,7 +11,7 @@ use lib.ListN.{length, getD, replicate}
 use borrow.Author.Tests.{eqb-true, eqb-false, eq-eqb, ne-eqb, lt-ltb, le-ltb, le-leb, lt-leb, ltb-false, leb-false}
 use Rattle.wire.proofs.SizeLaws.{or-false}
 use Rattle.ihex.specs.Text.{Byte, placed, outside, anyOutside, isNamed, anyRepeated, valueAt, imageOf}
-use Rattle.ihex.specs.Claims.{Inside, Once, OnceInRecord}
+use Rattle.ihex.specs.Claims.{Inside, Once}
 
 module _ (a : ℕ) where
   pub isNamed-append : (bs cs : List Byte) → isNamed a (bs ++ cs) ≡ isNamed a bs || isNamed a cs
@@ -124,10 +124,10 @@ at-placed x [] m = absurd (List·Memᴰ·not-nil m)
 at-placed x (v ∷ vs) (List·Memᴰ·head e) = (0, omega arith, ap (λ (c : Byte). c .address) e ∙ omega arith)
 at-placed x (v ∷ vs) (List·Memᴰ·tail m) = let i = at-placed (suc x) vs m in (suc (i .0), omega arith, i .2 ∙ omega arith)
 
-pub once-in-record : OnceInRecord
+pub placed-once : (x : ℕ) (vs : List ℕ) → length vs ≤ 2 ^ 32 → Once (placed x vs)
 unfolding Once placed
-once-in-record x [] h = tt
-once-in-record x (v ∷ vs) h = (λ c m e. let i = at-placed (suc x) vs m in omega arith, once-in-record (suc x) vs (omega arith))
+placed-once x [] h = tt
+placed-once x (v ∷ vs) h = (λ c m e. let i = at-placed (suc x) vs m in omega arith, placed-once (suc x) vs (omega arith))
 
 module _ (x : ℕ) (vs : List ℕ) (whole : x + length vs ≤ 2 ^ 32) where
   pub placed-named : (a : ℕ) → isNamed a (placed x vs) ≡ leb x a && ltb a (x + length vs)
@@ -144,7 +144,7 @@ module _ (x : ℕ) (vs : List ℕ) (whole : x + length vs ≤ 2 ^ 32) where
       go (no l) (no h) = rw (le-leb x a (omega arith), le-ltb a (x + length vs) (omega arith)) (away (λ g. omega arith))
 
   pub repeated-none : (bs : List Byte) → ((i : ℕ) → i < length vs → isNamed (x + i) bs ≡ false) → anyRepeated bs (placed x vs) ≡ false
-  repeated-none bs f = apart-unrepeated bs (placed x vs) apart (once-in-record x vs (omega arith))
+  repeated-none bs f = apart-unrepeated bs (placed x vs) apart (placed-once x vs (omega arith))
     where
       apart : Apart bs (placed x vs)
       apart c m = let i = at-placed x vs m in let e : c .address ≡ x + i .0 = omega arith in rw e (f (i .0) (i .1))
@@ -154,7 +154,7 @@ module _ (x : ℕ) (vs : List ℕ) (whole : x + length vs ≤ 2 ^ 32) where
     unwrapped = omega arith
 
     pub placed-value : valueAt (x + i) (placed x vs) ≡ getD vs i 0
-    placed-value = rw unwrapped at (value-member (once-in-record x vs (omega arith)) (placed-at x vs i h))
+    placed-value = rw unwrapped at (value-member (placed-once x vs (omega arith)) (placed-at x vs i h))
 
     pub repeated-one : (bs : List Byte) → isNamed (x + i) bs ≡ true → anyRepeated bs (placed x vs) ≡ true
     repeated-one bs n = not-eq-not .0 (λ q. true≢false (sym n ∙ (rw unwrapped at (unrepeated bs (placed x vs) q .0 _ (placed-at x vs i h)))))

@@ -103,11 +103,11 @@ module _ (base k x : ℕ) (vs : List ℕ) (last : base + k ≤ 2 ^ 32) (low : ba
 
 -- Where the data of a line are.
 module _ (base k u a : ℕ) (vs : List ℕ) where
-  pub record Inside : Type 0 where
+  pub record DataInside : Type 0 where
     pub low : base ≤ u * 65536 + a
     pub high : u * 65536 + a + length vs ≤ base + k
 
-  pub inside : Fits base k → u * 65536 + a < 2 ^ 32 → 0 < length vs → anyOutside base k (placed (u * 65536 + a) vs) ≡ false → Inside
+  pub inside : Fits base k → u * 65536 + a < 2 ^ 32 → 0 < length vs → anyOutside base k (placed (u * 65536 + a) vs) ≡ false → DataInside
   inside f l s e =
       let t = or-false (ltb (u * 65536 + a) base) _ (sym (placed-outside base k (u * 65536 + a) vs (f .last) l s (f .most)) ∙ e) in
       record { low = ltb-false (u * 65536 + a) base (t .0); high = ltb-false (base + k) (u * 65536 + a + length vs) (t .1) }
@@ -127,7 +127,7 @@ module _ (base k u : ℕ) {out : List ℕ} where
         go [] g = places-nothing (some (data00 a [])) refl
         go (w ∷ ws) g = absurd (omega arith)
 
-    pub places-data : {next : List ℕ} → Fits base k → Inside base k u a vs → next ≡ paste out (u * 65536 + a - base) vs (length vs) → Places base k u (some (data00 a vs)) out u next
+    pub places-data : {next : List ℕ} → Fits base k → DataInside base k u a vs → next ≡ paste out (u * 65536 + a - base) vs (length vs) → Places base k u (some (data00 a vs)) out u next
     places-data f i e = record { upper = refl; image = λ bs o g. e ∙ rw g (image-placed base k (u * 65536 + a) vs (f .last) (i .low) (i .high) bs o) }
 
 -- The lines of a text with no fault, that names `all`: before the line that starts at `from`.

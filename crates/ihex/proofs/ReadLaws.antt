@@ -18,6 +18,7 @@ use Rattle.ihex.specs.Text.{lines, Byte, placed, Names, ended, named, un
 use Rattle.ihex.specs.Read.{wrongLength, Before, start, namedBy, upperAfter, isEnd, isBroken, after, refusals, Judged, names, fault, judge, judged, Outcome, outcome, read}
 use Rattle.ihex.specs.Found.{answerFound}
 use Rattle.ihex.specs.Claims.{Denotes, AllRead}
+use Rattle.ihex.proofs.StepLaws.{unended}
 use Rattle.ihex.proofs.NamedLaws.{image-length, inside-tested, tested-inside, unrepeated, apart-unrepeated}
 
 outside-append : (base k : ℕ) (bs cs : List Byte) → anyOutside base k (bs ++ cs) ≡ anyOutside base k bs || anyOutside base k cs
@@ -54,10 +55,6 @@ clear false false true q = (cc, cc, cc)
 pub unfaulted : (f : Option Refusal) (j : Judged) (n : ℕ) (bs : List Byte) → elim f [ none ↦ j | some r ↦ fault r n ] ≡ names bs → (f ≡ none) × (j ≡ names bs)
 unfaulted none j n bs q = (refl, q)
 unfaulted (some r) j n bs q = (cc, cc)
-
--- before the end record, with u the last 04 value and ns named
-abbrev unended : ℕ → List Byte → Before
-unended u ns = record { upper = u; named = ns; ended = false }
 
 module _ (base k : ℕ) where
   -- these lines, after those that left b, end a text well: it names bs
@@ -140,7 +137,7 @@ module _ (base k : ℕ) where
   unfolding outcome
   read-fault text buffer r n e h j = rw (read-lines text buffer e h, j)
 
-  denoted : {text : List ℕ} {bs : List Byte} → Denotes text base k bs → judged base k text ≡ names bs
+  pub denoted : {text : List ℕ} {bs : List Byte} → Denotes text base k bs → judged base k text ≡ names bs
   unfolding judged start isNamed
   denoted {text} {bs} d = ends-judged 0 [] 1 (lines text) bs (d .rules) (inside-tested base k bs (d .inside)) (apart-unrepeated [] bs (λ c m. refl) (d .once))
 

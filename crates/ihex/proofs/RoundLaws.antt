@@ -17,7 +17,7 @@ use Rattle.ihex.specs.Text.{lines, Byte, placed, Names, ended, named, un
 use Rattle.ihex.specs.Read.{wrongLength, Outcome}
 use Rattle.ihex.specs.Write.{recordLine, textFrom, textOf}
 use Rattle.ihex.specs.Claims.{Denotes, RoundTrip}
-use Rattle.ihex.proofs.NamedLaws.{image-length, image-at, at-placed, once-in-record, placed-value}
+use Rattle.ihex.proofs.NamedLaws.{image-length, image-at, at-placed, placed-once, placed-value}
 use Rattle.ihex.proofs.StepLaws.{fits}
 use Rattle.ihex.proofs.ReadLaws.{all-read}
 use Rattle.ihex.proofs.WriteLaws.{lines-line, line-back}
@@ -90,7 +90,7 @@ own image base b w =
     record {
       rules = names-text (length image) 0 base image (omega arith) f b;
       inside = λ c m. let r = at-placed base image m in (omega arith, omega arith);
-      once = once-in-record base image (omega arith);
+      once = placed-once base image (omega arith);
     }
 
 own-image : (image : List ℕ) (base : ℕ) → wrongLength base (length image) ≡ false → imageOf base (length image) (placed base image) ≡ image

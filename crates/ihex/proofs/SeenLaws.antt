@@ -1,6 +1,6 @@
 -- Bits, one for each byte of the image.
 use mathlib.Core.Path.{_≡_, refl, sym, ap, _∙_}
-use mathlib.Core.Bool.{Bool, true, false, _&&_, _||_}
+use mathlib.Core.Bool.{Bool, true, false, _&&_, _||_, and-false, or-false, or-true}
 use mathlib.Core.List.{List}
 use Prim.Native.Nat.{ℕ, zero, suc, _+_, _-_, _*_, _/_, _%_, _^_, _≤_, _<_, max}
 use native.Mathlib.Nat.{div-eq-of-lt}
@@ -45,18 +45,6 @@ pub record Marking (before : List ℕ) (from i : ℕ) (after : List ℕ) : Type 
   pub clear : (k : ℕ) → from ≤ k → k < i → bit before k ≡ false
   pub set : (k : ℕ) → bit after k ≡ bit before k || (leb from k && ltb k i)
 
-or-none : (t : Bool) → t ≡ t || false
-or-none true = refl
-or-none false = refl
-
-and-none : (t : Bool) → t && false ≡ false
-and-none true = refl
-and-none false = refl
-
-or-one : (t : Bool) → true ≡ t || true
-or-one true = refl
-or-one false = refl
-
 pub marking-start : (before : List ℕ) (from : ℕ) → Marking before from from before
 marking-start before from =
     record {
@@ -66,8 +54,8 @@ marking-start before from =
     }
   where
     go : (k : ℕ) → Dec (k < from) → bit before k ≡ bit before k || (leb from k && ltb k from)
-    go k (yes h) = rw (lt-leb from k h) (or-none (bit before k))
-    go k (no h) = rw (le-ltb k from (omega arith), and-none (leb from k)) (or-none (bit before k))
+    go k (yes h) = rw (lt-leb from k h) (sym (or-false (bit before k)))
+    go k (no h) = rw (le-ltb k from (omega arith), and-false (leb from k)) (sym (or-false (bit before k)))
 
 module _ {before : List ℕ} {from i : ℕ} {after : List ℕ} (m : Marking before from i after) where
   abbrev byte : ℕ
@@ -78,7 +66,7 @@ module _ {before : List ℕ} {from i : ℕ} {after : List ℕ} (m : Marking befo
 
   -- bit i is as it was
   same : bit after i ≡ bit before i
-  same = m .set i ∙ rw (le-ltb i i (omega arith), and-none (leb from i)) (sym (or-none (bit before i)))
+  same = m .set i ∙ rw (le-ltb i i (omega arith), and-false (leb from i)) (or-false (bit before i))
 
   pub marking-found : (bitAnd byte weight ≡ 0 → ⊥) → bit before i ≡ true
   unfolding bit
@@ -129,7 +117,7 @@ module _ {before : List ℕ} {from i : ℕ} {after : List ℕ} (m : Marking befo
         set-one : (k : ℕ) (t : Bool) → eqb k i ≡ t → bit next k ≡ bit before k || (leb from k && ltb k (i + 1))
         set-one k true d =
             let q : k ≡ i = eqb-true k i d in
-            rw (q, own, le-leb from i (m .begun), lt-ltb i (i + 1) (omega arith)) (or-one (bit before i))
+            rw (q, own, le-leb from i (m .begun), lt-ltb i (i + 1) (omega arith)) (sym (or-true (bit before i)))
         set-one k false d = other k (eqb-false k i d) ∙ m .set k ∙ ap (λ (t : Bool). bit before k || (leb from k && t)) (below (decLt k i))
           where
             below : Dec (k < i) → ltb k i ≡ ltb k (i + 1)

@@ -106,7 +106,7 @@ ltb-shift b x n i h = go (decLt (b + i) (x + n))
     go (yes g) = lt-ltb i (x - b + n) (omega arith) ∙ sym (lt-ltb (b + i) (x + n) g)
     go (no g) = le-ltb i (x - b + n) (omega arith) ∙ sym (le-ltb (b + i) (x + n) (omega arith))
 
--- data at x
+-- data from address `at` on
 module _ (base k u a : ℕ) (vs : List ℕ) (fit : Fits base k) where
   abbrev at : ℕ
   at = u * 65536 + a

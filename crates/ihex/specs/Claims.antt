@@ -3,11 +3,13 @@ use mathlib.Core.Path.{_≡_}
 use mathlib.Core.Logic.{_↔_}
 use mathlib.Core.Bool.{false}
 use mathlib.Core.List.{List, [], _∷_, List·Memᴰ}
-use Prim.Native.Nat.{ℕ, _+_, _-_, _^_, _≤_, _<_}
+use mathlib.Core.Option.{some}
+use Prim.Native.Nat.{ℕ, _+_, _-_, _*_, _≤_, _<_}
 use lib.ListN.{length, getD}
 use Rattle.octets.specs.Octets.{Bytes}
 use Rattle.wire.specs.Message.{atStart}
 use Rattle.ihex.specs.declared.reading.Answer.the-variants.{Read}
+use Rattle.ihex.specs.Line.{data00, lineOf}
 use Rattle.ihex.specs.Text.{lines, Byte, placed, Names, imageOf}
 use Rattle.ihex.specs.Read.{wrongLength, read}
 use Rattle.ihex.specs.Write.{textOf}
@@ -44,14 +46,14 @@ pub record Holds (base k : ℕ) (bs : List Byte) (image : List ℕ) : Type 0 whe
 abbrev pub ImageHolds : Type 0
 ImageHolds = (base k : ℕ) (bs : List Byte) → Inside base k bs → Once bs → Holds base k bs (imageOf base k bs)
 
--- The order of records does not matter to the image: accepted texts that name the same bytes denote the same one.
+-- The order of records does not matter: accepted texts that name the same bytes are read alike.
 abbrev pub SameImage : Type 0
-SameImage = (text other : List ℕ) (base k : ℕ) (bs cs : List Byte) → Denotes text base k bs → Denotes other base k cs
-    → ((b : Byte) → List·Memᴰ b bs ↔ List·Memᴰ b cs) → imageOf base k bs ≡ imageOf base k cs
+SameImage = (text other : List ℕ) (base k : ℕ) (buffer : List ℕ) (bs cs : List Byte) → wrongLength base k ≡ false → k ≤ length buffer
+    → Denotes text base k bs → Denotes other base k cs → ((b : Byte) → List·Memᴰ b bs ↔ List·Memᴰ b cs) → read text base k buffer ≡ read other base k buffer
 
--- One record never names a byte twice: it has 255 bytes at most.
-abbrev pub OnceInRecord : Type 0
-OnceInRecord = (a : ℕ) (vs : List ℕ) → length vs ≤ 2 ^ 32 → Once (placed a vs)
+-- One line never names a byte twice.
+abbrev pub OnceInLine : Type 0
+OnceInLine = (u a : ℕ) (l vs : List ℕ) → lineOf l ≡ some (data00 a vs) → Once (placed (u * 65536 + a) vs)
 
 -- The text for an image is read back as that image.
 abbrev pub RoundTrip : Type 0

@@ -25,11 +25,11 @@ abbrev pub digitOr : Option ℕ → ℕ
 digitOr none = 16
 digitOr (some d) = d
 
--- byte i of a line's record, where its digits are some
+-- byte i of a line's record; means nothing where its two characters are not both digits
 unfoldable pub octetAt : List ℕ → ℕ → ℕ
 octetAt l i = 16 * digitOr (digit (getD l (1 + 2 * i) 0)) + digitOr (digit (getD l (2 + 2 * i) 0))
 
--- the sum of a and these bytes modulo 256, 256 where there are none
+-- the sum of a and these bytes modulo 256, or 256 where they are not all written in digits
 abbrev pub sumOf : ℕ → Option (List ℕ) → ℕ
 sumOf a none = 256
 sumOf a (some bs) = (a + sum bs) % 256
@@ -83,7 +83,7 @@ pub record Steps (base k u : ℕ) (x : Option Line) (before : List ℕ) (r : Ste
   pub seen : (bs : List Byte) → Seen base k bs before → firstThatApplies (refusals base k (record { upper = u; named = bs; ended = false }) x) ≡ none
       → Seen base k (bs ++ namedBy u x) after
 
--- A line x whose bytes are in the image.
+-- A line x whose bytes are in an image of an allowed length and place.
 abbrev pub Placeable : (base k u : ℕ) → Option Line → Type 0
 Placeable base k u x = (wrongLength base k ≡ false) × (anyOutside base k (namedBy u x) ≡ false)
 

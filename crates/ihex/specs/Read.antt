@@ -54,6 +54,7 @@ abbrev pub isBroken : Option Line → Bool
 isBroken none = true
 isBroken (some x) = false
 
+-- after a line that is not refused, and so does not stand behind the end record
 unfoldable pub after : Before → Option Line → Before
 after b x = record { upper = upperAfter (b .upper) x; named = b .named ++ namedBy (b .upper) x; ended = isEnd x }
 

@@ -46,7 +46,7 @@ unfoldable pub isNamed : ℕ → List Byte → Bool
 isNamed a [] = false
 isNamed a (b ∷ bs) = eqb (b .address) a || isNamed a bs
 
--- whether one of the second bytes repeats an earlier one of them, or one of the first
+-- whether a byte of the second list is at the address of one of the first list, or of an earlier one of its own
 unfoldable pub anyRepeated : List Byte → List Byte → Bool
 anyRepeated before [] = false
 anyRepeated before (b ∷ bs) = isNamed (b .address) before || anyRepeated (before ++ (b ∷ [])) bs

@@ -23,7 +23,7 @@ fn digit(c: u8) -> u8
     }
 }
 
-// Byte i of the record in a line, whose digits are known to be some; else a number that means nothing.
+// Byte i of the record in a line; a number that means nothing where its two characters are not both digits.
 pub fn octet(line: &[u8], i: usize) -> u16
     requires { ⌜ 3 + 2 * i ≤ length (now line) ⌝ }
     ensures { λ r. ⌜ r ≡ octetAt (now (line .entry)) i ⌝ }
@@ -31,7 +31,7 @@ pub fn octet(line: &[u8], i: usize) -> u16
     16 * digit(line[1 + 2 * i]) as u16 + digit(line[2 + 2 * i]) as u16
 }
 
-// The sum of the first n bytes of the record in a line, modulo 256, or NO_SUM where there is a byte that is no digit.
+// The sum of the first n bytes of the record in a line, modulo 256, or NO_SUM where a character is no digit.
 pub fn sum(line: &[u8], n: usize) -> u16
     requires { ⌜ 1 + 2 * n ≤ length (now line) ⌝ }
     ensures { λ r. ⌜ r ≡ sumOf 0 (spec.octets (part 1 (2 * n) (now (line .entry)))) ⌝ }

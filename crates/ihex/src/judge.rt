@@ -1,4 +1,4 @@
-// The first reading: the first refusal of a line, if there is one.
+// The first reading: the refusal of the earliest line at fault, if there is one.
 use crate::line::Line;
 use crate::line::line_end;
 use crate::line::line_of;
@@ -8,9 +8,10 @@ use crate::seen::mark;
 use wire::Refusal;
 ghost use mathlib.Core.Path.{_≡_};
 ghost use mathlib.Core.Bool.{false};
+ghost use Prim.Native.Nat.{_/_};
 ghost use lib.ListN.{length};
 ghost use Rattle.ihex.specs.Line.{lineOf};
-ghost use Rattle.ihex.specs.Read.{wrongLength, judged};
+ghost use Rattle.ihex.specs.Read.{maxLength, wrongLength, judged};
 ghost use Rattle.ihex.specs.Found.{Steps, answerFound};
 
 // What a line leads to.
@@ -23,7 +24,7 @@ enum Step {
 
 // A line that is not behind the end record.
 fn advance(line: &[u8], upper: u16, base: u32, len: usize, seen: &mut [u8]) -> Step
-    requires { ⌜ (wrongLength base len ≡ false) × (length (now seen) ≡ 4096) ⌝ }
+    requires { ⌜ (wrongLength base len ≡ false) × (length (now seen) ≡ maxLength / 8) ⌝ }
     ensures { λ r. ⌜ Steps base len upper (lineOf (now (line .entry))) (now (seen .entry)) r (now (seen .exit)) ⌝ }
 {
     match line_of(line) {

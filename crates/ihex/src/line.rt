@@ -5,7 +5,7 @@ use crate::record::pair;
 use crate::record::record_in;
 ghost use mathlib.Core.Path.{_≡_};
 ghost use mathlib.Core.List.{[]};
-ghost use Prim.Native.Nat.{_+_, _≤_};
+ghost use Prim.Native.Nat.{_+_, _-_, _≤_};
 ghost use lib.ListN.{length, drop, getD};
 ghost use Rattle.ihex.specs.Line.{recordIn, lineOf};
 ghost use Rattle.ihex.specs.Text.{lines};
@@ -59,13 +59,13 @@ pub fn line_of(line: &[u8]) -> Line
     }
 }
 
-// The record in the line behind `skipped` others, for a program that tells its user of it.
-pub fn record_at(text: &[u8], skipped: usize) -> Found
-    ensures { λ r. ⌜ r ≡ recordFound (recordIn (getD (lines (now (text .entry))) skipped [])) ⌝ }
+// The record in line `number`, from 1, for a program that tells its user of it.
+pub fn record_at(text: &[u8], number: usize) -> Found
+    ensures { λ r. ⌜ r ≡ recordFound (recordIn (getD (lines (now (text .entry))) (number - 1) [])) ⌝ }
 {
     let mut at: usize = 0;
-    let mut i: usize = 0;
-    while i < skipped {
+    let mut i: usize = 1;
+    while i < number {
         if text.len() <= at {
             return Found::Broken;
         }

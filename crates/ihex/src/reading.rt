@@ -8,7 +8,7 @@ ghost use Rattle.ihex.specs.Read as spec;
 pub enum Answer {
     // The image is at the start of the buffer.
     Read,
-    // And the line at fault, from 1; 0 where the refusal comes before any line.
+    // The refusal, and the number of the line at fault, from 1; 0 where it comes before any line.
     Refused(Refusal, usize),
 }
 

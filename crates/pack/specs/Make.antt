@@ -19,6 +19,6 @@ madeImage k answer.Read = record { len = k; done = true }
 madeImage k (answer.Refused r n) = record { len = 0; done = false }
 
 -- what is made of a text, and the buffer then
-pub record Reads (k : ℕ) (o : ihex.Outcome) (r : Made) (buffer : List ℕ) : Type 0 where
+pub record ImageRead (k : ℕ) (o : ihex.Outcome) (r : Made) (buffer : List ℕ) : Type 0 where
   pub answered : r ≡ madeImage k (o .answer)
   pub left : buffer ≡ o .buffer

@@ -10,7 +10,8 @@ ghost use Prim.Native.Nat.{_<_};
 ghost use lib.ListN.{length};
 ghost use Rattle.io.specs.Counts.{Counts};
 ghost use Rattle.ihex.specs.Read as spec;
-ghost use Rattle.pack.specs.Make.{Reads};
+ghost use Rattle.ihex.specs.Write as writing;
+ghost use Rattle.pack.specs.Make.{ImageRead};
 
 // Zeros for the longest image. The contract says all that a caller needs, so that no proof counts them one by one.
 pub fn buffer() -> [u8; ihex::MAX_LEN]
@@ -22,28 +23,42 @@ pub fn buffer() -> [u8; ihex::MAX_LEN]
 // A number below 16, as a digit.
 fn figure(number: u8) -> u8
     requires { ⌜ number < 16 ⌝ }
+    ensures { λ r. ⌜ r ≡ writing.figure number ⌝ }
 {
-    let figures = *b"0123456789ABCDEF";
-    figures[number as usize]
+    if number < 10 {
+        48 + number
+    } else {
+        55 + number
+    }
 }
 
-// What is wrong with a line that is no record of the three types.
+fn tell_type(kind: u8) {
+    let digits = [figure(kind / 16), figure(kind % 16)];
+    io::write_all(STDERR_FILENO, b"record type ");
+    io::write_all(STDERR_FILENO, &digits);
+    io::write_all(STDERR_FILENO, b"; only types 00, 01 and 04 are read\n");
+}
+
+// What is wrong with a line that is refused 16, or that the text lacks.
 fn broken(text: &[u8], line: usize) {
     tell(b"text: image.hex, line ", line, b": ");
-    if 0 < line {
-        if let Found::Sound(record) = ihex::record_at(text, line - 1) {
-            let kind = record.kind;
-            let digits = [figure(kind / 16), figure(kind % 16)];
-            io::write_all(STDERR_FILENO, b"record type ");
-            io::write_all(STDERR_FILENO, &digits);
+    let Found::Sound(record) = ihex::record_at(text, line) else {
+        io::write_all(
+            STDERR_FILENO,
+            b"no whole record (colon, digits, count, checksum, line end), or bytes behind the end record, or no end record\n",
+        );
+        return;
+    };
+    let kind = record.kind;
+    match kind {
+        0 | 1 | 4 => {
             io::write_all(
                 STDERR_FILENO,
-                b"; only 00, 01 without data and 04 with two bytes are read, and no line behind 01\n",
+                b"a record behind the end record, or 01 with data, or 04 without two bytes\n",
             );
-            return;
         }
+        _ => tell_type(kind),
     }
-    io::write_all(STDERR_FILENO, b"broken, or no end record\n");
 }
 
 fn refuse(text: &[u8], refusal: Refusal, line: usize) {
@@ -65,7 +80,7 @@ fn refuse(text: &[u8], refusal: Refusal, line: usize) {
 
 // Puts the image at the start of `out`.
 pub fn image(text: &[u8], base: u32, len: u32, out: &mut [u8]) -> Made
-    ensures { λ r. ⌜ Reads len (spec.read (now (text .entry)) base len (now (out .entry))) r (now (out .exit)) ⌝ }
+    ensures { λ r. ⌜ ImageRead len (spec.read (now (text .entry)) base len (now (out .entry))) r (now (out .exit)) ⌝ }
     ensures { λ r. ⌜ Counts (r .len) (now (out .exit)) ⌝ }
 {
     let len = len as usize;

@@ -150,7 +150,19 @@ fn with_source(source: Source, len: u32, model: u32, serial: u32) {
     }
 }
 
-fn with_numbers(source: Source) {
+// BASE and LENGTH.
+fn with_place(len: u32, model: u32, serial: u32) {
+    let Parsed::Number(base) = argument(4, b"BASE") else {
+        return;
+    };
+    let Parsed::Number(image_len) = argument(5, b"LENGTH") else {
+        return;
+    };
+    with_source(Source::Hex(base, image_len), len, model, serial);
+}
+
+// BLOCK, MODEL and SERIAL, and where `hex` is set the other two.
+fn with_numbers(hex: bool) {
     let Parsed::Number(len) = argument(1, b"BLOCK") else {
         return;
     };
@@ -160,25 +172,19 @@ fn with_numbers(source: Source) {
     let Parsed::Number(serial) = argument(3, b"SERIAL") else {
         return;
     };
-    with_source(source, len, model, serial);
-}
-
-fn with_place() {
-    let Parsed::Number(base) = argument(4, b"BASE") else {
-        return;
-    };
-    let Parsed::Number(image_len) = argument(5, b"LENGTH") else {
-        return;
-    };
-    with_numbers(Source::Hex(base, image_len));
+    if hex {
+        with_place(len, model, serial);
+    } else {
+        with_source(Source::Binary, len, model, serial);
+    }
 }
 
 fn main() {
     let count = os::arg_count();
     if count == 4 {
-        with_numbers(Source::Binary);
+        with_numbers(false);
     } else if count == 6 {
-        with_place();
+        with_numbers(true);
     } else {
         io::write_all(
             STDERR_FILENO,

@@ -25,7 +25,7 @@ pub fn tell(before: &[u8], number: usize, after: &[u8]) {
 fn refuse(refusal: Refusal) {
     if let Refusal::Size = refusal {
         tell(
-            b"size: BLOCK must be 64, 128, 256, 512 or 1024, and image.bin 1 to ",
+            b"size: BLOCK must be 64, 128, 256, 512 or 1024, and the image 1 to ",
             merkle::MAX_BLOCKS,
             b" blocks long\n",
         );

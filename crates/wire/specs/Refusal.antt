@@ -1,4 +1,4 @@
--- The refusals (01, 'The drive's refusals'): their numbers, and which of several is given.
+-- The refusals (01, 'The drive's refusals', and 02, changes 1 and 3): their numbers, and which of several is given.
 use mathlib.Core.Bool.{Bool, cond}
 use mathlib.Core.List.{List, [], _∷_}
 use mathlib.Core.Option.{Option, none, some}

@@ -1,4 +1,4 @@
-use mathlib.Core.Path.{_≡_, sym, ap, _∙_}
+use mathlib.Core.Path.{_≡_, refl, sym, ap, _∙_}
 use mathlib.Core.List.{List, []}
 use Prim.Native.Nat.{ℕ, suc, _+_, _-_, _≤_}
 use native.Mathlib.Omega.{arith}
@@ -12,18 +12,18 @@ use Rattle.ihex.proofs.line.record_at.Statement.{statement}
 use Rattle.ihex.proofs.line.record_at.Tie as tie
 
 abbrev Inv-loop : tie.InvT-loop
-Inv-loop text skipped at₀ i₀ at i = (at ≤ length text) × (i ≤ skipped) × (getD (lines (drop at text)) (skipped - i) [] ≡ getD (lines text) skipped [])
+Inv-loop text number at₀ i₀ at i = (at ≤ length text) × (getD (lines (drop at text)) (number - i) [] ≡ getD (lines text) (number - 1) [])
 
 abbrev μ-loop : tie.MeasureT-loop
-μ-loop text skipped at₀ i₀ at i = skipped - i
+μ-loop text number at₀ i₀ at i = number - i
 
 loop-holds : tie.Need-loop-holds Inv-loop μ-loop
-loop-holds c = let e : c .before .args .skipped - 0 ≡ c .before .args .skipped = omega arith in (omega arith, omega arith, ap (λ (n : ℕ). getD (lines (c .before .args .text .now)) n []) e)
+loop-holds c = (omega arith, refl)
 
 returns : tie.Need-returns Inv-loop μ-loop
 returns c =
     let l = c .before .before .loop in
-    sym (ap (λ (s : List ℕ). recordFound (recordIn s)) (sym (l .inv .2) ∙ line-none _ (l .at) (c .before .before .before .before .args .skipped - l .i) (omega arith)) ∙ ap recordFound no-record)
+    sym (ap (λ (s : List ℕ). recordFound (recordIn s)) (sym (l .inv .1) ∙ line-none _ (l .at) (c .before .before .before .before .args .number - l .i) (omega arith)) ∙ ap recordFound no-record)
 
 line-end-requires : tie.Need-line-end-requires Inv-loop μ-loop
 line-end-requires c κs = search needs
@@ -38,9 +38,9 @@ loop-again : tie.Need-loop-again Inv-loop μ-loop
 loop-again c =
     let l = c .before .before .before .loop in
     let text = c .before .before .before .before .before .args .text .now in
-    let m = c .before .before .before .before .before .args .skipped - (l .i + 1) in
-    let e : c .before .before .before .before .before .args .skipped - l .i ≡ suc m = omega arith in
-    (omega (arith, c .line-end .ensures, end-within text (l .at) (l .inv .0)), omega arith, rw (c .line-end .ensures) (sym (line-later text (l .at) m (omega arith)) ∙ (rw e at (l .inv .2))))
+    let m = c .before .before .before .before .before .args .number - (l .i + 1) in
+    let e : c .before .before .before .before .before .args .number - l .i ≡ suc m = omega arith in
+    (omega (arith, c .line-end .ensures, end-within text (l .at) (l .inv .0)), rw (c .line-end .ensures) (sym (line-later text (l .at) m (omega arith)) ∙ (rw e at (l .inv .1))))
 
 line-end-requires-2 : tie.Need-line-end-requires-2 Inv-loop μ-loop
 line-end-requires-2 c κs = search needs
@@ -61,8 +61,8 @@ returns-2 : tie.Need-returns-2 Inv-loop μ-loop
 returns-2 c =
     let l = c .before .before .before .before .loop in
     let text = c .before .before .before .before .before .before .args .text .now in
-    let z : c .before .before .before .before .before .before .args .skipped - l .i ≡ 0 = omega arith in
-    c .record-in .ensures ∙ ap (λ (s : List ℕ). recordFound (recordIn s)) (line-at text (l .at) (c .before .before .line-end2 .ensures) ∙ sym (line-first (drop (l .at) text)) ∙ (rw z at (l .inv .2)))
+    let z : c .before .before .before .before .before .before .args .number - l .i ≡ 0 = omega arith in
+    c .record-in .ensures ∙ ap (λ (s : List ℕ). recordFound (recordIn s)) (line-at text (l .at) (c .before .before .line-end2 .ensures) ∙ sym (line-first (drop (l .at) text)) ∙ (rw z at (l .inv .1)))
 
 pub record-at-spec : {M : Type 1} → statement M
 record-at-spec =

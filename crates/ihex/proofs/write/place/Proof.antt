@@ -8,7 +8,7 @@ use lib.Seq.{paste}
 use Rattle.ihex.specs.Line.{Line, data00, lineOf}
 use Rattle.ihex.specs.Found.{dataIn}
 use Rattle.ihex.proofs.StepLaws.{fits, is-broken, is-end, is-upper, is-data}
-use Rattle.ihex.proofs.PlaceLaws.{Inside, inside, places-nothing, places-empty, places-data}
+use Rattle.ihex.proofs.PlaceLaws.{DataInside, inside, places-nothing, places-empty, places-data}
 use borrow.Author.Needs.{needs}
 use Rattle.ihex.proofs.write.place.Statement.{statement}
 use Rattle.ihex.proofs.write.place.Tie as tie
@@ -18,7 +18,7 @@ named : (c : tie.After-known-told) → (vs : List ℕ) × ((lineOf (c .before .b
 named c = is-data (lineOf (c .before .before .before .before .before .before .args .line .now)) (sym (c .before .before .before .line-of .ensures) ∙ c .before .address .given .1)
 
 -- their place
-held : (c : tie.Else1) → Inside (c .before .before .before .before .before .before .before .args .base) (length (c .before .before .before .before .before .before .before .args .out .now)) (c .before .before .before .before .before .before .before .args .upper) (c .before .before .address .given .0 .0) (named (c .before) .0)
+held : (c : tie.Else1) → DataInside (c .before .before .before .before .before .before .before .args .base) (length (c .before .before .before .before .before .before .before .args .out .now)) (c .before .before .before .before .before .before .before .args .upper) (c .before .before .address .given .0 .0) (named (c .before) .0)
 held c =
     let d = named (c .before) in
     inside (c .before .before .before .before .before .before .before .args .base) (length (c .before .before .before .before .before .before .before .args .out .now)) (c .before .before .before .before .before .before .before .args .upper) (c .before .before .address .given .0 .0) (d .0) (fits _ _ (c .before .before .before .before .before .before .before .pre .0)) (omega arith) (omega (arith, d .1 .1))
