@@ -12,33 +12,33 @@ use Rattle.octets.specs.Octets.{Bytes, bytes, equal}
 use Rattle.octets.proofs.NumberLaws.{number-back}
 use Rattle.ihex.specs.Line.{colon, LF, CR, lineEnd, content, digit, octets, sum, recordOf, recordIn}
 use Rattle.ihex.specs.Text.{lines}
-use Rattle.ihex.specs.Write.{figure, figures, checksum, recordLine}
+use Rattle.ihex.specs.Write.{hexDigit, hexDigits, checksum, recordLine}
 use Rattle.ihex.proofs.DigitLaws.{is-between, not-between}
 
--- a figure is its digit, and neither LF nor CR
-digit-figure : (d : ℕ) → d < 16 → digit (figure d) ≡ some d
-unfolding digit figure
-digit-figure d h = go (decLt d 10)
+-- a written digit is read as its number, and is neither LF nor CR
+digit-back : (d : ℕ) → d < 16 → digit (hexDigit d) ≡ some d
+unfolding digit hexDigit
+digit-back d h = go (decLt d 10)
   where
-    go : Dec (d < 10) → digit (figure d) ≡ some d
+    go : Dec (d < 10) → digit (hexDigit d) ≡ some d
     go (yes l) = rw (lt-ltb d 10 l, is-between 48 57 (48 + d) (omega arith) (omega arith)) (ap some (omega arith))
     go (no l) = rw (le-ltb d 10 (omega arith), not-between 48 57 (55 + d) (λ x y. omega arith), is-between 65 70 (55 + d) (omega arith) (omega arith)) (ap some (omega arith))
 
-figure-large : (d : ℕ) → 48 ≤ figure d
-unfolding figure
-figure-large d = go (decLt d 10)
+hex-digit-large : (d : ℕ) → 48 ≤ hexDigit d
+unfolding hexDigit
+hex-digit-large d = go (decLt d 10)
   where
-    go : Dec (d < 10) → 48 ≤ figure d
+    go : Dec (d < 10) → 48 ≤ hexDigit d
     go (yes l) = rw (lt-ltb d 10 l) (omega arith)
     go (no l) = rw (le-ltb d 10 (omega arith)) (omega arith)
 
 -- bytes that are written are read back
-back-more : (b : ℕ) {s : List ℕ} → b < 256 → octets (figures s) ≡ some s → octets (figures (b ∷ s)) ≡ some (b ∷ s)
-unfolding octets figures
-back-more b {s} h e = rw (digit-figure (b / 16) (omega arith), digit-figure (b % 16) (omega arith), e) (ap (λ (x : ℕ). some (x ∷ s)) (omega arith))
+back-more : (b : ℕ) {s : List ℕ} → b < 256 → octets (hexDigits s) ≡ some s → octets (hexDigits (b ∷ s)) ≡ some (b ∷ s)
+unfolding octets hexDigits
+back-more b {s} h e = rw (digit-back (b / 16) (omega arith), digit-back (b % 16) (omega arith), e) (ap (λ (x : ℕ). some (x ∷ s)) (omega arith))
 
-back-last : (s : List ℕ) (x : ℕ) → Bytes s → x < 256 → octets (figures (s ++ (x ∷ []))) ≡ some (s ++ (x ∷ []))
-back-last [] x h l = back-more x l (unfold octets figures in refl)
+back-last : (s : List ℕ) (x : ℕ) → Bytes s → x < 256 → octets (hexDigits (s ++ (x ∷ []))) ≡ some (s ++ (x ∷ []))
+back-last [] x h l = back-more x l (unfold octets hexDigits in refl)
 back-last (b ∷ s) x h l = back-more b (h 0 (omega arith)) (back-last s x (λ i g. h (suc i) (omega arith)) l)
 
 -- what stands between ':' and LF, where the byte before LF is no CR
@@ -71,17 +71,17 @@ unfolding sum
 sum-last [] x = omega arith
 sum-last (b ∷ s) x = rw (sum-last s x) (omega arith)
 
-figures-last : (s : List ℕ) (x : ℕ) → figures (s ++ (x ∷ [])) ≡ figures s ++ (figure (x / 16) ∷ []) ++ (figure (x % 16) ∷ [])
-unfolding figures
-figures-last [] x = refl
-figures-last (b ∷ s) x = rw (figures-last s x)
+digits-last : (s : List ℕ) (x : ℕ) → hexDigits (s ++ (x ∷ [])) ≡ hexDigits s ++ (hexDigit (x / 16) ∷ []) ++ (hexDigit (x % 16) ∷ [])
+unfolding hexDigits
+digits-last [] x = refl
+digits-last (b ∷ s) x = rw (digits-last s x)
 
-lines-figures : (s rest : List ℕ) → lines (figures s ++ (LF ∷ []) ++ rest) ≡ (figures s ++ (LF ∷ [])) ∷ lines rest
-unfolding figures lines
-lines-figures [] rest = refl
-lines-figures (b ∷ s) rest =
-    let n : (d : ℕ) → figure d ≡ LF → ⊥ = λ d e. omega (arith, figure-large d) in
-    rw (ne-eqb (figure (b / 16)) LF (n (b / 16)), ne-eqb (figure (b % 16)) LF (n (b % 16)), lines-figures s rest)
+lines-digits : (s rest : List ℕ) → lines (hexDigits s ++ (LF ∷ []) ++ rest) ≡ (hexDigits s ++ (LF ∷ [])) ∷ lines rest
+unfolding hexDigits lines
+lines-digits [] rest = refl
+lines-digits (b ∷ s) rest =
+    let n : (d : ℕ) → hexDigit d ≡ LF → ⊥ = λ d e. omega (arith, hex-digit-large d) in
+    rw (ne-eqb (hexDigit (b / 16)) LF (n (b / 16)), ne-eqb (hexDigit (b % 16)) LF (n (b % 16)), lines-digits s rest)
 
 module _ (address type : ℕ) (s : List ℕ) where
   -- the record without its checksum, and with it
@@ -94,16 +94,16 @@ module _ (address type : ℕ) (s : List ℕ) where
   -- it is a line of a text
   pub lines-line : (rest : List ℕ) → lines (recordLine address type s ++ rest) ≡ recordLine address type s ∷ lines rest
   unfolding recordLine lines
-  lines-line rest = rw (lines-figures whole rest)
+  lines-line rest = rw (lines-digits whole rest)
 
-  line-content : content (recordLine address type s) ≡ some (figures whole)
+  line-content : content (recordLine address type s) ≡ some (hexDigits whole)
   unfolding recordLine
   line-content =
       let c = checksum head in
-      rw (figures-last head c) (content-of (figures head ++ (figure (c / 16) ∷ [])) (figure (c % 16)) (λ e. omega (arith, figure-large (c % 16))))
+      rw (digits-last head c) (content-of (hexDigits head ++ (hexDigit (c / 16) ∷ [])) (hexDigit (c % 16)) (λ e. omega (arith, hex-digit-large (c % 16))))
 
   module _ (a : address < 65536) (t : type < 256) (l : length s < 256) (h : Bytes s) where
-    line-octets : octets (figures whole) ≡ some whole
+    line-octets : octets (hexDigits whole) ≡ some whole
     unfolding bytes checksum
     line-octets =
         back-more (length s) l

@@ -64,7 +64,7 @@ recordOf bs =
 unfoldable pub recordIn : List ℕ → Option Record
 recordIn l = bind (bind (content l) octets) recordOf
 
--- What a line says: data at an address, the end, or the upper half of the addresses to come.
+-- What a line says, by its record's type: data at an address (00), end of file (01), extended linear address (04), which is the upper half of those to come.
 pub data Line : Type 0 where
   data00 : (address : ℕ) (bytes : List ℕ) → Line
   end01 : Line

@@ -9,13 +9,13 @@ use Rattle.octets.specs.Octets.{bytes}
 use Rattle.ihex.specs.Line.{colon, LF, sum}
 
 -- the digit of a number below 16: 0 to 9, A to F
-unfoldable pub figure : ℕ → ℕ
-figure d = cond (ltb d 10) (48 + d) (55 + d)
+unfoldable pub hexDigit : ℕ → ℕ
+hexDigit d = cond (ltb d 10) (48 + d) (55 + d)
 
 -- each byte as two digits
-unfoldable pub figures : List ℕ → List ℕ
-figures [] = []
-figures (b ∷ bs) = figure (b / 16) ∷ figure (b % 16) ∷ figures bs
+unfoldable pub hexDigits : List ℕ → List ℕ
+hexDigits [] = []
+hexDigits (b ∷ bs) = hexDigit (b / 16) ∷ hexDigit (b % 16) ∷ hexDigits bs
 
 -- the byte that makes the sum 0 modulo 256
 unfoldable pub checksum : List ℕ → ℕ
@@ -24,7 +24,7 @@ checksum bs = (256 - sum bs % 256) % 256
 unfoldable pub recordLine : (address type : ℕ) → List ℕ → List ℕ
 recordLine address type s =
     let bs = length s ∷ bytes 2 address ++ (type ∷ s) in
-    colon ∷ figures (bs ++ (checksum bs ∷ [])) ++ (LF ∷ [])
+    colon ∷ hexDigits (bs ++ (checksum bs ∷ [])) ++ (LF ∷ [])
 
 -- from address a on, with u the last 04 value; k, no less than the length, only bounds the recursion
 unfoldable pub textFrom : (k u a : ℕ) → List ℕ → List ℕ

@@ -3,9 +3,10 @@ use mathlib.Core.Path.{_≡_, refl, sym, ap, ap₂, _∙_}
 use mathlib.Core.List.{List, [], _∷_, _++_, append-assoc, append-nil}
 use Prim.Native.Nat.{ℕ, zero, suc, _+_, _-_, _≤_, _<_}
 use native.Mathlib.Nat.{zero-add}
+use native.Mathlib.Numerals.{add-one}
 use native.Mathlib.Omega.{arith}
-use lib.ListN.{length, take, drop, set, length-drop, drop-of-length-le}
-use lib.Seq.{paste, take-length, take-all, take-at, take-take, drop-at, drop-drop, length-take-le}
+use lib.ListN.{length, take, drop, getD, set, length-drop, drop-of-length-le}
+use lib.Seq.{paste, paste-suc, take-length, take-all, take-at, take-take, drop-at, drop-drop, length-take-le}
 use Rattle.octets.specs.Octets.{part}
 
 pub length-part : (s : List ℕ) (i k : ℕ) → i + k ≤ length s → length (part i k s) ≡ k
@@ -31,6 +32,10 @@ part-part s i k j n h = inner (drop i s) j n k h ∙ ap (take n) (drop-drop j i 
 -- the second part of x ++ y
 pub part-second : (x y : List ℕ) (i k : ℕ) → length x ≡ i → length y ≡ k → part i k (x ++ y) ≡ y
 part-second x y i k e f = ap (take k) (drop-at x y i e) ∙ take-all k y (omega arith)
+
+-- one byte more of a copy
+pub paste-next : (d₀ s d : List ℕ) (at i : ℕ) {v : ℕ} → d ≡ paste d₀ at s i → at + i < length d₀ → i < length s → v ≡ getD s i 0 → set d (at + i) v ≡ paste d₀ at s (i + 1)
+paste-next d₀ s d at i e h k g = rw (e, g) (paste-suc d₀ at s i 0 h k ∙ ap (paste d₀ at s) (sym (add-one i)))
 
 -- what stands from at on after a copy to at
 pub paste-from : (d s : List ℕ) (at : ℕ) → at ≤ length d → drop at (paste d at s (length s)) ≡ s ++ drop (at + length s) d

@@ -20,10 +20,10 @@ pub fn buffer() -> [u8; ihex::MAX_LEN]
     [0u8; ihex::MAX_LEN]
 }
 
-// A number below 16, as a digit.
-fn figure(number: u8) -> u8
+// A number below 16, as a digit of base 16.
+fn hex_digit(number: u8) -> u8
     requires { ⌜ number < 16 ⌝ }
-    ensures { λ r. ⌜ r ≡ writing.figure number ⌝ }
+    ensures { λ r. ⌜ r ≡ writing.hexDigit number ⌝ }
 {
     if number < 10 {
         48 + number
@@ -33,7 +33,7 @@ fn figure(number: u8) -> u8
 }
 
 fn tell_type(kind: u8) {
-    let digits = [figure(kind / 16), figure(kind % 16)];
+    let digits = [hex_digit(kind / 16), hex_digit(kind % 16)];
     io::write_all(STDERR_FILENO, b"record type ");
     io::write_all(STDERR_FILENO, &digits);
     io::write_all(STDERR_FILENO, b"; only types 00, 01 and 04 are read\n");

@@ -1,11 +1,10 @@
-use mathlib.Core.Path.{_≡_, refl, sym, ap, _∙_}
-use Prim.Native.Nat.{ℕ, _+_, _-_, _<_, _≤_}
+use mathlib.Core.Path.{_≡_, refl, ap, _∙_}
+use Prim.Native.Nat.{_-_, _≤_}
 use native.Mathlib.Omega.{arith}
-use native.Mathlib.Numerals.{add-one}
-use mathlib.Core.List.{List}
-use lib.ListN.{length, length-set, getD, set}
-use lib.Seq.{paste, paste-zero, paste-suc}
+use lib.ListN.{length, length-set}
+use lib.Seq.{paste, paste-zero}
 use borrow.Author.Needs.{needs}
+use Rattle.octets.proofs.CopyLaws.{paste-next}
 use Rattle.octets.proofs.copy.Statement.{statement}
 use Rattle.octets.proofs.copy.Tie as tie
 
@@ -33,13 +32,10 @@ add-i c = omega arith
 loop-less : tie.Need-loop-less Inv-loop μ-loop
 loop-less c = omega arith
 
-turn : (d₀ s d : List ℕ) (at i : ℕ) → d ≡ paste d₀ at s i → at + i < length d₀ → i < length s → set d (at + i) (getD s i 0) ≡ paste d₀ at s (i + 1)
-turn d₀ s d at i e h k = ap (λ (x : List ℕ). set x (at + i) (getD s i 0)) e ∙ paste-suc d₀ at s i 0 h k ∙ ap (paste d₀ at s) (sym (add-one i))
-
 loop-again : tie.Need-loop-again Inv-loop μ-loop
 loop-again c =
     let l = c .before .before .loop in
-    (turn _ _ _ _ _ (l .inv .0) (omega arith) (omega arith), omega arith, simp length-set (l .inv .2))
+    (paste-next _ _ _ _ _ (l .inv .0) (omega arith) (omega arith) refl, omega arith, simp length-set (l .inv .2))
 
 same-length : tie.Need-same-length Inv-loop μ-loop
 same-length c = search needs

@@ -1,19 +1,15 @@
-use mathlib.Core.Path.{_≡_, refl, sym, ap, _∙_}
-use mathlib.Core.List.{List}
-use Prim.Native.Nat.{ℕ, _+_, _-_, _≤_, _<_}
-use native.Mathlib.Numerals.{add-one}
+use mathlib.Core.Path.{_≡_, refl, ap, _∙_}
+use Prim.Native.Nat.{_-_, _≤_, _<_}
 use native.Mathlib.Omega.{arith}
-use lib.ListN.{length, length-set, getD, set}
-use lib.Seq.{paste, paste-zero, paste-suc}
+use lib.ListN.{length, length-set}
+use lib.Seq.{paste, paste-zero}
+use Rattle.octets.proofs.CopyLaws.{paste-next}
 use Rattle.ihex.specs.Line.{lineOf}
 use Rattle.ihex.specs.Found.{dataIn}
 use Rattle.ihex.proofs.FoundLaws.{data-at}
 use borrow.Author.Needs.{needs}
 use Rattle.ihex.proofs.write.put.Statement.{statement}
 use Rattle.ihex.proofs.write.put.Tie as tie
-
-turn : (d₀ s d : List ℕ) (at i : ℕ) {v : ℕ} → d ≡ paste d₀ at s i → at + i < length d₀ → i < length s → v ≡ getD s i 0 → set d (at + i) v ≡ paste d₀ at s (i + 1)
-turn d₀ s d at i e h k g = rw (e, g) (paste-suc d₀ at s i 0 h k ∙ ap (paste d₀ at s) (sym (add-one i)))
 
 abbrev Inv-loop : tie.InvT-loop
 Inv-loop line count out₀ at i₀ out i = (i ≤ count) × (length out ≡ length out₀) × (out ≡ paste out₀ at (dataIn (lineOf line)) i)
@@ -49,7 +45,7 @@ loop-again : tie.Need-loop-again Inv-loop μ-loop
 loop-again c =
     let l = c .before .before .loop in
     let h : l .i < length (dataIn (lineOf (c .before .before .before .before .before .args .line .now))) = omega (arith, c .before .before .before .before .before .pre .0) in
-    (omega arith, simp length-set (l .inv .1), turn _ _ _ _ _ (l .inv .2) (omega (arith, c .before .before .before .before .before .pre .1)) h (c .octet .ensures ∙ data-at _ (l .i) h .is))
+    (omega arith, simp length-set (l .inv .1), paste-next _ _ _ _ _ (l .inv .2) (omega (arith, c .before .before .before .before .before .pre .1)) h (c .octet .ensures ∙ data-at _ (l .i) h .is))
 
 same-length : tie.Need-same-length Inv-loop μ-loop
 same-length c = search needs
