@@ -5,7 +5,7 @@ use Prim.Native.Nat.{ℕ, zero, suc, _+_, _*_, _/_, _-_, _%_, _^_, _≤_}
 use native.Mathlib.Nat.{mul-suc, mul-add}
 use native.Mathlib.Omega.{arith}
 use lib.ListN.{length, take, drop, length-append, length-drop}
-use lib.Seq.{take-append-le, drop-append-le, drop-drop}
+use lib.Seq.{take-all, take-append-le, drop-append-le, drop-drop}
 use Rattle.sha256.specs.Sha256.{hashValue, block, compress, H0, digest, concatenated, pad, padding}
 use Rattle.sha256.specs.Context.{Pending}
 
@@ -19,6 +19,11 @@ hash-kept H (suc n) m s h =
     let t : take 64 (drop (64 * n) m ++ s) ≡ take 64 (drop (64 * n) m) = take-append-le 64 (drop (64 * n) m) s (omega (arith, length-drop (64 * n) m)) in
     ap₂ compress (hash-kept H n m s (omega arith)) (ap (take 64) d ∙ t)
 
+-- one block
+pub hash-one : (h x : List ℕ) → length x ≡ 64 → hashValue h (length x / 64) x ≡ compress h x
+unfolding hashValue block
+hash-one h x e = rw e (ap (compress h) (take-all 64 x (omega arith)))
+
 block-later : (a b : ℕ) (m : List ℕ) → block (a + b) m ≡ block b (drop (64 * a) m)
 unfolding block
 block-later a b m = ap (take 64) (ap (λ (k : ℕ). drop k m) (mul-add 64 a b) ∙ sym (drop-drop (64 * b) (64 * a) m))
@@ -31,31 +36,31 @@ hash-add H a (suc b) m =
     let z : a + suc b ≡ suc (a + b) = omega arith in
     rw z (ap₂ compress (hash-add H a b m) (block-later a b m))
 
-module _ {h r : List ℕ} {t : ℕ} {m : List ℕ} (p : Pending h r t m) (s : List ℕ) where
-  pub length-rest : length r ≡ length m % 64
-  length-rest = ap length (p .bytes) ∙ length-drop (64 * (length m / 64)) m ∙ omega arith
+pub length-rest : {h r : List ℕ} {t : ℕ} {m : List ℕ} → Pending h r t m → length r ≡ length m % 64
+length-rest {m = m} p = ap length (p .waiting) ∙ length-drop (64 * (length m / 64)) m ∙ omega arith
 
+module _ {h r : List ℕ} {t : ℕ} {m : List ℕ} (p : Pending h r t m) (s : List ℕ) where
   blocks : length (m ++ s) / 64 ≡ length m / 64 + length (r ++ s) / 64
-  blocks = omega (arith, length-append m s, length-append r s, length-rest)
+  blocks = omega (arith, length-append m s, length-append r s, length-rest p)
 
   cut : drop (64 * (length m / 64)) (m ++ s) ≡ r ++ s
-  cut = drop-append-le (64 * (length m / 64)) m s (omega arith) ∙ ap (λ (l : List ℕ). l ++ s) (sym (p .bytes))
+  cut = drop-append-le (64 * (length m / 64)) m s (omega arith) ∙ ap (λ (l : List ℕ). l ++ s) (sym (p .waiting))
 
   hash-grown : hashValue H0 (length (m ++ s) / 64) (m ++ s) ≡ hashValue h (length (r ++ s) / 64) (r ++ s)
   hash-grown =
       ap (λ (k : ℕ). hashValue H0 k (m ++ s)) blocks ∙ hash-add H0 (length m / 64) (length (r ++ s) / 64) (m ++ s)
-      ∙ ap₂ (λ (x y : List ℕ). hashValue x (length (r ++ s) / 64) y) (hash-kept H0 (length m / 64) m s (omega arith) ∙ sym (p .state)) cut
+      ∙ ap₂ (λ (x y : List ℕ). hashValue x (length (r ++ s) / 64) y) (hash-kept H0 (length m / 64) m s (omega arith) ∙ sym (p .compressed)) cut
 
   -- the message grows by s: the whole blocks of what was left and s are compressed, and what follows them is left
   pub grown : {h′ r′ : List ℕ} {t′ : ℕ} → h′ ≡ hashValue h (length (r ++ s) / 64) (r ++ s) → r′ ≡ drop (64 * (length (r ++ s) / 64)) (r ++ s)
       → t′ ≡ (t + length s) % 2 ^ 64 → Pending h′ r′ t′ (m ++ s)
   grown e f g =
       record {
-        state = e ∙ sym hash-grown;
-        bytes =
+        compressed = e ∙ sym hash-grown;
+        waiting =
             f ∙ ap (drop (64 * (length (r ++ s) / 64))) (sym cut) ∙ drop-drop (64 * (length (r ++ s) / 64)) (64 * (length m / 64)) (m ++ s)
             ∙ ap (λ (k : ℕ). drop k (m ++ s)) (sym (mul-add 64 (length m / 64) (length (r ++ s) / 64)) ∙ ap (λ (k : ℕ). 64 * k) (sym blocks));
-        count = g ∙ omega (arith, p .count, length-append m s);
+        counted = g ∙ omega (arith, p .counted, length-append m s);
       }
 
 -- the digest, from the hash value after the whole blocks and the bytes after them

@@ -5,5 +5,4 @@ pub mod HashLaws
 pub mod PaddingLaws
 pub mod RoundLaws
 pub mod ScheduleLaws
-pub mod TailLaws
 pub mod WordLaws

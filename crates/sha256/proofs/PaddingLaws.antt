@@ -1,16 +1,17 @@
 -- The padding: its zero bits are the least that do, its length, and the last block or two.
 use mathlib.Core.Path.{_≡_, refl, sym, ap, ap₂, _∙_}
-use mathlib.Core.List.{List, [], _∷_, _++_, append-assoc, append-nil}
+use mathlib.Core.List.{List, _∷_, _++_, append-assoc}
 use Prim.Native.Nat.{ℕ, suc, _+_, _*_, _-_, _/_, _%_, _^_, _≤_, _<_}
 use native.Mathlib.Omega.{arith}
-use lib.ListN.{length, take, drop, drop-of-length-le, set, replicate, length-append, length-replicate, replicate-append-replicate}
+use lib.ListN.{length, take, drop, set, replicate, length-append, length-replicate, replicate-append-replicate}
 use lib.Seq.{paste, take-length, take-all, take-at, drop-at, set-at}
 use Rattle.octets.specs.Octets.{bytes}
+use Rattle.octets.proofs.CopyLaws.{paste-end}
 use Rattle.octets.proofs.NumberLaws.{length-bytes, bytes-mod}
 use Rattle.sha256.specs.Sha256.{zeroBits, padding, pad, hashValue, block, compress, digest, concatenated}
 use Rattle.sha256.specs.Claims.{ZeroBits, PadLength}
 use Rattle.sha256.specs.Context.{Pending}
-use Rattle.sha256.proofs.HashLaws.{digest-pending, length-rest}
+use Rattle.sha256.proofs.HashLaws.{hash-one, digest-pending, length-rest}
 
 pub zero-bits : ZeroBits
 unfolding zeroBits
@@ -49,10 +50,6 @@ bits t n e =
     let w : (8 * t) % 256 ^ 8 ≡ (8 * n) % 256 ^ 8 = omega arith in
     sym (bytes-mod 8 (8 * t)) ∙ ap (bytes 8) w ∙ bytes-mod 8 (8 * n)
 
-hash-one : (h x : List ℕ) → length x ≡ 64 → hashValue h (length x / 64) x ≡ compress h x
-unfolding hashValue block
-hash-one h x e = rw e (ap (compress h) (take-all 64 x (omega arith)))
-
 hash-two : (h x y : List ℕ) → length x ≡ 64 → length y ≡ 64 → hashValue h (length (x ++ y) / 64) (x ++ y) ≡ compress (compress h x) y
 unfolding hashValue block
 hash-two h x y e f =
@@ -63,8 +60,8 @@ module _ {h r : List ℕ} {t : ℕ} {m : List ℕ} (p : Pending h r t m) where
   zeros : (k : ℕ) → k ≡ (119 - length r) % 64 → padding (8 * length m) ≡ (0x80 ∷ replicate k 0) ++ bytes 8 (8 * t)
   unfolding padding
   zeros k e =
-      let f : zeroBits (8 * length m) / 8 ≡ k = omega (arith, zero-bytes (length m), length-rest p []) in
-      ap₂ (λ (x : ℕ) (y : List ℕ). (0x80 ∷ replicate x 0) ++ y) f (sym (bits t (length m) (p .count)))
+      let f : zeroBits (8 * length m) / 8 ≡ k = omega (arith, zero-bytes (length m), length-rest p) in
+      ap₂ (λ (x : ℕ) (y : List ℕ). (0x80 ∷ replicate x 0) ++ y) f (sym (bits t (length m) (p .counted)))
 
   -- it fits into the block, or takes one more
   pub digest-one : length r < 56 → (b : List ℕ) → b ≡ r ++ (0x80 ∷ replicate (63 - length r) 0)
@@ -85,25 +82,22 @@ module _ {h r : List ℕ} {t : ℕ} {m : List ℕ} (p : Pending h r t m) where
       ∙ omega (arith, length-bytes 8 (8 * t), ap length g, length-append r (0x80 ∷ replicate (55 - length r) 0), length-replicate {A = ℕ} (55 - length r) 0) in
       sym (digest-pending p x w ∙ ap concatenated (hash-one h x n))
 
-  pub digest-two : 56 ≤ length r → length r < 64 → (b z : List ℕ) → b ≡ r ++ (0x80 ∷ replicate (63 - length r) 0) → z ≡ replicate 56 0
-      → concatenated (compress (compress h b) (z ++ bytes 8 (8 * t))) ≡ digest m
-  digest-two l g b z e f =
-      let y = z ++ bytes 8 (8 * t) in
+  pub digest-two : 56 ≤ length r → length r < 64 → (b : List ℕ) → b ≡ r ++ (0x80 ∷ replicate (63 - length r) 0)
+      → concatenated (compress (compress h b) (replicate 56 0 ++ bytes 8 (8 * t))) ≡ digest m
+  digest-two l g b e =
+      let y = replicate 56 0 ++ bytes 8 (8 * t) in
       let k : 119 - length r ≡ (63 - length r) + 56 = omega arith in
       let w : b ++ y ≡ r ++ padding (8 * length m) =
-      ap₂ {C = List ℕ} (λ (u v : List ℕ). u ++ (v ++ bytes 8 (8 * t))) e f
-      ∙ append-assoc r (0x80 ∷ replicate (63 - length r) 0) (replicate 56 0 ++ bytes 8 (8 * t))
+      ap (λ (u : List ℕ). u ++ y) e ∙ append-assoc r (0x80 ∷ replicate (63 - length r) 0) (replicate 56 0 ++ bytes 8 (8 * t))
       ∙ ap (λ (u : List ℕ). r ++ (0x80 ∷ u)) (sym (append-assoc (replicate (63 - length r) 0) (replicate 56 0) (bytes 8 (8 * t)))
       ∙ ap (λ (u : List ℕ). u ++ bytes 8 (8 * t)) (replicate-append-replicate (63 - length r) 56 0 ∙ ap (λ (n : ℕ). replicate n 0) (sym k)))
       ∙ ap (λ (u : List ℕ). r ++ u) (sym (zeros (119 - length r) (omega arith))) in
       let n : length b ≡ 64 = ap length e ∙ length-append r (0x80 ∷ replicate (63 - length r) 0) ∙ omega (arith, length-replicate {A = ℕ} (63 - length r) 0) in
-      let o : length y ≡ 64 = length-append z (bytes 8 (8 * t)) ∙ omega (arith, ap length f, length-replicate {A = ℕ} 56 0, length-bytes 8 (8 * t)) in
+      let o : length y ≡ 64 = length-append (replicate 56 0) (bytes 8 (8 * t)) ∙ omega (arith, length-replicate {A = ℕ} 56 0, length-bytes 8 (8 * t)) in
       sym (digest-pending p (b ++ y) w ∙ ap concatenated (hash-two h b y n o))
 
 -- the length written into the last block
 pub closed : (b l : List ℕ) (t : ℕ) → length b ≡ 64 → l ≡ bytes 8 ((t * 2 ^ 3) % 2 ^ 64) → paste b 56 l (length l) ≡ take 56 b ++ bytes 8 (8 * t)
 closed b l t e f =
     let g : l ≡ bytes 8 (8 * t) = f ∙ ap (λ (x : ℕ). bytes 8 (x % 2 ^ 64)) (omega arith) ∙ bytes-mod 8 (8 * t) in
-    let n : length l ≡ 8 = ap length g ∙ length-bytes 8 (8 * t) in
-    ap (λ (x : List ℕ). (take 56 b ++ take (length l) l) ++ x) (drop-of-length-le b {i = 56 + length l} (omega arith))
-    ∙ append-nil (take 56 b ++ take (length l) l) ∙ ap (λ (x : List ℕ). take 56 b ++ x) (take-length l ∙ g)
+    paste-end b l 56 (omega (arith, ap length g, length-bytes 8 (8 * t))) ∙ ap (λ (x : List ℕ). take 56 b ++ x) g

@@ -1,4 +1,3 @@
 pub mod Sha256
 pub mod Claims
-pub mod Working
 pub mod Context

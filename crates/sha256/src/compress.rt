@@ -1,13 +1,11 @@
 // The hash value after more blocks (FIPS 180-4, 6.2.2).
 use crate::functions::add;
-use crate::rounds::Vars;
 use crate::rounds::rounds;
 use crate::schedule::schedule;
 ghost use mathlib.Core.Path.{_≡_};
 ghost use Prim.Native.Nat.{_/_};
 ghost use lib.ListN.{length};
 ghost use Rattle.sha256.specs.Sha256 as spec;
-ghost use Rattle.sha256.specs.Working.{variables};
 
 // The initial hash value (5.3.3).
 pub const H0: [u32; 8] = [
@@ -21,60 +19,37 @@ pub const H0: [u32; 8] = [
     0x5be0cd19,
 ];
 
-// Step 2.
-fn initialize(h: [u32; 8]) -> Vars
-    ensures { λ r. ⌜ variables r ≡ spec.initialize h ⌝ }
-{
-    Vars {
-        a: h[0],
-        b: h[1],
-        c: h[2],
-        d: h[3],
-        e: h[4],
-        f: h[5],
-        g: h[6],
-        h: h[7],
-    }
-}
-
-// Step 4.
-fn sums(h: [u32; 8], v: Vars) -> [u32; 8]
-    ensures { λ r. ⌜ r ≡ spec.sums h (variables v) ⌝ }
-{
-    [
-        add(v.a, h[0]),
-        add(v.b, h[1]),
-        add(v.c, h[2]),
-        add(v.d, h[3]),
-        add(v.e, h[4]),
-        add(v.f, h[5]),
-        add(v.g, h[6]),
-        add(v.h, h[7]),
-    ]
-}
-
 // The hash value after one more block.
-pub fn compress(h: [u32; 8], block: &[u8]) -> [u32; 8]
+pub fn compress(H: &mut [u32; 8], block: &[u8])
     requires { ⌜ length (now block) ≡ 64 ⌝ }
-    ensures { λ r. ⌜ r ≡ spec.compress h (now (block .entry)) ⌝ }
+    ensures { λ _. ⌜ now (H .exit) ≡ spec.compress (now (H .entry)) (now (block .entry)) ⌝ }
 {
-    let mut w = [0u32; 64];
-    schedule(block, &mut w);
-    let v = rounds(initialize(h), &w);
-    sums(h, v)
+    // Step 1.
+    let W = schedule(block);
+    // Steps 2 and 3.
+    let before = *H;
+    let v = rounds(before, W);
+    // Step 4: v[0] is a, and so on to v[7], which is h.
+    *H = [
+        add(v[0], before[0]),
+        add(v[1], before[1]),
+        add(v[2], before[2]),
+        add(v[3], before[3]),
+        add(v[4], before[4]),
+        add(v[5], before[5]),
+        add(v[6], before[6]),
+        add(v[7], before[7]),
+    ];
 }
 
-// The hash value after the whole blocks of s, each compressed where it lies.
-pub fn compress_all(h: [u32; 8], s: &[u8]) -> [u32; 8]
-    ensures { λ r. ⌜ r ≡ spec.hashValue h (length (now (s .entry)) / 64) (now (s .entry)) ⌝ }
+// The page's loop over the blocks: the hash value after the whole blocks of s, each compressed where it lies.
+pub fn compress_all(H: &mut [u32; 8], s: &[u8])
+    ensures { λ _. ⌜ now (H .exit) ≡ spec.hashValue (now (H .entry)) (length (now (s .entry)) / 64) (now (s .entry)) ⌝ }
 {
-    let mut g = h;
-    let mut i: usize = 0;
-    while 64 <= s.len() - i {
-        let end = i + 64;
-        let next = compress(g, &s[i..end]);
-        g = next;
-        i = end;
+    let mut from: usize = 0;
+    while 64 <= s.len() - from {
+        let end = from + 64;
+        compress(H, &s[from..end]);
+        from = end;
     }
-    g
 }

@@ -1,5 +1,5 @@
-// SHA-256 (FIPS 180-4) of a message in one call, or in pieces through a `Context`. The files follow the standard: functions (4.1.2), message
-// schedule, rounds and hash value (6.2.2), padding (5.1.1).
+// SHA-256 (FIPS 180-4) of a message in one call, or in pieces through a `Context`. The files are the standard's sections: functions (4.1.2), padding (5.1.1),
+// and of 6.2.2 schedule (step 1), rounds (steps 2 and 3) and compress (all four).
 mod compress;
 mod context;
 mod functions;
@@ -18,8 +18,8 @@ ghost use Rattle.sha256.specs.Sha256 as spec;
 pub fn digest(message: &[u8]) -> [u8; 32]
     ensures { λ r. ⌜ r ≡ spec.digest (now (message .entry)) ⌝ }
 {
-    let start = H0;
-    let h = compress_all(start, message);
+    let mut H = H0;
+    compress_all(&mut H, message);
     let whole = message.len() / 64 * 64;
-    last(h, &message[whole..], message.len() as u64)
+    last(H, &message[whole..], message.len() as u64)
 }

@@ -1,14 +1,11 @@
-// The working variables and the 64 rounds (FIPS 180-4, 6.2.2, steps 2 and 3).
+// The 64 rounds (FIPS 180-4, 6.2.2, steps 2 and 3).
+use crate::functions::BSIG0;
+use crate::functions::BSIG1;
+use crate::functions::Ch;
+use crate::functions::Maj;
 use crate::functions::add;
-use crate::functions::big0;
-use crate::functions::big1;
-use crate::functions::ch;
-use crate::functions::maj;
 ghost use mathlib.Core.Path.{_≡_};
-ghost use Prim.Native.Nat.{_<_};
-ghost use lib.ListN.{getD};
 ghost use Rattle.sha256.specs.Sha256 as spec;
-ghost use Rattle.sha256.specs.Working.{variables};
 
 // The constants (4.2.2).
 const K: [u32; 64] = [
@@ -78,69 +75,37 @@ const K: [u32; 64] = [
     0xc67178f2,
 ];
 
-// The working variables.
-pub struct Vars {
-    pub a: u32,
-    pub b: u32,
-    pub c: u32,
-    pub d: u32,
-    pub e: u32,
-    pub f: u32,
-    pub g: u32,
-    pub h: u32,
-}
-
-// One round, with its constant and its word.
-fn round(v: Vars, k: u32, w: u32) -> Vars
-    ensures { λ r. ⌜ variables r ≡ spec.round (variables v) k w ⌝ }
+// The working variables a to h after the rounds over the words W, from the hash value H on; in the contract `initialize` gives the eight words of an array
+// these letters. The page's loop over t is two here, t = 8 i + j: the compiler unrolls an inner loop of eight, which runs faster.
+pub fn rounds(H: [u32; 8], W: [u32; 64]) -> [u32; 8]
+    ensures { λ r. ⌜ spec.initialize r ≡ spec.rounds W 64 (spec.initialize H) ⌝ }
 {
-    let t1 = add(add(add(add(v.h, big1(v.e)), ch(v.e, v.f, v.g)), k), w);
-    let t2 = add(big0(v.a), maj(v.a, v.b, v.c));
-    Vars {
-        a: add(t1, t2),
-        b: v.a,
-        c: v.b,
-        d: v.c,
-        e: add(v.d, t1),
-        f: v.e,
-        g: v.f,
-        h: v.g,
-    }
-}
-
-// Round t, with the constants k and the words w.
-fn step(v: Vars, k: &[u32; 64], w: &[u32; 64], t: usize) -> Vars
-    requires { ⌜ t < 64 ⌝ }
-    ensures { λ r. ⌜ variables r ≡ spec.round (variables v) (getD (now (k .entry)) t 0) (getD (now (w .entry)) t 0) ⌝ }
-{
-    round(v, k[t], w[t])
-}
-
-// The 64 rounds over the words w, eight to a turn: that runs a fifth faster than one.
-pub fn rounds(start: Vars, w: &[u32; 64]) -> Vars
-    ensures { λ r. ⌜ variables r ≡ spec.rounds (now (w .entry)) 64 (variables start) ⌝ }
-{
-    // One copy before the loop: a constant indexed inside it is stored anew each turn.
+    // K, stored once: a constant that is indexed in a loop is stored anew at each turn.
     let k = K;
-    let mut v = start;
-    let mut t: usize = 0;
-    while t < 64 {
-        v = step(v, &k, w, t);
-        t += 1;
-        v = step(v, &k, w, t);
-        t += 1;
-        v = step(v, &k, w, t);
-        t += 1;
-        v = step(v, &k, w, t);
-        t += 1;
-        v = step(v, &k, w, t);
-        t += 1;
-        v = step(v, &k, w, t);
-        t += 1;
-        v = step(v, &k, w, t);
-        t += 1;
-        v = step(v, &k, w, t);
-        t += 1;
+    // Step 2.
+    let mut a = H[0];
+    let mut b = H[1];
+    let mut c = H[2];
+    let mut d = H[3];
+    let mut e = H[4];
+    let mut f = H[5];
+    let mut g = H[6];
+    let mut h = H[7];
+    // Step 3, for t from 0 to 63.
+    for i in 0..8 {
+        for j in 0..8 {
+            let t = 8 * i + j;
+            let T1 = add(add(add(add(h, BSIG1(e)), Ch(e, f, g)), k[t]), W[t]);
+            let T2 = add(BSIG0(a), Maj(a, b, c));
+            h = g;
+            g = f;
+            f = e;
+            e = add(d, T1);
+            d = c;
+            c = b;
+            b = a;
+            a = add(T1, T2);
+        }
     }
-    v
+    [a, b, c, d, e, f, g, h]
 }

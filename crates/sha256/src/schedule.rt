@@ -1,59 +1,37 @@
-// The message schedule (FIPS 180-4, 6.2.2, step 1): all 64 words, before the rounds.
+// The message schedule (FIPS 180-4, 6.2.2, step 1): all 64 words W, before the rounds.
+use crate::functions::SSIG0;
+use crate::functions::SSIG1;
 use crate::functions::add;
-use crate::functions::small0;
-use crate::functions::small1;
 ghost use mathlib.Core.Path.{_≡_};
 ghost use mathlib.Core.List.{List};
-ghost use Prim.Native.Nat.{ℕ, _+_, _≤_, _<_};
+ghost use Prim.Native.Nat.{ℕ};
 ghost use lib.ListN.{length, take};
 ghost use Rattle.sha256.specs.Sha256 as spec;
 
-// Writes word t after the words before it.
-fn next(w: &mut [u32; 64], t: usize)
-    requires { ⌜ (16 ≤ t) × (t < 64) × (length (now w) ≡ 64) ⌝ }
-    ensures { λ _. ⌜ (length (now (w .exit)) ≡ 64) × ((b : List ℕ) → take t (now (w .entry)) ≡ spec.words t b → take (t + 1) (now (w .exit)) ≡ spec.words (t + 1) b) ⌝ }
+// Step 1: the words W of a block. For t up to 15, W[t] is the block's own word M[t].
+pub fn schedule(block: &[u8]) -> [u32; 64]
+    requires { ⌜ length (now block) ≡ 64 ⌝ }
+    ensures { λ r. ⌜ r ≡ spec.schedule (now (block .entry)) ⌝ }
 {
-    w[t] = add(
-        add(add(small1(w[t - 2]), w[t - 7]), small0(w[t - 15])),
-        w[t - 16],
-    );
+    let mut W = [0u32; 64];
+    for t in 0..16 {
+        W[t] = octets::u32_at(block, 4 * t);
+    }
+    extended(W)
 }
 
-// Writes the words after the first 16, eight to a turn as the rounds.
-fn extend(w: &mut [u32; 64])
-    requires { ⌜ length (now w) ≡ 64 ⌝ }
-    ensures { λ _. ⌜ ((b : List ℕ) → take 16 (now (w .entry)) ≡ spec.words 16 b → now (w .exit) ≡ spec.schedule b) ⌝ }
+// The words for t from 16 to 63, from those before them. Two loops as in `rounds`: t = 8 i + j.
+fn extended(mut W: [u32; 64]) -> [u32; 64]
+    ensures { λ r. ⌜ ((b : List ℕ) → take 16 W ≡ spec.words 16 b → r ≡ spec.schedule b) ⌝ }
 {
-    let mut t: usize = 16;
-    while t < 64 {
-        next(w, t);
-        t += 1;
-        next(w, t);
-        t += 1;
-        next(w, t);
-        t += 1;
-        next(w, t);
-        t += 1;
-        next(w, t);
-        t += 1;
-        next(w, t);
-        t += 1;
-        next(w, t);
-        t += 1;
-        next(w, t);
-        t += 1;
+    for i in 2..8 {
+        for j in 0..8 {
+            let t = 8 * i + j;
+            W[t] = add(
+                add(add(SSIG1(W[t - 2]), W[t - 7]), SSIG0(W[t - 15])),
+                W[t - 16],
+            );
+        }
     }
-}
-
-// Writes the schedule of a block.
-pub fn schedule(block: &[u8], w: &mut [u32; 64])
-    requires { ⌜ (length (now block) ≡ 64) × (length (now w) ≡ 64) ⌝ }
-    ensures { λ _. ⌜ now (w .exit) ≡ spec.schedule (now (block .entry)) ⌝ }
-{
-    let mut t: usize = 0;
-    while t < 16 {
-        w[t] = octets::u32_at(block, 4 * t);
-        t += 1;
-    }
-    extend(w);
+    W
 }

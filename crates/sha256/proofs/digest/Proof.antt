@@ -29,9 +29,9 @@ last-requires c κs = search needs
 returns : tie.Need-returns
 unfolding H0
 returns c =
-    let s = c .before .before .before .before .args .message .now in
+    let s = c .before .before .before .before .before .args .message .now in
     let n : length s ≡ length s % 2 ^ 64 = omega arith in
-    c .last .ensures s (record { state = c .before .before .compress-all .ensures; bytes = rest-of s; count = n })
+    c .last .ensures s (record { compressed = c .before .before .compress-all .ensures; waiting = rest-of s; counted = n })
 
 pub digest-spec : {M : Type 1} → statement M
 digest-spec =

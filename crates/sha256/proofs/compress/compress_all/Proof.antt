@@ -1,18 +1,18 @@
-use borrow.Author.Needs.{needs}
 use mathlib.Core.Path.{_≡_, refl}
 use Prim.Native.Nat.{_-_, _/_, _%_, _≤_}
 use native.Mathlib.Omega.{arith}
 use lib.ListN.{length}
 use Rattle.sha256.specs.Sha256.{hashValue}
 use Rattle.sha256.proofs.HashLaws.{hash-more}
+use borrow.Author.Needs.{needs}
 use Rattle.sha256.proofs.compress.compress_all.Statement.{statement}
 use Rattle.sha256.proofs.compress.compress_all.Tie as tie
 
 abbrev Inv-loop : tie.InvT-loop
-Inv-loop s g₀ i₀ g i = (i ≤ length s) × (i % 64 ≡ 0) × (g ≡ hashValue g₀ (i / 64) s)
+Inv-loop H₀ s from₀ H from = (from ≤ length s) × (from % 64 ≡ 0) × (H ≡ hashValue H₀ (from / 64) s)
 
 abbrev μ-loop : tie.MeasureT-loop
-μ-loop s g₀ i₀ g i = length s - i
+μ-loop H₀ s from₀ H from = length s - from
 
 loop-holds : tie.Need-loop-holds Inv-loop μ-loop
 unfolding hashValue
@@ -41,15 +41,15 @@ loop-less c = search needs
 
 loop-again : tie.Need-loop-again Inv-loop μ-loop
 loop-again c =
-    let l = c .before .before .before .loop in
-    let a = c .before .before .before .before .before .args in
-    (search needs, omega (arith, l .inv), hash-more (a .h) (a .s .now) (l .i) (l .inv .1) (l .inv .2) (c .compress .ensures))
+    let l = c .before .before .before .before .loop in
+    let a = c .before .before .before .before .before .before .args in
+    (search needs, omega (arith, l .inv), hash-more (a .H .now) (a .s .now) (l .from) (l .inv .1) (l .inv .2) (c .compress .ensures))
 
 returns : tie.Need-returns Inv-loop μ-loop
 returns c =
     let l = c .before .loop in
     let s = c .before .before .before .args .s .now in
-    let e : l .i / 64 ≡ length s / 64 = omega arith in
+    let e : l .from / 64 ≡ length s / 64 = omega arith in
     rw e at (l .inv .2)
 
 pub compress-all-spec : {M : Type 1} → statement M

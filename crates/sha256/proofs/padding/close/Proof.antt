@@ -1,5 +1,6 @@
-use mathlib.Core.Path.{_≡_}
+use mathlib.Core.Path.{_≡_, ap, _∙_}
 use lib.ListN.{length}
+use Rattle.sha256.specs.Sha256.{compress, concatenated}
 use Rattle.sha256.proofs.PaddingLaws.{closed}
 use borrow.Author.Needs.{needs}
 use Rattle.sha256.proofs.padding.close.Statement.{statement}
@@ -28,10 +29,11 @@ concatenated-requires c κs = search needs
 
 returns : tie.Need-returns
 returns c =
-    let a = c .before .before .before .before .before .before .before .before .args in
+    let a = c .before .before .before .before .before .before .before .before .before .args in
     let l : length (a .block) ≡ 64 = search needs in
-    let d = c .before .before .before .before .before .before .before .be64 in
-    cc (closed (a .block) (d .result) (a .total) l (d .ensures))
+    let d = c .before .before .before .before .before .before .before .before .be64 in
+    c .concatenated .ensures
+    ∙ ap concatenated (c .before .compress .ensures ∙ ap (compress (a .before)) (c .before .before .before .before .before .copy .ensures ∙ closed (a .block) (d .result) (a .total) l (d .ensures)))
 
 pub close-spec : {M : Type 1} → statement M
 close-spec =
