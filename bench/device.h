@@ -26,6 +26,19 @@ static inline void undo_update(device_memory *d, const messages *m) {
     memcpy(d->flash + at, m->image + at, m->block_length);
 }
 
+/* A whole download, from a fresh device on. */
+static inline void take_download(device_memory *d, const messages *m) {
+    lertxuno_fresh(MODEL, m->key.key, d->state);
+    take(d, &m->program);
+    take_blocks(d, m);
+}
+
+/* An update of either kind, again and again: the one before is undone first. */
+static inline void take_update_again(device_memory *d, const messages *m, const message *update) {
+    undo_update(d, m);
+    take(d, update);
+}
+
 /* The verdict alone on a message that has one: its manifest stands behind the kind, its signature at the end. */
 static inline void judge(const messages *m, const message *carrier) {
     accepted(lertxuno_verify(m->key.key, sizeof m->key.key, carrier->bytes + 1, LERTXUNO_MANIFEST_LENGTH,

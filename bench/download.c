@@ -10,15 +10,11 @@ static messages made;
 static device_memory device;
 
 static void download(const void *with) {
-    lertxuno_fresh(MODEL, made.key.key, device.state);
-    take(&device, with);
-    take_blocks(&device, &made);
+    (void)with;
+    take_download(&device, &made);
 }
 
-static void update(const void *with) {
-    undo_update(&device, &made);
-    take(&device, with);
-}
+static void update(const void *with) { take_update_again(&device, &made, with); }
 
 static void verdict(const void *with) { judge(&made, with); }
 

@@ -28,14 +28,9 @@ static void read_length(void) { accepted(lertxuno_block_message_length(device.st
 
 static void take_all_blocks(void) { take_blocks(&device, &made); }
 
-static void take_either(const message *update) {
-    undo_update(&device, &made);
-    take(&device, update);
-}
+static void take_update(void) { take_update_again(&device, &made, &made.update); }
 
-static void take_update(void) { take_either(&made.update); }
-
-static void take_path_update(void) { take_either(&made.path_update); }
+static void take_path_update(void) { take_update_again(&device, &made, &made.path_update); }
 
 static void send_manifest(void) {
     accepted(lertxuno_manifest(made.image, made.length, BLOCK_LENGTH, MODEL, OLD_SERIAL, out, sizeof out, &written));
