@@ -1,14 +1,19 @@
 -- What an update makes of a context: m is the message before it, s the piece.
 use mathlib.Core.Path.{_≡_, refl, sym, ap, _∙_, subst}
-use mathlib.Core.List.{List, [], _++_, append-assoc, append-nil}
+use mathlib.Core.List.{List, [], _++_, map, append-assoc, append-nil}
 use Prim.Native.Nat.{ℕ, _+_, _*_, _-_, _/_, _%_, _^_, _≤_, _<_}
 use native.Mathlib.Omega.{arith}
-use lib.ListN.{length, take, drop, length-append, length-drop, drop-of-length-le, take-append-drop}
+use lib.ListN.{length, take, drop, length-append, length-drop, length-map, drop-of-length-le, take-append-drop}
 use lib.Seq.{paste, take-at, take-length, take-paste, length-take-le, drop-drop}
 use Rattle.octets.proofs.CopyLaws.{part-from, paste-end, paste-front}
 use Rattle.sha256.specs.Sha256.{hashValue, compress}
 use Rattle.sha256.specs.Context.{Pending}
+use Rattle.sha256.specs.declared.context.Context.{Context}
 use Rattle.sha256.proofs.HashLaws.{hash-one, length-rest, grown}
+
+-- the buffer has its length by its type
+pub buffer-length : (c : Context) → length (map (λ (v : ℕ). v) (c .buffer)) ≡ 64 → length (c .buffer) ≡ 64
+buffer-length c e = sym (length-map (c .buffer) (λ (v : ℕ). v)) ∙ e
 
 -- a context's fields: H, the buffer B and the length n
 module _ {H : List ℕ} (B : List ℕ) {n : ℕ} {m : List ℕ} (l : length B ≡ 64) (p : Pending H (take (n % 64) B) n m) (s : List ℕ) where
@@ -72,9 +77,3 @@ continued {H} B n m s k e {H′} {n′} h f p g o =
     (take-at x (drop (length x) B) (length x) refl ∙ part-from s e ∙ ap (λ (j : ℕ). drop j s) i ∙ sym (drop-drop (64 * (length z / 64)) k s)) in
     subst (Pending H′ (take (n′ % 64) (paste B 0 x (length x))) n′) (append-assoc m (take k s) z ∙ ap (λ (y : List ℕ). m ++ y) (take-append-drop k s))
     (grown p z (g ∙ ap (λ (y : List ℕ). hashValue H (length y / 64) y) (part-from s k)) r (o ∙ total n k (length s) (length z) h a))
-
--- what follows the whole blocks of s, as the code cuts it out
-pub rest-of : (s : List ℕ) → take (length s - length s / 64 * 64) (drop (length s / 64 * 64) s) ≡ drop (64 * (length s / 64)) s
-rest-of s =
-    let e : length s / 64 * 64 ≡ 64 * (length s / 64) = omega arith in
-    part-from s (length s / 64 * 64) ∙ ap (λ (k : ℕ). drop k s) e

@@ -6,6 +6,7 @@ use native.Mathlib.Nat.{mul-suc, mul-add}
 use native.Mathlib.Omega.{arith}
 use lib.ListN.{length, take, drop, length-append, length-drop}
 use lib.Seq.{take-all, take-append-le, drop-append-le, drop-drop}
+use Rattle.octets.proofs.CopyLaws.{part-from}
 use Rattle.sha256.specs.Sha256.{hashValue, block, compress, H0, digest, concatenated, pad, padding}
 use Rattle.sha256.specs.Context.{Pending}
 
@@ -78,3 +79,9 @@ hash-more H s i z e f =
     let b : i + 64 - i ≡ 64 = omega arith in
     let d : 64 * (i / 64) ≡ i = omega arith in
     rw a (f ∙ ap₂ compress e (ap (λ (k : ℕ). take k (drop i s)) b ∙ ap (λ (k : ℕ). take 64 (drop k s)) (sym d)))
+
+-- what follows the whole blocks of s, as the code cuts it out
+pub rest-of : (s : List ℕ) → take (length s - length s / 64 * 64) (drop (length s / 64 * 64) s) ≡ drop (64 * (length s / 64)) s
+rest-of s =
+    let e : length s / 64 * 64 ≡ 64 * (length s / 64) = omega arith in
+    part-from s (length s / 64 * 64) ∙ ap (λ (k : ℕ). drop k s) e

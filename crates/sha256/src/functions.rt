@@ -11,7 +11,6 @@ pub fn add(x: u32, y: u32) -> u32
     std::num::wrapping_add_u32(x, y)
 }
 
-// x rotated right by n bits.
 fn ROTR(n: u32, x: u32) -> u32
     requires { ⌜ (0 < n) × (n < 32) ⌝ }
     ensures { λ r. ⌜ r ≡ spec.ROTR n x ⌝ }
@@ -19,7 +18,6 @@ fn ROTR(n: u32, x: u32) -> u32
     (x >> n) | (x << (32 - n))
 }
 
-// x shifted right by n bits.
 fn SHR(n: u32, x: u32) -> u32
     requires { ⌜ n < 32 ⌝ }
     ensures { λ r. ⌜ r ≡ spec.SHR n x ⌝ }

@@ -3,7 +3,7 @@ use Prim.Native.Nat.{_%_, _^_}
 use native.Mathlib.Omega.{arith}
 use lib.ListN.{length}
 use Rattle.sha256.specs.Sha256.{H0}
-use Rattle.sha256.proofs.ContextLaws.{rest-of}
+use Rattle.sha256.proofs.HashLaws.{rest-of}
 use borrow.Author.Needs.{needs}
 use Rattle.sha256.proofs.digest.Statement.{statement}
 use Rattle.sha256.proofs.digest.Tie as tie

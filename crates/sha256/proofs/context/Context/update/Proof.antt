@@ -3,18 +3,18 @@ use mathlib.Core.List.{List, [], _++_}
 use mathlib.Core.Logic.{⊎-elim}
 use Prim.Native.Nat.{ℕ, _+_, _-_, _%_, _^_, _≤_}
 use native.Mathlib.Omega.{arith}
-use lib.ListN.{length, take, length-map}
+use lib.ListN.{length, take}
 use lib.Seq.{length-take-le}
 use Rattle.sha256.specs.Sha256.{compress}
 use Rattle.sha256.specs.Context.{Pending, Absorbed}
 use Rattle.sha256.specs.declared.context.Context.{Context}
-use Rattle.sha256.proofs.ContextLaws.{stored, completed, none-waits, length-from, continued}
+use Rattle.sha256.proofs.ContextLaws.{buffer-length, stored, completed, none-waits, length-from, continued}
 use borrow.Author.Needs.{needs}
 use Rattle.sha256.proofs.context.Context.update.Statement.{statement}
 use Rattle.sha256.proofs.context.Context.update.Tie as tie
 
-buffer-length : (c : tie.Start) → length (c .args .t1 .buffer) ≡ 64
-buffer-length c = sym (length-map (c .args .t1 .buffer) (λ (v : ℕ). v)) ∙ c .good .0 .1 .1 .1 .0 .1 .0 .1
+full : (c : tie.Start) → length (c .args .t1 .buffer) ≡ 64
+full c = buffer-length (c .args .t1) (c .good .0 .1 .1 .1 .0 .1 .0 .1)
 
 -- the part of the piece that completes the block
 part-length : (c : tie.Else1) → length (take (64 - c .before .before .before .args .t1 .length % 64) (c .before .before .before .args .piece .now)) ≡ 64 - c .before .before .before .args .t1 .length % 64
@@ -27,7 +27,7 @@ started c m p =
     let a = c .before .before .before .before .args in
     ⊎-elim
     (λ w. rw (w .10)
-    (completed (a .t1 .buffer) (buffer-length (c .before .before .before .before)) p (take (64 - a .t1 .length % 64) (a .piece .now)) (64 - a .t1 .length % 64) (part-length (c .before)) (omega arith)
+    (completed (a .t1 .buffer) (full (c .before .before .before .before)) p (take (64 - a .t1 .length % 64) (a .piece .now)) (64 - a .t1 .length % 64) (part-length (c .before)) (omega arith)
     (ap (λ (x : Context). x .H) (w .9) ∙ w .8 .ensures ∙ ap (compress (a .t1 .H)) (w .4 .ensures))))
     (λ w. rw (w .2, ap (λ (x : Context). x .H) (w .1)) (none-waits (a .t1 .buffer) (omega (arith, w .0 .left)) p))
     (c .if2 .came)
@@ -38,7 +38,7 @@ within c = ⊎-elim (λ w. omega (arith, w .10, c .before .if1 .left)) (λ w. om
 kept-length : (c : tie.Joined2) → length (c .if2 .self .buffer) ≡ 64
 kept-length c =
     ⊎-elim (λ w. ap (λ (x : Context). length (x .buffer)) (w .9)) (λ w. ap (λ (x : Context). length (x .buffer)) (w .1)) (c .if2 .came)
-    ∙ buffer-length (c .before .before .before .before)
+    ∙ full (c .before .before .before .before)
 
 same-length : (c : tie.Joined2) → c .if2 .self .length ≡ c .before .before .wrapping-add-u64 .result
 same-length c = ⊎-elim (λ w. ap (λ (x : Context). x .length) (w .9)) (λ w. ap (λ (x : Context). x .length) (w .1)) (c .if2 .came)
@@ -50,12 +50,12 @@ wrapping-add-u64-requires : tie.Need-wrapping-add-u64-requires
 wrapping-add-u64-requires c κs = search needs
 
 fill-requires : tie.Need-fill-requires
-fill-requires c κs = omega (arith, buffer-length (c .before .before .before .before), c .before .if1 .taken)
+fill-requires c κs = omega (arith, full (c .before .before .before .before), c .before .if1 .taken)
 
 returns : tie.Need-returns
 returns c =
     let a = c .before .before .before .before .before .args in
-    λ m p. rw (c .fill .ensures) (stored (a .t1 .buffer) (buffer-length (c .before .before .before .before .before)) p (a .piece .now) (omega (arith, c .before .before .if1 .taken)) (c .before .before .before .wrapping-add-u64 .ensures))
+    λ m p. rw (c .fill .ensures) (stored (a .t1 .buffer) (full (c .before .before .before .before .before)) p (a .piece .now) (omega (arith, c .before .before .if1 .taken)) (c .before .before .before .wrapping-add-u64 .ensures))
 
 slice-aggregate-copy : tie.Need-slice-aggregate-copy
 slice-aggregate-copy c = search needs
@@ -64,7 +64,7 @@ slice-aggregate-copy-2 : tie.Need-slice-aggregate-copy-2
 slice-aggregate-copy-2 c = sym (part-length (c .before .before .before .before))
 
 copy-requires : tie.Need-copy-requires
-copy-requires c κs = omega (arith, part-length (c .before .before .before .before), buffer-length (c .before .before .before .before .before .before .before))
+copy-requires c κs = omega (arith, part-length (c .before .before .before .before), full (c .before .before .before .before .before .before .before))
 
 slice-aggregate-compress : tie.Need-slice-aggregate-compress
 slice-aggregate-compress c = search needs
