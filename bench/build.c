@@ -25,7 +25,7 @@ static void verdict(const void *with) { judge_sample(with); }
 
 static void download(const void *with) {
     (void)with;
-    take_download(&device, &made);
+    take_download(&device, &made, made.n);
 }
 
 static void update(const void *message) { take_update_again(&device, &made, message); }
@@ -45,7 +45,7 @@ static void blocks(const void *with) {
 
 static void load(size_t length, uint32_t block_length) {
     make_messages(length, block_length, &made);
-    take_download(&device, &made);
+    take_download(&device, &made, made.n);
 }
 
 static const size_t one = 1, sixteen = 16, short_length = 55, block_length = 64, long_length = sizeof input;

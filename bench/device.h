@@ -14,10 +14,13 @@ static inline void take(device_memory *d, const message *m) {
     accepted(lertxuno_receive(d->state, sizeof d->state, d->flash, sizeof d->flash, m->bytes, m->length));
 }
 
-static inline void take_blocks(device_memory *d, const messages *m) {
-    for (uint32_t i = 0; i < m->n; i++)
+/* The first so many blocks. */
+static inline void take_blocks(device_memory *d, const messages *m, uint32_t count) {
+    for (uint32_t i = 0; i < count; i++)
         take(d, &m->blocks[i]);
 }
+
+static inline void check_boot(const device_memory *d) { accepted(lertxuno_intact(d->state, sizeof d->state, d->flash, sizeof d->flash)); }
 
 /* Puts back what an update replaced: the program's manifest, and the old block. */
 static inline void undo_update(device_memory *d, const messages *m) {
@@ -26,11 +29,11 @@ static inline void undo_update(device_memory *d, const messages *m) {
     memcpy(d->flash + at, m->image + at, m->block_length);
 }
 
-/* A whole download, from a fresh device on. */
-static inline void take_download(device_memory *d, const messages *m) {
+/* A download, from a fresh device on, up to so many blocks. */
+static inline void take_download(device_memory *d, const messages *m, uint32_t count) {
     lertxuno_fresh(MODEL, m->key.key, d->state);
     take(d, &m->program);
-    take_blocks(d, m);
+    take_blocks(d, m, count);
 }
 
 /* An update of either kind, again and again: the one before is undone first. */

@@ -26,7 +26,11 @@ static void read_status(void) { accepted(lertxuno_status(device.state, sizeof de
 
 static void read_length(void) { accepted(lertxuno_block_message_length(device.state, sizeof device.state, &written)); }
 
-static void take_all_blocks(void) { take_blocks(&device, &made); }
+static void take_most_blocks(void) { take_blocks(&device, &made, made.n - 1); }
+
+static void take_last_block(void) { take(&device, &made.blocks[made.n - 1]); }
+
+static void check(void) { check_boot(&device); }
 
 static void take_update(void) { take_update_again(&device, &made, &made.update); }
 
@@ -88,7 +92,9 @@ int main(void) {
     measure("device, program", take_program);
     measure("device, status", read_status);
     measure("device, block_message_length", read_length);
-    measure("device, all blocks", take_all_blocks);
+    measure("device, all blocks but the last", take_most_blocks);
+    measure("device, last block", take_last_block);
+    measure("device, intact", check);
     measure("device, update", take_update);
     measure("device, path update", take_path_update);
     measure("sender, manifest", send_manifest);

@@ -1,5 +1,5 @@
 /* A download and an update, both sides in one program: the sender has its program from a text, makes a bundle of all messages, and the device takes it block
- * by block, then a new last one.
+ * by block, then a new last one. Before the last block of the download somebody swaps the board (19), and after it a byte changes: the boot check tells.
  *
  *     rt staticlib capi
  *     gcc -Wall -Wextra -Werror -Iinclude -o target/download examples/download.c target/staticlib/libcapi.a
@@ -100,6 +100,28 @@ static void take_block(uint32_t i) {
     expect("device, the same again", receive(i), (uint32_t)(i + 1 < BLOCKS ? LERTXUNO_TURN : LERTXUNO_STAGE));
 }
 
+/* What firmware asks at each start, before it runs the program. */
+static uint32_t check(void) { return lertxuno_intact(state, sizeof state, flash, IMAGE_LENGTH); }
+
+/* The board was swapped while the last block was on its way: the other blocks are not there, and the program does not become complete. With the board put back
+ * it goes on. */
+static void swap_board(void) {
+    uint8_t board[IMAGE_LENGTH];
+    memcpy(board, flash, sizeof board);
+    memset(flash, 0xFF, sizeof board);
+    expect("device, another board", receive(BLOCKS - 1), LERTXUNO_ALTERED);
+    memcpy(flash, board, sizeof board);
+}
+
+/* A byte of the program is not what it was: the device is complete still, and the boot check finds it. */
+static void touch_board(void) {
+    expect("device, boot check", check(), LERTXUNO_ACCEPTED);
+    flash[0] ^= 1;
+    expect("device, a byte altered", check(), LERTXUNO_ALTERED);
+    flash[0] ^= 1;
+    expect("device, and put back", check(), LERTXUNO_ACCEPTED);
+}
+
 /* The image's last byte changes, and so its last block. The device reads that block of its flash, and no other. */
 static void update(void) {
     uint8_t message[LERTXUNO_MAX_PATH_UPDATE_LENGTH];
@@ -108,7 +130,7 @@ static void update(void) {
     expect("sender, path update", lertxuno_path_update(image, sizeof image, BLOCK_LENGTH, MODEL, SERIAL + 1, BLOCKS, sample_update_signature,
                                                        sizeof sample_update_signature, message, sizeof message, &length), LERTXUNO_ACCEPTED);
     expect("device, path update", take(message, length), LERTXUNO_ACCEPTED);
-    /* The same as kind 3, for which a device reads its whole flash. This one has that serial already, and does not come so far. */
+    /* The same as kind 3, for which a device reads its whole flash, twice. This one has that serial already, and does not come so far. */
     expect("sender, update", lertxuno_update(image, sizeof image, BLOCK_LENGTH, MODEL, SERIAL + 1, BLOCKS, sample_update_signature,
                                              sizeof sample_update_signature, message, sizeof message, &length), LERTXUNO_ACCEPTED);
     expect("device, the same again", take(message, length), LERTXUNO_SERIAL);
@@ -122,9 +144,14 @@ int main(void) {
     lertxuno_fresh(MODEL, sample_key, state);
     report(LERTXUNO_IDLE, 0);
     expect("device, program", receive(BLOCKS), LERTXUNO_ACCEPTED);
-    for (uint32_t i = 0; i < BLOCKS; i++)
+    expect("device, boot check", check(), LERTXUNO_STAGE);
+    for (uint32_t i = 0; i < BLOCKS; i++) {
+        if (i + 1 == BLOCKS)
+            swap_board();
         take_block(i);
+    }
     report(LERTXUNO_COMPLETE, 0);
+    touch_board();
     update();
     if (memcmp(flash, image, sizeof image) != 0 || memcmp(flash + IMAGE_LENGTH, heights, sizeof heights) != 0)
         return 1;

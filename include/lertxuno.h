@@ -7,12 +7,13 @@
  * The caller's part: a pointer is not null, also where its length is 0; it has as many bytes as its length, or its array type, says; and memory that a
  * function writes (out, written, line, length, state, flash) overlaps no other argument. What firmware must do around the calls is in docs/INTEGRATION.md.
  *
- * The library is for x86-64 Linux. Stack of a call there, at most about: 7 KB for lertxuno_receive, 5.5 KB for the sender's functions, 4.5 KB for
- * lertxuno_ihex, 2 KB for lertxuno_verify, 1.1 KB for lertxuno_digest, 100 bytes for the others. The time of lertxuno_ihex grows with its text, which it
- * reads twice. Otherwise time goes into SHA-256 compressions, one for each 64 bytes hashed: a signature's verdict takes about
- * 4,400 (signature type 4, height 5) or 600 (type 3, height 10), at the device a block takes those of its bytes and two for each hash that it carries, a path
- * update those of two blocks and four for each hash, an update those of the whole image; the sender's functions take those of the whole image,
- * lertxuno_path_update twice as many, and lertxuno_block those of the part that its hashes stand for. Measured stack, code and time: README.
+ * The library is for x86-64 Linux. Stack of a call there, at most about: 7 KB for lertxuno_receive, 5.5 KB for lertxuno_intact and the sender's functions,
+ * 4.5 KB for lertxuno_ihex, 2 KB for lertxuno_verify, 1.1 KB for lertxuno_digest, 100 bytes for the others. The time of lertxuno_ihex grows with its text,
+ * which it reads twice. Otherwise time goes into SHA-256 compressions, one for each 64 bytes hashed: a signature's verdict takes about
+ * 4,400 (signature type 4, height 5) or 600 (type 3, height 10), at the device a block takes those of its bytes and two for each hash that it carries, the
+ * last one those of the whole image besides, a path update those of two blocks and four for each hash, an update those of the whole image twice; the boot
+ * check (lertxuno_intact) and the sender's functions take those of the whole image, lertxuno_path_update twice as many, and lertxuno_block those of the part
+ * that its hashes stand for. Measured stack, code and time: README.
  *
  * Words: a program is an image, cut into blocks, and its manifest, which is signed. Numbers are big-endian.
  */
@@ -37,7 +38,7 @@ enum lertxuno_refusal {
     LERTXUNO_SERIAL = 7,    /* the manifest's serial is not above the device's */
     LERTXUNO_AREA = 8,      /* flash or output buffer too short */
     LERTXUNO_UNSIGNED = 9,  /* the signature is not valid */
-    LERTXUNO_STAGE = 10,    /* a block and not loading, or an update of either kind and not complete */
+    LERTXUNO_STAGE = 10,    /* a block or its length and not loading; an update of either kind or lertxuno_intact and not complete */
     LERTXUNO_TURN = 11,     /* not the next block; for updates and sender: no block of the image */
     LERTXUNO_LENGTH = 12,   /* block: not the length due; update: shorter than its block and hashes need. A longer update is one with a longer signature: 9 */
     LERTXUNO_UNLIKE = 13,   /* the update's block length or image length differs from the complete one's */
@@ -45,7 +46,8 @@ enum lertxuno_refusal {
     LERTXUNO_PATH = 15,     /* path update: the old block with the message's hashes does not lead to the root held */
     LERTXUNO_TEXT = 16,     /* Intel HEX: a broken line, or no end record */
     LERTXUNO_PLACE = 17,    /* Intel HEX: a byte outside the image */
-    LERTXUNO_TWICE = 18     /* Intel HEX: a byte named a second time */
+    LERTXUNO_TWICE = 18,    /* Intel HEX: a byte named a second time */
+    LERTXUNO_ALTERED = 19   /* update of kind 3, last block (with it in place), lertxuno_intact: the tree over the flash lacks the root held before the call */
 };
 
 /* An answer's word, for logs: "accepted" for 0, and "unknown" for a number that no function returns. */
@@ -70,12 +72,14 @@ static inline const char *lertxuno_refusal_word(uint32_t answer) {
     case LERTXUNO_TEXT: return "text";
     case LERTXUNO_PLACE: return "place";
     case LERTXUNO_TWICE: return "twice";
+    case LERTXUNO_ALTERED: return "altered";
     default: return "unknown";
     }
 }
 
-/* Order of the device's refusals, the first that applies: always 1, 2, 3; then new program 4, 5, 6, 7, 8, 9; block 10, 8, 11, 12, 14; update 10, 4, 5, 6, 7,
- * 13, 8, 11, 12, 9, 14; path update the same, with 15 before 14. The sender's: 5, 11, 8. The Intel HEX reader's: 5, 8, then line by line 16, 17, 18. */
+/* Order of the device's refusals, the first that applies: always 1, 2, 3; then new program 4, 5, 6, 7, 8, 9; block 10, 8, 11, 12, 14, and the last block
+ * then 19; update 10, 4, 5, 6, 7, 13, 8, 19, 11, 12, 9, 14; path update 10, 4, 5, 6, 7, 13, 8, 11, 12, 9, 15, 14. The boot check's: 1, 10, 8, 19. The
+ * sender's: 5, 11, 8. The Intel HEX reader's: 5, 8, then line by line 16, 17, 18. */
 
 /* Sizes. A block has 64, 128, 256, 512 or 1,024 bytes, but for an image's last one, which ends with the image. The flash must have as many bytes as the
  * image; what it has beyond them is the caller's. */
@@ -183,7 +187,7 @@ void lertxuno_fresh(uint32_t model, const uint8_t key[LERTXUNO_KEY_LENGTH], uint
 /* Hands a whole message to the device. Accepted: state and flash are those after it. Refused: both are as before. Bytes that encode no state (another
  * length, another stage than 0, 1, 2) are refused with LERTXUNO_STATE. Of the flash no byte from the manifest's image length on is ever written, the
  * manifest being that of the state after the call. Writes are plain stores: memory that needs programming commands needs a copy in RAM, programmed from that
- * after the call. */
+ * after the call; what is judged is then that copy (docs/INTEGRATION.md, 'One message'). */
 uint32_t lertxuno_receive(uint8_t *state, size_t state_length, uint8_t *flash, size_t flash_length, const uint8_t *message, size_t message_length);
 
 /* What a state holds, as numbers, by their place in the array that lertxuno_status writes. */
@@ -204,6 +208,11 @@ uint32_t lertxuno_status(const uint8_t *state, size_t state_length, uint32_t out
 /* Writes to *length how many bytes the next block message has. LERTXUNO_STATE as above, LERTXUNO_STAGE where the device is not loading; *length is then as
  * before. */
 uint32_t lertxuno_block_message_length(const uint8_t *state, size_t state_length, size_t *length);
+
+/* The boot check: 0 where the device is complete and the tree over its flash has the root of its manifest, whoever wrote the flash. Else the first that
+ * applies of LERTXUNO_STATE as above, LERTXUNO_STAGE where the device is not complete, LERTXUNO_AREA where the flash is shorter than the image, and
+ * LERTXUNO_ALTERED. State and flash are only read. What 0 proves, and when to call this: docs/INTEGRATION.md. */
+uint32_t lertxuno_intact(const uint8_t *state, size_t state_length, const uint8_t *flash, size_t flash_length);
 
 #ifdef __cplusplus
 }

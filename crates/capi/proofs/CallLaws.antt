@@ -13,17 +13,19 @@ use Rattle.sha256.specs.Sha256.{digest}
 use Rattle.lms.specs.Lms.{valid}
 use Rattle.machine.specs.declared.state.Stage.{Stage}
 use Rattle.machine.specs.declared.state.Device.{Device}
+use Rattle.machine.specs.declared.state.Answer.{Answer}
 use Rattle.machine.specs.declared.state.Answer.the-variants.{Accepted, Refused}
 use Rattle.wire.specs.declared.refusal.Refusal.{Refusal}
 use Rattle.machine.specs.Device.{Outcome}
 use Rattle.machine.specs.Readers.{numberOf}
 use Rattle.machine.specs.Step.{step}
+use Rattle.machine.specs.BootCheck.{bootCheck}
 use Rattle.capi.specs.declared.state.Found.{Found}
 use Rattle.capi.specs.declared.state.Found.the-variants.{At, Nothing}
 use Rattle.capi.specs.Found.{found}
 use Rattle.capi.specs.State.{stateLength, encode, stageIn, deviceIn}
 use Rattle.capi.proofs.StateLaws.{decode-none, decode-some, decode-encode}
-use Rattle.capi.specs.Call.{stateAfter, called, receive}
+use Rattle.capi.specs.Call.{stateAfter, called, receive, intact}
 use Rattle.capi.specs.Claims.{IsStep}
 
 pub found-none : (o : Option Stage) → found o ≡ Nothing → o ≡ none
@@ -49,6 +51,17 @@ found-length b e = eqb-true _ _ (chosen (eqb (length b) stateLength) _ e)
 module _ (b : List ℕ) {f : Found} (e : f ≡ found (stageIn b)) where
   pub length-found : {t : Stage} → f ≡ At t → length b ≡ stateLength
   length-found g = found-length b (found-some (stageIn b) (sym e ∙ g))
+
+  -- the boot check
+  module _ (flash : List ℕ) where
+    pub none-intact : f ≡ Nothing → 1 ≡ intact b flash
+    unfolding intact
+    none-intact g = rw (decode-none b (found-none (stageIn b) (sym e ∙ g)), intact)
+
+    pub checked : {t : Stage} {d : Device} {a : Answer} {n : ℕ} → f ≡ At t → d ≡ deviceIn b t → a ≡ bootCheck digest d flash → n ≡ numberOf a → n ≡ intact b flash
+    unfolding intact
+    checked g de ae ne =
+        rw (decode-some b (found-some (stageIn b) (sym e ∙ g)), intact) (ne ∙ ap numberOf (ae ∙ ap (λ (x : Device). bootCheck digest x flash) de))
 
   module _ (flash m : List ℕ) where
     pub unknown : f ≡ Nothing → receive b flash m ≡ record { answer = 1; state = b; flash = flash }

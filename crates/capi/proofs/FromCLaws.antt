@@ -1,22 +1,31 @@
--- From a fresh state and a list of calls to the whole of demand 3.
+-- From a fresh state and a list of calls to the whole of demand 3; and what the boot check's 0 proves of any bytes and memory.
 use mathlib.Core.Path.{_≡_, refl, ap, _∙_}
 use mathlib.Core.Logic.{_↔_}
+use mathlib.Core.List.{List}
+use mathlib.Core.Option.{Option, none, some}
 use Prim.Native.Nat.{ℕ}
 use native.Mathlib.Omega.{arith}
 use Rattle.wire.proofs.RefusalLaws.{above-zero}
 use Rattle.sha256.specs.Sha256.{digest}
+use Rattle.sha256.proofs.DigestLaws.{length-digest}
 use Rattle.lms.specs.Lms.{valid}
+use Rattle.machine.specs.declared.state.Device.{Device}
 use Rattle.machine.specs.declared.state.Answer.{Answer}
 use Rattle.machine.specs.declared.state.Answer.the-variants.{Accepted, Refused}
 use Rattle.machine.specs.Device.{freshWith}
 use Rattle.machine.specs.Readers.{numberOf}
 use Rattle.machine.specs.Step.{step}
+use Rattle.machine.specs.BootCheck.{bootCheck}
 use Rattle.machine.proofs.FreshLaws.{fresh-is}
 use Rattle.guarantee.specs.Run.{after}
+use Rattle.guarantee.specs.Altered.{Booted}
+use Rattle.guarantee.proofs.AlteredHolds.{boot-proves}
 use Rattle.guarantee.proofs.Demand3Holds.{demand3}
 use Rattle.guarantee.proofs.RecoveryHolds.{makes-sense}
 use Rattle.capi.specs.State.{decode}
+use Rattle.capi.specs.Call.{intact}
 use Rattle.capi.specs.Run.{Memory}
+use Rattle.capi.specs.Claims.{IntactProves}
 use Rattle.capi.specs.FromC.{FromC}
 use Rattle.capi.proofs.StateLaws.{decode-encode}
 use Rattle.capi.proofs.StatusLaws.{sensible-decoded, status-is, length-is}
@@ -25,6 +34,19 @@ use Rattle.capi.proofs.RunLaws.{fresh-fits, runs}
 zero-accepted : (a : Answer) {n : ℕ} → n ≡ numberOf a → (n ≡ 0) ↔ (a ≡ Accepted)
 zero-accepted Accepted e = (λ z. refl, λ z. e)
 zero-accepted (Refused r) e = (λ z. absurd (omega (arith, above-zero r)), λ z. cc)
+
+-- the boot check of bytes that encode a device
+intact-decoded : (b : List ℕ) {d : Device} → decode b ≡ some d → (lent : List ℕ) → intact b lent ≡ numberOf (bootCheck digest d lent)
+unfolding intact
+intact-decoded b e lent = rw (e, intact)
+
+pub intact-proves : IntactProves
+unfolding intact
+intact-proves state flash z = go (decode state) refl
+  where
+    go : (o : Option Device) → decode state ≡ o → (d : Device) × (decode state ≡ some d) × Booted digest d flash
+    go none e = absurd (let n : _≡_ {A = ℕ} 1 0 = rw (e, intact) at z in omega arith)
+    go (some d) e = (d, e, boot-proves digest length-digest d flash (zero-accepted (bootCheck digest d flash) refl .0 (rw (e, intact) at z)))
 
 pub from-c : FromC
 from-c model key small long flash ms bytes =
@@ -37,6 +59,7 @@ from-c model key small long flash ms bytes =
       state = back;
       reads = λ out. status-is _ out read refl;
       due = λ before. length-is _ before read;
+      boot = λ lent. intact-decoded _ back lent;
       zero = λ m. zero-accepted _ (r .answers m);
       claim = demand3 d (fresh-is model key) flash ms;
     }

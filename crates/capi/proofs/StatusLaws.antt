@@ -6,14 +6,12 @@ use mathlib.Core.Option.{Option, none, some}
 use Prim.Native.Nat.{ℕ}
 use native.Mathlib.Omega.{arith}
 use lib.ListN.{length}
-use Rattle.wire.specs.Size.{wrongSize}
 use Rattle.wire.specs.Message.{dueLength}
-use Rattle.wire.proofs.SizeLaws.{or-false}
 use Rattle.machine.specs.declared.state.Stage.{Stage}
 use Rattle.machine.specs.declared.state.Stage.the-variants.{Idle, Loading, Complete}
 use Rattle.machine.specs.declared.state.Device.{Device}
 use Rattle.machine.specs.Device.{nextOf}
-use Rattle.machine.specs.Refusals.{wrongVersion, senseless, notLoading}
+use Rattle.machine.specs.Refusals.{senseless, notLoading}
 use Rattle.machine.proofs.RefusalLaws.{Awaits, awaits}
 use Rattle.capi.specs.declared.state.Found.{Found}
 use Rattle.capi.specs.declared.state.Found.the-variants.{At, Nothing}
@@ -23,15 +21,10 @@ use Rattle.capi.specs.Status.{sensible, statusOf, status, dueOf, blockMe
 use Rattle.capi.proofs.StateLaws.{decode-none, decode-some}
 use Rattle.capi.proofs.CallLaws.{found-some, found-length}
 
--- What refusal 1 leaves of a device that is not idle.
-module _ (d : Device) (sense : senseless d ≡ false) where
-  pub loading : {i : ℕ} → d .stage ≡ Loading i → Awaits d i
-  unfolding notLoading nextOf
-  loading e = awaits d sense (rw e) (rw e)
-
-  pub complete : d .stage ≡ Complete → wrongSize (d .manifest .«block_len») (d .manifest .«image_len») ≡ false
-  unfolding senseless
-  complete e = or-false (wrongVersion (d .manifest)) _ (rw e at sense) .1
+-- what refusal 1 leaves of a device that is loading
+pub loading : (d : Device) → senseless d ≡ false → {i : ℕ} → d .stage ≡ Loading i → Awaits d i
+unfolding notLoading nextOf
+loading d sense e = awaits d sense (rw e) (rw e)
 
 module _ (b : List ℕ) where
   pub sensible-decoded : {d : Device} → decode b ≡ some d → senseless d ≡ false → sensible b ≡ some d

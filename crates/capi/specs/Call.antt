@@ -17,6 +17,7 @@ use Rattle.machine.specs.declared.state.Answer.the-variants.{Accepted, Refused}
 use Rattle.machine.specs.Readers.{numberOf}
 use Rattle.machine.specs.Device as device
 use Rattle.machine.specs.Step.{step}
+use Rattle.machine.specs.BootCheck.{bootCheck}
 use Rattle.capi.specs.State.{encode, decode}
 
 -- a verdict: 0 where the signature is valid, else 9
@@ -68,3 +69,7 @@ receive state flash m =
       | none ↦ record { answer = refusalNumber refusal.State; state = state; flash = flash }
       | some d ↦ called (step digest valid d flash m) state
     ]
+
+-- the boot check: its answer as a number; 1 too for bytes that encode no state
+unfoldable pub intact : (state flash : List ℕ) → ℕ
+intact state flash = elim (decode state) [ none ↦ refusalNumber refusal.State | some d ↦ numberOf (bootCheck digest d flash) ]

@@ -13,8 +13,9 @@ use Rattle.machine.specs.Device.{freshWith, nextOf}
 use Rattle.machine.specs.Readers.{numberOf}
 use Rattle.machine.specs.Step.{step}
 use Rattle.guarantee.specs.Run.{Messages, after, answerTo}
+use Rattle.guarantee.specs.Altered.{Booted}
 use Rattle.capi.specs.State.{encode, decode}
-use Rattle.capi.specs.Call.{called, receive}
+use Rattle.capi.specs.Call.{called, receive, intact}
 use Rattle.capi.specs.Run.{callsAfter, returned, AllBytes}
 
 -- A state's fields fit their bytes: that of a fresh device, and every one that messages of bytes lead to from there.
@@ -35,6 +36,10 @@ GivesBack = (d : Device) → Fits d → decode (encode d) ≡ some d
 -- A call on a state's bytes is the device's step.
 abbrev pub IsStep : Type 0
 IsStep = (d : Device) (flash m : List ℕ) → Fits d → receive (encode d) flash m ≡ called (step digest valid d flash m) (encode d)
+
+-- What 0 of the boot check proves of bytes and memory, whoever wrote them.
+abbrev pub IntactProves : Type 0
+IntactProves = (state flash : List ℕ) → intact state flash ≡ 0 → (d : Device) × (decode state ≡ some d) × Booted digest d flash
 
 -- A caller that keeps state and flash from call to call runs the device that demand 3 speaks of: after a list of messages the bytes are those of that device and
 -- its flash, and the number that one call more returns is that of its answer.

@@ -10,10 +10,13 @@ use Rattle.lms.specs.Lms.{keyLength, valid}
 use Rattle.machine.specs.declared.state.Device.{Device}
 use Rattle.machine.specs.declared.state.Answer.the-variants.{Accepted}
 use Rattle.machine.specs.Device.{freshWith}
+use Rattle.machine.specs.Readers.{numberOf}
 use Rattle.machine.specs.Step.{step}
+use Rattle.machine.specs.BootCheck.{bootCheck}
 use Rattle.guarantee.specs.Run.{Messages, after, answerTo}
 use Rattle.guarantee.specs.Demand3.{Claim}
 use Rattle.capi.specs.State.{encode, decode}
+use Rattle.capi.specs.Call.{intact}
 use Rattle.capi.specs.Status.{statusOf, status, dueOf, blockMessageLength}
 use Rattle.capi.specs.Run.{callsAfter, returned, AllBytes}
 use Rattle.capi.specs.Claims.{Runs}
@@ -38,6 +41,8 @@ module _ (model : ℕ) (key flash : List ℕ) (ms : Messages) where
     -- neither reader refuses them 1: lertxuno_status gives the device's numbers, lertxuno_block_message_length what is due, if a block is
     pub reads : (out : List ℕ) → status kept out ≡ record { answer = 0; out = statusOf device }
     pub due : (before : ℕ) → blockMessageLength kept before ≡ dueOf before device
+    -- over any memory lent as flash lertxuno_intact gives the number of this device's boot check
+    pub boot : (lent : List ℕ) → intact kept lent ≡ numberOf (bootCheck digest device lent)
     -- 0 is returned exactly where the device accepts
     pub zero : (m : List ℕ) → (returned (encode fresh) flash ms m ≡ 0) ↔ (answerTo (step digest valid) fresh flash ms m ≡ Accepted)
     -- of this device and flash demand 3 holds, whole

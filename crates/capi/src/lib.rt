@@ -17,7 +17,7 @@ ghost use Rattle.sender.specs.Job.{inBlocks, job};
 ghost use Rattle.sender.specs.Send.{Does, sendManifest, sendProgram, sendBlock, sendUpdate, sendPath};
 ghost use Rattle.machine.specs.Device.{freshWith};
 ghost use Rattle.capi.specs.State.{encode};
-ghost use Rattle.capi.specs.Call.{verdict, told, readText, receive};
+ghost use Rattle.capi.specs.Call.{verdict, told, readText, receive, intact};
 ghost use Rattle.capi.specs.Status.{status, blockMessageLength};
 
 // SHA-256 of the message.
@@ -192,6 +192,18 @@ pub extern "C" fn lertxuno_receive(state: &mut [u8], flash: &mut [u8], message: 
     let bytes = state::to_bytes(reply.device);
     octets::copy(state, 0, &bytes);
     0
+}
+
+// The boot check.
+#[no_mangle]
+pub extern "C" fn lertxuno_intact(state: &[u8], flash: &[u8]) -> u32
+    ensures { λ r. ⌜ r ≡ intact (now (state .entry)) (now (flash .entry)) ⌝ }
+{
+    let Found::At(stage) = state::stage_in(state) else {
+        return 1;
+    };
+    let answer = device::boot_check(state::device_in(state, stage), flash);
+    wide(device::answer_number(answer))
 }
 
 // What the state holds, as numbers.

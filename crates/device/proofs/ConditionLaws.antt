@@ -9,7 +9,7 @@ use native.Mathlib.Omega.{arith}
 use lib.Dec.{ltb, leb}
 use lib.ListN.{length, take, length-map}
 use lib.Seq.{length-take-le}
-use borrow.Author.Tests.{eqb-true, not-false, ltb-false, lt-ltb, le-ltb, le-leb, lt-leb}
+use borrow.Author.Tests.{eqb-true, eq-eqb, ne-eqb, not-false, ltb-false, lt-ltb, le-ltb, le-leb, lt-leb}
 use Rattle.octets.specs.Octets.{equal}
 use Rattle.merkle.specs.Limits.{hashLength, heldBytes}
 use Rattle.merkle.specs.Blocks.{cut, overlay}
@@ -27,7 +27,8 @@ use Rattle.wire.proofs.SizeLaws.{sized}
 use Rattle.wire.proofs.GeometryLaws.{block-end, with-blocks}
 use Rattle.wire.proofs.MessageLaws.{Due}
 use Rattle.machine.specs.declared.state.Device.{Device}
-use Rattle.machine.specs.Refusals.{tooSmall, wrongLength, mismatch, lacksRoot}
+use Rattle.machine.specs.Flash.{stored}
+use Rattle.machine.specs.Refusals.{tooSmall, wrongLength, mismatch, lacksRoot, lastAltered}
 use Rattle.machine.proofs.RefusalLaws.{Awaits}
 use Rattle.machine.proofs.HeldLaws.{mismatch-is}
 
@@ -62,7 +63,7 @@ module _ (s : Manifest) (flash : List ℕ) where
   room zero fits low high = absurd (omega arith)
   room (suc i) fits low high = let z : suc i - 1 ≡ i = omega arith in rw z (block-end s i flash high fits)
 
-  -- 14 of an update: the tree over flash and block together is the tree over the flash with the block written
+  -- 14 of an update and 19 of a block: the tree over flash and block together is the tree over the flash with the block written
   pub lacks-is : (H : List ℕ → List ℕ) (x : List ℕ) (i n : ℕ) (root : List ℕ) (t : Bool) → tooSmall s flash ≡ false → 0 < i → i ≤ countOf s → n ≡ countOf s
       → length x ≡ blockLength (s .«block_len») (s .«image_len») i → root ≡ rootOver (plain H) (overlay (cut (s .«block_len») (take (s .«image_len») flash)) (i - 1) x) n → t ≡ equal root (s .root)
       → not t ≡ lacksRoot H s (withBlock (s .«block_len») flash i x)
@@ -85,6 +86,17 @@ unfolding countOf
 rest-long s i n k m r pos en ek er d =
     let z : i - 1 + 1 ≡ i = omega arith in
     ap length (er ∙ ap (λ (x : ℕ). hashesAfter x m) ek) ∙ d .rest ∙ rw (z, en)
+
+-- 19 of a block, as the code tests it: not the last, and the last
+module _ (H : List ℕ → List ℕ) (s : Manifest) (i n : ℕ) (flash m : List ℕ) (en : n ≡ countOf s) where
+  pub not-last : (i ≡ n → ⊥) → false ≡ lastAltered H s i flash m
+  unfolding lastAltered
+  not-last apart = rw (ne-eqb i (countOf s) (λ e. apart (e ∙ sym en)))
+
+  pub at-last : (k : ℕ) (b : List ℕ) (t : Bool) → i ≡ n → k ≡ blockLength (s .«block_len») (s .«image_len») i → b ≡ blockIn k m
+      → t ≡ lacksRoot H s (withBlock (s .«block_len») flash i b) → t ≡ lastAltered H s i flash m
+  unfolding lastAltered stored
+  at-last k b t e ek eb et = rw (eq-eqb i (countOf s) (e ∙ en), et, eb, ek)
 
 -- 14 while loading, as the code tests it
 pub mismatch-found : (H : List ℕ → List ℕ) (d : Device) (i n k : ℕ) (m b r : List ℕ) (t : Bool) → Awaits d i → n ≡ countOf (d .manifest)

@@ -2,6 +2,7 @@
 use mathlib.Core.Path.{_≡_, refl, sym, ap, _∙_}
 use mathlib.Core.Bool.{Bool, true, false, cond}
 use mathlib.Core.List.{List, [], _∷_, _++_}
+use mathlib.Core.Option.{none}
 use Prim.Native.Nat.{ℕ}
 use native.Mathlib.Omega.{arith}
 use lib.Dec.{eqb}
@@ -13,15 +14,14 @@ use Rattle.wire.specs.declared.manifest.Manifest.{Manifest}
 use Rattle.wire.specs.declared.refusal.Refusal.{Refusal}
 use Rattle.wire.specs.declared.refusal.Refusal.the-variants as refusal
 use Rattle.wire.specs.Refusal.{refusalNumber, firstThatApplies}
-use Rattle.wire.specs.Size.{wrongSize, outside}
-use Rattle.wire.specs.Geometry.{countOf}
+use Rattle.wire.specs.Size.{wrongSize}
 use Rattle.wire.specs.Message.{short}
 use Rattle.machine.specs.declared.state.Device.{Device}
 use Rattle.machine.specs.declared.state.Answer.{Answer}
 use Rattle.machine.specs.declared.state.Answer.the-variants.{Accepted, Refused}
 use Rattle.machine.specs.Refusals.{noKind, tooSmall, ofManifest, ofSuccessor}
 use Rattle.machine.specs.Step.{answerOf}
-use Rattle.machine.proofs.RefusalLaws.{testOf, clear, answer-none, answer-some, Passes, behind-piece, in-piece}
+use Rattle.machine.proofs.RefusalLaws.{testOf, clear, answer-none, answer-some, Passes, behind-piece, in-piece, alike-lengths}
 
 -- the tests behind that of a refusal
 unfoldable pub behind : Refusal → List (Refusal × Bool) → List (Refusal × Bool)
@@ -52,20 +52,24 @@ refused-in {r = r} fs rest p e = onward p (sym (ap answerOf (in-piece fs rest (a
 pub past-all : {es : List (Refusal × Bool)} (fs rest : List (Refusal × Bool)) → Passes es (fs ++ rest) → Accepted ≡ answerOf (firstThatApplies fs) → Passes es rest
 past-all fs rest p e = record { same = p .same ∙ behind-piece fs rest (answer-none (firstThatApplies fs) (sym e)) }
 
--- A manifest that passed its tests has an allowed size.
-pub size-passed : (d : Device) (s : Manifest) {a : Answer} → a ≡ answerOf (firstThatApplies (ofManifest d s)) → a ≡ Accepted → wrongSize (s .«block_len») (s .«image_len») ≡ false
-unfolding ofManifest testOf
-size-passed d s e q = clear refusal.Size (ofManifest d s) (answer-none (firstThatApplies (ofManifest d s)) (sym e ∙ q))
+-- An update that passed its first tests has a manifest of an allowed size, and room; and so has the manifest held, with the same lengths.
+abbrev pub Known : Manifest → List ℕ → Type 0
+Known s f = (wrongSize (s .«block_len») (s .«image_len») ≡ false) × (tooSmall s f ≡ false)
 
--- So has an update's that passed its first tests, and it has room and a number within.
-abbrev pub Known : Manifest → List ℕ → ℕ → Type 0
-Known s f i = (wrongSize (s .«block_len») (s .«image_len») ≡ false) × (tooSmall s f ≡ false) × (outside (countOf s) i ≡ false)
+module _ (d : Device) (f : List ℕ) (s : Manifest) {a : Answer} (e : a ≡ answerOf (firstThatApplies (ofSuccessor d f s))) (q : a ≡ Accepted) where
+  none-applies : firstThatApplies (ofSuccessor d f s) ≡ none
+  none-applies = answer-none (firstThatApplies (ofSuccessor d f s)) (sym e ∙ q)
 
-pub successor-known : (d : Device) (f : List ℕ) (s : Manifest) (i : ℕ) {a : Answer} → a ≡ answerOf (firstThatApplies (ofSuccessor d f s i)) → a ≡ Accepted → Known s f i
-unfolding ofSuccessor ofManifest testOf
-successor-known d f s i e q =
-    let a = answer-none (firstThatApplies (ofSuccessor d f s i)) (sym e ∙ q) in
-    (clear refusal.Size (ofSuccessor d f s i) a, clear refusal.Area (ofSuccessor d f s i) a, clear refusal.Turn (ofSuccessor d f s i) a)
+  pub successor-known : Known s f
+  unfolding ofSuccessor ofManifest testOf
+  successor-known = (clear refusal.Size (ofSuccessor d f s) none-applies, clear refusal.Area (ofSuccessor d f s) none-applies)
+
+  pub held-known : Known (d .manifest) f
+  unfolding ofSuccessor ofManifest testOf tooSmall
+  held-known =
+      let z = alike-lengths s (d .manifest) (clear refusal.Unlike (ofSuccessor d f s) none-applies) in
+      let k = successor-known in
+      (rw (z .0, z .1) at (k .0), rw (z .1) at (k .1))
 
 -- Every message is long enough for an unknown kind.
 pub known-short : (k : Kind) (m : List ℕ) → short k m ≡ true → noKind k ≡ false

@@ -178,6 +178,14 @@ pub fn wrong_length(manifest: Manifest, next: u16, message: &[u8]) -> bool
         )
 }
 
+// 11, kinds 3 and 4.
+pub fn outside(manifest: Manifest, number: u16) -> bool
+    requires { ⌜ wrongSize (manifest .«block_len») (manifest .«image_len») ≡ false ⌝ }
+    ensures { λ r. ⌜ r ≡ size.outside (countOf manifest) number ⌝ }
+{
+    wire::outside(count(manifest), number as usize)
+}
+
 // 12, kind 3.
 pub fn cut_update(manifest: Manifest, number: u16, message: &[u8]) -> bool
     requires { ⌜ (wrongSize (manifest .«block_len») (manifest .«image_len») ≡ false) × (size.outside (countOf manifest) number ≡ false) ⌝ }
@@ -231,8 +239,19 @@ pub fn mismatch(device: Device, next: u16, message: &[u8]) -> bool
     )
 }
 
-// 14, kind 3: the tree over the flash with the new block lacks the new root. The flash is only read.
-pub fn lacks_root(manifest: Manifest, flash: &[u8], number: u16, block: &[u8]) -> bool
+// 19 of kind 3 and of the boot check, for the manifest held: the tree over the flash as handed in lacks its root.
+pub fn lacks_root(manifest: Manifest, flash: &[u8]) -> bool
+    requires { ⌜ (wrongSize (manifest .«block_len») (manifest .«image_len») ≡ false) × (tooSmall manifest (now flash) ≡ false) ⌝ }
+    ensures { λ r. ⌜ r ≡ spec.lacksRoot digest manifest (now (flash .entry)) ⌝ }
+{
+    let root = manifest.root;
+    let end = manifest.image_len as usize;
+    let tree = merkle::root(&flash[..end], manifest.block_len as usize, count(manifest));
+    !octets::equal(&tree, &root)
+}
+
+// 14 of kind 3, for the new manifest, and 19 of kind 2: the tree over the flash with the block in place lacks its root. The flash is only read.
+pub fn lacks_root_with(manifest: Manifest, flash: &[u8], number: u16, block: &[u8]) -> bool
     requires { ⌜ (wrongSize (manifest .«block_len») (manifest .«image_len») ≡ false) × (tooSmall manifest (now flash) ≡ false) × (size.outside (countOf manifest) number ≡ false) × (length (now block) ≡ blockLength (manifest .«block_len») (manifest .«image_len») number) ⌝ }
     ensures { λ r. ⌜ r ≡ spec.lacksRoot digest manifest (withBlock (manifest .«block_len») (now (flash .entry)) number (now (block .entry))) ⌝ }
 {
@@ -246,6 +265,18 @@ pub fn lacks_root(manifest: Manifest, flash: &[u8], number: u16, block: &[u8]) -
         block,
     );
     !octets::equal(&found, &root)
+}
+
+// 19, kind 2: this is the last block, and the tree over the flash with it in place lacks the root of the manifest held.
+pub fn last_altered(manifest: Manifest, next: u16, flash: &[u8], message: &[u8]) -> bool
+    requires { ⌜ (wrongSize (manifest .«block_len») (manifest .«image_len») ≡ false) × (tooSmall manifest (now flash) ≡ false) × (0 < next) × (next ≤ countOf manifest) × (wrongLength manifest next (now message) ≡ false) ⌝ }
+    ensures { λ r. ⌜ r ≡ spec.lastAltered digest manifest next (now (flash .entry)) (now (message .entry)) ⌝ }
+{
+    if next as usize != count(manifest) {
+        return false;
+    }
+    let len = own_len(manifest, next);
+    lacks_root_with(manifest, flash, next, wire::block_in(message, len))
 }
 
 // The depth of a block's leaf: so many siblings has a path update.

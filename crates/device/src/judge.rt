@@ -1,9 +1,10 @@
 // The first refusal that applies, if any: the tests of each kind in the papers' order. Nothing is written here. What the
 // functions require their callers meet, which all stand here.
-use crate::conditions::count;
 use crate::conditions::cut_path;
 use crate::conditions::cut_update;
 use crate::conditions::lacks_root;
+use crate::conditions::lacks_root_with;
+use crate::conditions::last_altered;
 use crate::conditions::leaf_depth;
 use crate::conditions::mismatch;
 use crate::conditions::next_of;
@@ -13,6 +14,7 @@ use crate::conditions::not_newer;
 use crate::conditions::not_next;
 use crate::conditions::old_block;
 use crate::conditions::other_model;
+use crate::conditions::outside;
 use crate::conditions::own_len;
 use crate::conditions::senseless;
 use crate::conditions::strays;
@@ -102,7 +104,7 @@ fn judge_program(device: Device, flash: &[u8], message: &[u8]) -> Answer
     Answer::Accepted
 }
 
-// Kind 2: 10, 8, 11, 12, 14.
+// Kind 2: 10, 8, 11, 12, 14, 19. The last block's message walks the whole tree; a damaged one does not come so far.
 fn judge_block(device: Device, flash: &[u8], message: &[u8]) -> Answer
     requires { ⌜ (spec.senseless device ≡ false) × (leastLength kinds.Block ≤ length (now message)) ⌝ }
     ensures { λ r. ⌜ r ≡ answerOf (firstThatApplies (ofBlock digest device (now (flash .entry)) (now (message .entry)) (nextOf (device .stage)))) ⌝ }
@@ -125,12 +127,15 @@ fn judge_block(device: Device, flash: &[u8], message: &[u8]) -> Answer
     if mismatch(device, next, message) {
         return Answer::Refused(Refusal::Mismatch);
     }
+    if last_altered(manifest, next, flash, message) {
+        return Answer::Refused(Refusal::Altered);
+    }
     Answer::Accepted
 }
 
-// An update of either kind: 10, 4, 5, 6, 7, 13, 8, 11.
-fn judge_successor(device: Device, flash: &[u8], manifest: Manifest, number: u16) -> Answer
-    ensures { λ r. ⌜ r ≡ answerOf (firstThatApplies (ofSuccessor device (now (flash .entry)) manifest number)) ⌝ }
+// An update of either kind: 10, 4, 5, 6, 7, 13, 8.
+fn judge_successor(device: Device, flash: &[u8], manifest: Manifest) -> Answer
+    ensures { λ r. ⌜ r ≡ answerOf (firstThatApplies (ofSuccessor device (now (flash .entry)) manifest)) ⌝ }
 {
     let stage = device.stage;
     if not_complete(stage) {
@@ -147,23 +152,27 @@ fn judge_successor(device: Device, flash: &[u8], manifest: Manifest, number: u16
     if too_small(manifest, flash) {
         return Answer::Refused(Refusal::Area);
     }
-    if wire::outside(count(manifest), number as usize) {
-        return Answer::Refused(Refusal::Turn);
-    }
     Answer::Accepted
 }
 
-// Kind 3: these, then 12, 9, 14.
+// Kind 3: those of `judge_successor`, then 19, 11, 12, 9, 14.
 fn judge_update(device: Device, flash: &[u8], message: &[u8]) -> Answer
     requires { ⌜ leastLength kinds.Update ≤ length (now message) ⌝ }
     ensures { λ r. ⌜ r ≡ answerOf (firstThatApplies (ofUpdate digest valid device (now (flash .entry)) (now (message .entry)) (manifestIn (now (message .entry))) (updateNumber (now (message .entry))))) ⌝ }
 {
     let manifest = wire::manifest_in(message);
     let number = wire::update_number(message);
-    let first = judge_successor(device, flash, manifest, number);
+    let first = judge_successor(device, flash, manifest);
     let Answer::Accepted = first else {
         return first;
     };
+    let held = device.manifest;
+    if lacks_root(held, flash) {
+        return Answer::Refused(Refusal::Altered);
+    }
+    if outside(manifest, number) {
+        return Answer::Refused(Refusal::Turn);
+    }
     if cut_update(manifest, number, message) {
         return Answer::Refused(Refusal::Length);
     }
@@ -175,23 +184,26 @@ fn judge_update(device: Device, flash: &[u8], message: &[u8]) -> Answer
     ) {
         return Answer::Refused(Refusal::Unsigned);
     }
-    if lacks_root(manifest, flash, number, wire::update_block(message, len)) {
+    if lacks_root_with(manifest, flash, number, wire::update_block(message, len)) {
         return Answer::Refused(Refusal::Mismatch);
     }
     Answer::Accepted
 }
 
-// Kind 4: the same, then 12, 9, 15, 14.
+// Kind 4: those of `judge_successor`, then 11, 12, 9, 15, 14; no 19.
 fn judge_path_update(device: Device, flash: &[u8], message: &[u8]) -> Answer
     requires { ⌜ leastLength kinds.PathUpdate ≤ length (now message) ⌝ }
     ensures { λ r. ⌜ r ≡ answerOf (firstThatApplies (ofPathUpdate digest valid device (now (flash .entry)) (now (message .entry)) (manifestIn (now (message .entry))) (updateNumber (now (message .entry))))) ⌝ }
 {
     let manifest = wire::manifest_in(message);
     let number = wire::update_number(message);
-    let first = judge_successor(device, flash, manifest, number);
+    let first = judge_successor(device, flash, manifest);
     let Answer::Accepted = first else {
         return first;
     };
+    if outside(manifest, number) {
+        return Answer::Refused(Refusal::Turn);
+    }
     if cut_path(manifest, number, message) {
         return Answer::Refused(Refusal::Length);
     }

@@ -1,9 +1,11 @@
-// The device (01: drive): a fresh one, and what it answers to a message.
+// The device (01: drive): a fresh one, what it answers to a message, and the boot check.
 mod accept;
+mod boot;
 mod conditions;
 mod judge;
 mod readers;
 
+pub use boot::boot_check;
 pub use conditions::next_of;
 pub use conditions::senseless;
 use machine::Answer;

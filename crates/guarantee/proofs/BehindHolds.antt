@@ -1,5 +1,5 @@
 -- No message reads or writes what stands behind the program.
-use mathlib.Core.Path.{_≡_, refl, subst}
+use mathlib.Core.Path.{_≡_, refl, ap, subst}
 use mathlib.Core.Bool.{Bool, cond}
 use mathlib.Core.List.{List}
 use mathlib.Core.Option.{Option, none, some}
@@ -9,16 +9,20 @@ use Rattle.wire.specs.declared.kind.Kind.{Kind}
 use Rattle.wire.specs.declared.kind.Kind.the-variants.{Program, Block, Update, PathUpdate, Unknown}
 use Rattle.wire.specs.declared.manifest.Manifest.{Manifest}
 use Rattle.wire.specs.declared.refusal.Refusal.{Refusal}
+use Rattle.wire.specs.declared.refusal.Refusal.the-variants as refusal
+use Rattle.wire.specs.Refusal.{firstThatApplies}
 use Rattle.wire.specs.Geometry.{blocksOf, treeOver}
 use Rattle.wire.specs.Message.{kind, carries, manifestIn}
 use Rattle.wire.proofs.GeometryLaws.{with-run}
 use Rattle.machine.specs.declared.state.Device.{Device}
 use Rattle.machine.specs.Device.{nextOf, Outcome}
 use Rattle.machine.specs.Flash.{stored, updated}
-use Rattle.machine.specs.Refusals.{tooSmall, lacksRoot, ofProgram, ofBlock, ofSuccessor, ofUpdate, ofPathUpdate, ofKind, refusals}
+use Rattle.machine.specs.Refusals.{tooSmall, lacksRoot, lastAltered, always, ofManifest, ofProgram, ofBlock, ofSuccessor, ofUpdate, ofPathUpdate, ofKind, refusals}
 use Rattle.machine.specs.Step.{acceptProgram, acceptBlock, acceptUpdate, accept, outcome, refusalOf, step}
-use Rattle.machine.proofs.RefusalLaws.{passed}
+use Rattle.machine.proofs.RefusalLaws.{testOf, clear, alike-lengths, passed}
 use Rattle.guarantee.specs.Behind.{goesBy, BehindUnread}
+use Rattle.machine.proofs.TestLaws.{same-behind}
+use Rattle.guarantee.proofs.RunLaws.{goes-by}
 use Rattle.guarantee.proofs.BeyondLaws.{kept}
 
 -- the image's length that a message of this kind goes by
@@ -27,20 +31,12 @@ by d m k = cond (carries k) (manifestIn m) (d .manifest) .«image_len»
 
 -- what stands behind stays
 module _ (H : List ℕ → List ℕ) (valid : (key message signature : List ℕ) → Bool) (d : Device) (flash m : List ℕ) where
-  held-by : (k : Kind) → accept k d flash m .device .manifest .«image_len» ≡ by d m k
-  unfolding carries accept acceptProgram acceptBlock acceptUpdate
-  held-by Program = refl
-  held-by Block = refl
-  held-by Update = refl
-  held-by PathUpdate = refl
-  held-by Unknown = refl
-
   stays : drop (by d m (kind m)) (step H valid d flash m .flash) ≡ drop (by d m (kind m)) flash
   unfolding step outcome
   stays = go (refusalOf H valid d flash m) refl
     where
       go : (r : Option Refusal) → refusalOf H valid d flash m ≡ r → drop (by d m (kind m)) (outcome r d flash (accept (kind m) d flash m) .flash) ≡ drop (by d m (kind m)) flash
-      go none e = subst (λ T. drop T (accept (kind m) d flash m .flash) ≡ drop T flash) (held-by (kind m)) (kept H valid d flash m (passed H valid d flash m e))
+      go none e = subst (λ T. drop T (accept (kind m) d flash m .flash) ≡ drop T flash) (ap (λ (s : Manifest). s .«image_len») (goes-by d flash m (kind m))) (kept H valid d flash m (passed H valid d flash m e))
       go (some r) e = refl
 
 module _ (H : List ℕ → List ℕ) (valid : (key message signature : List ℕ) → Bool) (d : Device) (f g m : List ℕ) (long : length f ≡ length g) where
@@ -57,12 +53,19 @@ module _ (H : List ℕ → List ℕ) (valid : (key message signature : List ℕ)
   unfolding updated
   updated-same s same = with-run (s .«block_len») (s .«image_len») _ f g _ long same
 
+  -- 19 of an update reads as many bytes as the manifest held has: where 13 does not apply, its own manifest has as many
+  held-same : firstThatApplies (ofSuccessor d g (manifestIn m)) ≡ none → Same Update → take (d .manifest .«image_len») f ≡ take (d .manifest .«image_len») g
+  unfolding carries ofManifest ofSuccessor testOf
+  held-same e same = rw (alike-lengths (manifestIn m) (d .manifest) (clear refusal.Unlike _ e) .1) at same
+
   -- the refusal, and what acceptance does
   refused : (k : Kind) → kind m ≡ k → Same k → refusalOf H valid d f m ≡ refusalOf H valid d g m
-  unfolding carries refusalOf refusals ofKind ofProgram ofBlock ofSuccessor ofUpdate ofPathUpdate tooSmall lacksRoot treeOver blocksOf
+  unfolding carries refusalOf refusals ofKind ofProgram ofBlock ofSuccessor ofUpdate ofPathUpdate tooSmall lacksRoot lastAltered treeOver blocksOf
   refused Program e same = rw (e, long)
-  refused Block e same = rw (e, long)
-  refused Update e same = rw (e, long, updated-same (manifestIn m) same)
+  refused Block e same = rw (e, long, stored-same (d .manifest) (nextOf (d .stage)) same)
+  refused Update e same =
+      rw (e, long)
+      (same-behind (always Update d m) _ _ (λ _. same-behind (ofSuccessor d g (manifestIn m)) _ _ (λ a. rw (held-same a same, updated-same (manifestIn m) same))))
   refused PathUpdate e same = rw (e, long, same)
   refused Unknown e same = rw e
 

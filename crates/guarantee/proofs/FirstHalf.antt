@@ -38,7 +38,7 @@ use Rattle.guarantee.proofs.RunLaws.{now, taken, refusalAt, answered, e
 
 module _ (H : List ℕ → List ℕ) (hash-long : (x : List ℕ) → length (H x) ≡ hashLength) where
   -- an image of the program's length with its root is the start of the flash, or there is a collision
-  bound-image : (s : Manifest) (f x : List ℕ) → Sized (s .«block_len») (s .«image_len») → treeOver H s f ≡ s .root → length x ≡ s .«image_len» → treeOver H s x ≡ s .root
+  pub bound-image : (s : Manifest) (f x : List ℕ) → Sized (s .«block_len») (s .«image_len») → treeOver H s f ≡ s .root → length x ≡ s .«image_len» → treeOver H s x ≡ s .root
       → (x ≡ take (s .«image_len») f) ⊎ Collision (plain H) (blocksOf s x) (blocksOf s f) 0 (shape (countOf s))
   unfolding treeOver blocksOf countOf
   bound-image s f x z rooted lx e = go (binding (plain H) hash-long (cut L (take T x)) (cut L (take T f)) 0 (shape n) (e ∙ sym rooted))
@@ -111,7 +111,7 @@ module _ (H : List ℕ → List ℕ) (hash-long : (x : List ℕ) → length (H x
   after-path ms m e q (inl c) = record { before = ms; message = m; path = q; taken = answered H valid d flash ms m ∙ ap answerOf e; since = here; clash = c }
   after-path ms m e q (inr w) = still-misled H valid (step H valid) d flash ms m (λ t c. q) w
 
-  invariant : Fresh d → (ms : Messages)
+  pub invariant : Fresh d → (ms : Messages)
       → Invariant H valid (d .key) (length flash) (now H valid d flash ms .device) (now H valid d flash ms .flash) (taken H valid d flash ms) (Misleads ms)
   unfolding lastProgram lastCarrier answerOf
   invariant fresh ms =

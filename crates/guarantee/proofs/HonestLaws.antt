@@ -10,10 +10,10 @@ use native.Mathlib.Omega.{arith}
 use lib.Dec.{eqb, eqb·suc-zero}
 use lib.ListN.{length, take, drop, length-append, length-drop}
 use lib.Seq.{take-all}
-use borrow.Author.Tests.{lt-ltb, le-ltb, eq-eqb}
+use borrow.Author.Tests.{lt-ltb, le-ltb, eq-eqb, ne-eqb}
 use Rattle.merkle.specs.Limits.{hashLength, heldBytes}
 use Rattle.merkle.specs.Shape.{shape, depth}
-use Rattle.merkle.specs.Hash.{plain, hashes}
+use Rattle.merkle.specs.Hash.{plain, hashes, rootOver}
 use Rattle.merkle.specs.Frontier.{frontier, heldCount}
 use Rattle.merkle.specs.Held.{heldIn, begun, advanced, fits}
 use Rattle.merkle.proofs.ShapeLaws.{lt-or-le}
@@ -27,23 +27,28 @@ use Rattle.wire.specs.declared.kind.Kind.the-variants.{Program, Block}
 use Rattle.wire.specs.declared.manifest.Manifest.{Manifest}
 use Rattle.wire.specs.Size.{outside}
 use Rattle.wire.specs.Manifest.{written}
-use Rattle.wire.specs.Geometry.{countOf, blockLength, withBlock}
+use Rattle.wire.specs.Geometry.{countOf, blockLength, withBlock, treeOver}
 use Rattle.wire.specs.Message.{leastLength, short, manifestBytes, manifestIn, numberIn, blockIn, hashesAfter, dueLength, atStart}
-use Rattle.wire.proofs.GeometryLaws.{more-blocks}
+use Rattle.wire.proofs.GeometryLaws.{more-blocks, start-blocks}
 use Rattle.sender.specs.Job.{Job, count, blocks, rootOf, manifestFor, blockFor}
 use Rattle.machine.specs.declared.state.Stage.the-variants.{Loading, Complete}
 use Rattle.machine.specs.declared.state.Device.{Device}
 use Rattle.machine.specs.Device.{nextOf, heldBy, Situation}
 use Rattle.machine.specs.Flash.{stored}
-use Rattle.machine.specs.Refusals.{wrongVersion, senseless, tooSmall, notLoading, notNext, wrongLength}
+use Rattle.machine.specs.Refusals.{wrongVersion, senseless, tooSmall, notLoading, notNext, wrongLength, lastAltered}
 use Rattle.machine.specs.Step.{acceptProgram, stageAfter, acceptBlock, accept, refusalOf}
 use Rattle.guarantee.specs.Demand3.{Sendable}
-use Rattle.machine.proofs.RefusalLaws.{ProgramPassed, NextDue, due-unrefused}
+use Rattle.machine.proofs.RefusalLaws.{ProgramPassed, NextDue, lacks-none, due-unrefused}
 use Rattle.machine.proofs.HeldLaws.{mismatch-is}
 use Rattle.guarantee.proofs.SentLaws.{count-some, count-most, job-enough, root-long, manifest-is, Sent, block-sent}
 
 both-false : (s t : Bool) → s ≡ false → t ≡ false → s || t ≡ false
 both-false s t a b = rw (a, b)
+
+-- a flash that begins with the job's image has the root of its manifest
+pub image-rooted : (H : List ℕ → List ℕ) (job : Job) (old : List ℕ) → treeOver H (manifestFor H job) (atStart (job .image .bytes) old) ≡ manifestFor H job .root
+unfolding treeOver manifestFor rootOf blocks countOf count
+image-rooted H job old = ap (λ f. rootOver (plain H) f (count (job .image))) (start-blocks (manifestFor H job) (job .image .bytes) old refl)
 
 -- a device that loads the job, at block j + 1
 loadingAt : (List ℕ → List ℕ) → Job → ℕ → List ℕ → ℕ → List ℕ → Device
@@ -75,9 +80,10 @@ module _ (H : List ℕ → List ℕ) (hash-long : (x : List ℕ) → length (H x
     matches : fits (plain H) (count (job .image)) j array (blockIn size (blockFor H (job .image) (suc j))) (hashesAfter size (blockFor H (job .image) (suc j))) ≡ true
     matches = rw (is-sent .block, is-sent .after) (run .accepted)
 
-    is-due : (model : ℕ) (key f : List ℕ) → length (job .image .bytes) ≤ length f → NextDue H valid (loadingAt H job model key j array) f (blockFor H (job .image) (suc j))
+    is-due : (model : ℕ) (key f : List ℕ) → length (job .image .bytes) ≤ length f → lastAltered H (manifestFor H job) (suc j) f (blockFor H (job .image) (suc j)) ≡ false
+        → NextDue H valid (loadingAt H job model key j array) f (blockFor H (job .image) (suc j))
     unfolding senseless short notLoading tooSmall nextOf notNext wrongLength wrongVersion outside countOf count loadingAt manifestFor dueLength
-    is-due model key f room =
+    is-due model key f room whole =
         let m : List ℕ = blockFor H (job .image) (suc j) in
         record {
           is = is-sent .is;
@@ -88,7 +94,12 @@ module _ (H : List ℕ → List ℕ) (hash-long : (x : List ℕ) → length (H x
           turn = ap not (eq-eqb (numberIn m) (suc j) (is-sent .number));
           size = ap not (eq-eqb (length m) _ (is-sent .size));
           same = mismatch-is H (loadingAt H job model key j array) j refl below m ∙ ap not matches;
+          whole = whole;
         }
+
+  -- all n blocks are the image
+  all-taken : (j : ℕ) → j ≡ count (job .image) → take (j * job .image .«block_len») (job .image .bytes) ≡ job .image .bytes
+  all-taken j e = take-all (j * job .image .«block_len») (job .image .bytes) (rw e (job-enough H hash-long job ok))
 
   module _ (old : List ℕ) (j : ℕ) (s : Situation) (w : Here old j s) where
     room-now : length (job .image .bytes) ≤ length (s .flash)
@@ -102,14 +113,6 @@ module _ (H : List ℕ → List ℕ) (hash-long : (x : List ℕ) → length (H x
         let t : s .device .stage ≡ Loading (suc j) = w .stage ∙ rw (lt-ltb j (count (job .image)) h) in
         λ i. record { model = s .device .model; key = s .device .key; stage = t i; manifest = w .manifest i; hashes = s .device .hashes }
 
-    next-due : j < count (job .image) → NextDue H valid (s .device) (s .flash) (blockFor H (job .image) (suc j))
-    next-due h =
-        subst (λ d. NextDue H valid d (s .flash) (blockFor H (job .image) (suc j))) (sym (is-loading h))
-        (is-due j (s .device .hashes) h (w .array) (w .holds) (s .device .model) (s .device .key) (s .flash) room-now)
-
-    pub next-accepted : j < count (job .image) → refusalOf H valid (s .device) (s .flash) (blockFor H (job .image) (suc j)) ≡ none
-    next-accepted h = due-unrefused H valid (s .device) (s .flash) (blockFor H (job .image) (suc j)) (next-due h)
-
     next-flash : j < count (job .image) → stored (manifestFor H job) (suc j) (s .flash) (blockFor H (job .image) (suc j))
         ≡ atStart (take (suc j * job .image .«block_len») (job .image .bytes)) old
     unfolding stored manifestFor blocks count
@@ -117,6 +120,26 @@ module _ (H : List ℕ → List ℕ) (hash-long : (x : List ℕ) → length (H x
         let L = job .image .«block_len» in
         let x = job .image .bytes in
         ap₂ (λ y b. withBlock L y (suc j) b) (w .flash) (block-sent H hash-long job ok j h .block) ∙ more-blocks L j x old (omega (arith, block-starts L (length x) j h))
+
+    -- where the block is the last one, the flash with it begins with the image
+    next-whole : j < count (job .image) → lastAltered H (manifestFor H job) (suc j) (s .flash) (blockFor H (job .image) (suc j)) ≡ false
+    unfolding lastAltered countOf count manifestFor
+    next-whole h = go (lt-or-le (suc j) (count (job .image)))
+      where
+        go : (suc j < count (job .image)) ⊎ (count (job .image) ≤ suc j) → lastAltered H (manifestFor H job) (suc j) (s .flash) (blockFor H (job .image) (suc j)) ≡ false
+        go (inl g) = rw (ne-eqb (suc j) (count (job .image)) (λ e. omega arith))
+        go (inr g) =
+            let e : suc j ≡ count (job .image) = omega arith in
+            let is = next-flash h ∙ ap (λ y. atStart y old) (all-taken (suc j) e) in
+            rw (eq-eqb (suc j) (count (job .image)) e) (lacks-none H (manifestFor H job) _ (ap (treeOver H (manifestFor H job)) is ∙ image-rooted H job old))
+
+    next-due : j < count (job .image) → NextDue H valid (s .device) (s .flash) (blockFor H (job .image) (suc j))
+    next-due h =
+        subst (λ d. NextDue H valid d (s .flash) (blockFor H (job .image) (suc j))) (sym (is-loading h))
+        (is-due j (s .device .hashes) h (w .array) (w .holds) (s .device .model) (s .device .key) (s .flash) room-now (next-whole h))
+
+    pub next-accepted : j < count (job .image) → refusalOf H valid (s .device) (s .flash) (blockFor H (job .image) (suc j)) ≡ none
+    next-accepted h = due-unrefused H valid (s .device) (s .flash) (blockFor H (job .image) (suc j)) (next-due h)
 
     pub next-here : j < count (job .image) → Here old (suc j) (accept Block (s .device) (s .flash) (blockFor H (job .image) (suc j)))
     next-here h = subst (λ d. Here old (suc j) (accept Block d (s .flash) (blockFor H (job .image) (suc j)))) (sym (is-loading h)) go
@@ -159,9 +182,7 @@ module _ (H : List ℕ → List ℕ) (hash-long : (x : List ℕ) → length (H x
     none-held e = rw (is-complete e, heldBy)
 
     pub flash-is : j ≡ count (job .image) → s .flash ≡ atStart (job .image .bytes) old
-    flash-is e =
-        let x = job .image .bytes in
-        w .flash ∙ ap (λ y. atStart y old) (take-all (j * job .image .«block_len») x (rw e (job-enough H hash-long job ok)))
+    flash-is e = w .flash ∙ ap (λ y. atStart y old) (all-taken j e)
 
   -- the manifest came
   pub first-here : (d : Device) (f m : List ℕ) → manifestBytes m ≡ written (manifestFor H job) → ProgramPassed H valid d f m → Here f 0 (accept Program d f m)

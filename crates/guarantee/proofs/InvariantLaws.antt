@@ -22,7 +22,7 @@ use Rattle.merkle.proofs.FitsLaws.{loaded-fits}
 use Rattle.wire.specs.declared.kind.Kind.the-variants.{Program, Block, Update, PathUpdate}
 use Rattle.wire.specs.declared.manifest.Manifest.{Manifest}
 use Rattle.wire.specs.Geometry.{countOf, blockLength, blocksOf, withBlock, treeOver}
-use Rattle.wire.specs.Message.{kind, carries, manifestBytes, manifestIn, programSignature, blockIn, hashesAfter, updateNumber, updateBlock, updateSignature, pathSignature, dueLength, leastUpdate}
+use Rattle.wire.specs.Message.{kind, carries, manifestBytes, manifestIn, programSignature, blockIn, hashesAfter, updateNumber, updateSignature, pathSignature, dueLength, leastUpdate}
 use Rattle.wire.proofs.SizeLaws.{Sized}
 use Rattle.wire.proofs.GeometryLaws.{length-with, with-here, with-before}
 use Rattle.wire.proofs.MessageLaws.{length-root, length-block, length-update-block, Due, due}
@@ -31,13 +31,36 @@ use Rattle.machine.specs.declared.state.Stage.the-variants.{Idle, Loading, Comp
 use Rattle.machine.specs.declared.state.Device.{Device}
 use Rattle.machine.specs.Device.{nextOf, Situation}
 use Rattle.machine.specs.Flash.{stored, updated}
-use Rattle.machine.specs.Refusals.{notLoading, notComplete, mismatch}
+use Rattle.machine.specs.Refusals.{notLoading, mismatch}
 use Rattle.machine.specs.Step.{acceptProgram, stageAfter, acceptBlock, acceptUpdate, accept}
 use Rattle.guarantee.specs.Run.{Messages, _▷_, lastProgram, blocksSince, lastCarrier, signatureIn}
 use Rattle.machine.proofs.RefusalLaws.{ProgramPassed, BlockPassed, Successor, PathPassed, path-block, Passed, took-program, took-block, took-update, took-path}
 use Rattle.machine.proofs.HeldLaws.{mismatch-is}
+use Rattle.machine.proofs.SenseLaws.{not-complete}
 use Rattle.guarantee.specs.Demand3.{Clash}
 use Rattle.guarantee.proofs.PathLaws.{path-tree}
+
+-- the stage is complete after the last block alone
+pub complete-last : (n i : ℕ) → stageAfter n i ≡ Complete → n ≤ i
+unfolding stageAfter
+complete-last n i c = go (lt-or-le i n)
+  where
+    go : (i < n) ⊎ (n ≤ i) → n ≤ i
+    go (inl h) = absurd (let r = rw (lt-ltb i n h) at c in let z : _≡_ {A = ℕ} 0 1 = cc in omega arith)
+    go (inr h) = h
+
+-- block i, from 1, leaves the flash's length
+pub length-placed : (s : Manifest) (i : ℕ) (flash x : List ℕ) → 0 < i → i ≤ countOf s → s .«image_len» ≤ length flash → length x ≡ blockLength (s .«block_len») (s .«image_len») i
+    → length (withBlock (s .«block_len») flash i x) ≡ length flash
+length-placed s zero flash x low high room long = absurd (omega arith)
+length-placed s (suc k) flash x low high room long = length-with s k flash high room x long
+
+-- so an update of either kind does
+pub length-updated : (H : List ℕ → List ℕ) (valid : (key message signature : List ℕ) → Bool) (d : Device) (flash m : List ℕ) {least : ℕ} {signature : List ℕ}
+    → Successor H valid d flash m least signature → leastUpdate (manifestIn m .«block_len») (manifestIn m .«image_len») (updateNumber m) ≤ length m
+    → length (updated (manifestIn m) flash m) ≡ length flash
+unfolding updated leastUpdate
+length-updated H valid d flash m p long = length-placed (manifestIn m) (updateNumber m) flash _ (p .turn .0) (p .turn .1) (p .room) (length-update-block _ m long)
 
 -- what an accepted message of each kind adds to the list of those accepted
 module _ (ms : Messages) (m : List ℕ) where
@@ -101,34 +124,7 @@ module _ (H : List ℕ → List ℕ) (valid : (key message signature : List ℕ)
     pub holds : Holds (d .stage) (d .manifest) (d .hashes) flash taken
     pub tree : d .stage ≡ Complete → (treeOver H (d .manifest) flash ≡ d .manifest .root) ⊎ M
 
-  module _ (hash-long : (x : List ℕ) → length (H x) ≡ hashLength) (total : ℕ) (d : Device) (flash m : List ℕ) (taken : Messages) (M : Type 0)
-      (v : Invariant total d flash taken M) (N : Type 0) (misled : kind m ≡ PathUpdate → Clash H flash m ⊎ M → N) where
-    -- after the message, N for M
-    abbrev Kept : Situation → Type 0
-    Kept s = Invariant total (s .device) (s .flash) (taken ▷ m) N
-
-    kept-program : kind m ≡ Program → ProgramPassed H valid d flash m → Kept (acceptProgram d flash m)
-    unfolding acceptProgram countOf
-    kept-program e p =
-        let s : Manifest = manifestIn m in
-        let w = with-program taken m e in
-        let lr : length (s .root) ≡ hashLength = length-root m (p .long) in
-        record {
-          same = v .same;
-          long = v .long;
-          holds = record {
-            below = p .size .first;
-            size = p .size;
-            array-size = length-begun (s .root) lr;
-            room = p .room;
-            carries = record { carrier = m; last = w .2; manifest = refl; signed = rw (w .3) (rw (v .same) at (p .signed)) };
-            last = w .0;
-            since = w .1;
-            loaded = rw (begun-held (countOf s) (s .root) lr) (loaded-start (plain H) (shape (countOf s)) (s .root) (blocksOf s flash));
-          };
-          tree = λ c. absurd (let z : _≡_ {A = ℕ} 0 1 = cc in omega arith);
-        }
-
+  module _ (hash-long : (x : List ℕ) → length (H x) ≡ hashLength) (d : Device) (flash m : List ℕ) (taken : Messages) where
     -- block k + 1
     module _ (k : ℕ) (e : kind m ≡ Block) (stage : d .stage ≡ Loading (suc k)) (long : length m ≡ dueLength (d .manifest .«block_len») (d .manifest .«image_len») (suc k))
         (same : mismatch H d (suc k) m ≡ false) (w : InLoading k (d .manifest) (d .hashes) flash taken) where
@@ -182,7 +178,7 @@ module _ (H : List ℕ → List ℕ) (valid : (key message signature : List ℕ)
           loaded-fits (plain H) n k (s .root) (d .hashes) message (blocksOf s flash) (blocksOf s flash') (w .below) few (w .array-size) message-long
           (with-before s k flash (w .below) (w .room) block block-long) (rw here matches) (w .loaded)
 
-      last-loaded : suc k ≡ n → treeOver H s flash' ≡ s .root
+      pub last-loaded : suc k ≡ n → treeOver H s flash' ≡ s .root
       unfolding treeOver
       last-loaded q =
           let pos : 0 < n = omega arith in
@@ -228,12 +224,35 @@ module _ (H : List ℕ → List ℕ) (valid : (key message signature : List ℕ)
               })
 
       next-tree : stageAfter n (suc k) ≡ Complete → treeOver H s flash' ≡ s .root
-      unfolding stageAfter
-      next-tree c = go (lt-or-le (suc k) n)
-        where
-          go : (suc k < n) ⊎ (n ≤ suc k) → treeOver H s flash' ≡ s .root
-          go (inl g) = absurd (let r = rw (lt-ltb (suc k) n g) at c in let z : _≡_ {A = ℕ} 0 1 = cc in omega arith)
-          go (inr g) = last-loaded (let b = w .below in omega arith)
+      next-tree c = last-loaded (let b = w .below in omega (arith, complete-last n (suc k) c))
+
+  module _ (hash-long : (x : List ℕ) → length (H x) ≡ hashLength) (total : ℕ) (d : Device) (flash m : List ℕ) (taken : Messages) (M : Type 0)
+      (v : Invariant total d flash taken M) (N : Type 0) (misled : kind m ≡ PathUpdate → Clash H flash m ⊎ M → N) where
+    -- after the message, N for M
+    abbrev Kept : Situation → Type 0
+    Kept s = Invariant total (s .device) (s .flash) (taken ▷ m) N
+
+    kept-program : kind m ≡ Program → ProgramPassed H valid d flash m → Kept (acceptProgram d flash m)
+    unfolding acceptProgram countOf
+    kept-program e p =
+        let s : Manifest = manifestIn m in
+        let w = with-program taken m e in
+        let lr : length (s .root) ≡ hashLength = length-root m (p .long) in
+        record {
+          same = v .same;
+          long = v .long;
+          holds = record {
+            below = p .size .first;
+            size = p .size;
+            array-size = length-begun (s .root) lr;
+            room = p .room;
+            carries = record { carrier = m; last = w .2; manifest = refl; signed = rw (w .3) (rw (v .same) at (p .signed)) };
+            last = w .0;
+            since = w .1;
+            loaded = rw (begun-held (countOf s) (s .root) lr) (loaded-start (plain H) (shape (countOf s)) (s .root) (blocksOf s flash));
+          };
+          tree = λ c. absurd (let z : _≡_ {A = ℕ} 0 1 = cc in omega arith);
+        }
 
     kept-block : kind m ≡ Block → BlockPassed H valid d flash m → Kept (acceptBlock d flash m)
     unfolding acceptBlock stored nextOf notLoading
@@ -245,47 +264,40 @@ module _ (H : List ℕ → List ℕ) (valid : (key message signature : List ℕ)
         go (Loading (suc k)) q w =
             let l = rw q at (p .long) in
             let f = subst (λ i. mismatch H d i m ≡ false) (ap nextOf q) (p .same) in
-            rw q (record { same = v .same; long = flash-long k e q l f w ∙ v .long; holds = next-stage k e q l f w; tree = λ c. inl (next-tree k e q l f w c) })
+            rw q
+            (record {
+              same = v .same;
+              long = flash-long hash-long d flash m taken k e q l f w ∙ v .long;
+              holds = next-stage hash-long d flash m taken k e q l f w;
+              tree = λ c. inl (next-tree hash-long d flash m taken k e q l f w c);
+            })
         go Complete q w = absurd (true≢false (rw q at (p .loading)))
 
     -- an update of either kind
     module _ {least : ℕ} {signature : List ℕ} (p : Successor H valid d flash m least signature)
         (long : leastUpdate (manifestIn m .«block_len») (manifestIn m .«image_len») (updateNumber m) ≤ length m) where
-      length-updated : length (updated (manifestIn m) flash m) ≡ length flash
-      unfolding updated leastUpdate
-      length-updated = go (updateNumber m) (p .turn) (length-update-block _ m long)
-        where
-          size : ℕ → ℕ
-          size i = blockLength (manifestIn m .«block_len») (manifestIn m .«image_len») i
-
-          go : (i : ℕ) → (0 < i) × (i ≤ countOf (manifestIn m)) → length (updateBlock (size i) m) ≡ size i → length (withBlock (manifestIn m .«block_len») flash i (updateBlock (size i) m)) ≡ length flash
-          go zero t l = absurd (omega arith)
-          go (suc i) t l = length-with (manifestIn m) i flash (t .1) (p .room) (updateBlock (size (suc i)) m) l
-
       kept-update : (lastProgram (taken ▷ m) ≡ lastProgram taken) × (blocksSince (taken ▷ m) ≡ blocksSince taken) × (lastCarrier (taken ▷ m) ≡ some m) × (signatureIn m ≡ signature)
           → (d .stage ≡ Complete → (treeOver H (manifestIn m) (updated (manifestIn m) flash m) ≡ manifestIn m .root) ⊎ N)
           → Kept (acceptUpdate d flash m)
-      unfolding acceptUpdate notComplete
-      kept-update a tree = go (d .stage) refl (v .holds)
-        where
-          go : (t : Stage) → d .stage ≡ t → Holds t (d .manifest) (d .hashes) flash taken → Kept (acceptUpdate d flash m)
-          go Idle q w = absurd (true≢false (rw q at (p .complete)))
-          go (Loading i) q w = absurd (true≢false (rw q at (p .complete)))
-          go Complete q w =
-              record {
-                same = v .same;
-                long = length-updated ∙ v .long;
-                holds = rw q
-                    (record {
-                      size = p .size;
-                      room = rw length-updated (p .room);
-                      carries = record { carrier = m; last = a .2; manifest = refl; signed = rw (a .3) (rw (v .same) at (p .signed)) };
-                      first = w .first;
-                      last = a .0 ∙ w .last;
-                      all = a .1 ∙ w .all;
-                    });
-                tree = tree;
-              }
+      unfolding acceptUpdate
+      kept-update a tree =
+          let q : d .stage ≡ Complete = not-complete (d .stage) (p .complete) in
+          let w = subst (λ t. Holds t (d .manifest) (d .hashes) flash taken) q (v .holds) in
+          let same-length = length-updated H valid d flash m p long in
+          record {
+            same = v .same;
+            long = same-length ∙ v .long;
+            holds = rw q
+                (record {
+                  size = p .size;
+                  room = rw same-length (p .room);
+                  carries = record { carrier = m; last = a .2; manifest = refl; signed = rw (a .3) (rw (v .same) at (p .signed)) };
+                  first = w .first;
+                  last = a .0 ∙ w .last;
+                  all = a .1 ∙ w .all;
+                });
+            tree = tree;
+          }
 
     -- a path update keeps the root, or misleads, or the device was misled before
     path-kept : kind m ≡ PathUpdate → PathPassed H valid d flash m → d .stage ≡ Complete

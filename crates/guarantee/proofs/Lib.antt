@@ -10,7 +10,9 @@ pub mod ProgramLaws
 pub mod HonestLaws
 pub mod SecondHalf
 pub mod Demand3Holds
+pub mod OneCallHolds
 pub mod RecoveryHolds
+pub mod AlteredHolds
 pub mod UpdatesHold
 pub mod PowerLossHolds
 pub mod Toy
@@ -18,4 +20,5 @@ pub mod WrongCalls
 pub mod WrongFirst
 pub mod WrongSecond
 pub mod MisledRun
+pub mod WrongOneCall
 pub mod Wrong

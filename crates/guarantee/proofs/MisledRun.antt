@@ -8,31 +8,34 @@ use native.Mathlib.Omega.{arith}
 use lib.ListN.{getD, replicate}
 use Rattle.octets.specs.Octets.{equal}
 use Rattle.merkle.specs.Shape.{leaf, node}
+use Rattle.wire.specs.declared.refusal.Refusal.the-variants as refusal
 use Rattle.wire.specs.Geometry.{treeOver}
-use Rattle.wire.specs.Message.{pathMessage}
+use Rattle.wire.specs.Message.{updateMessage, pathMessage}
 use Rattle.sender.specs.Job.{Job, programFor, blockFor}
 use Rattle.machine.specs.declared.state.Stage.the-variants.{Complete}
+use Rattle.machine.specs.declared.state.Answer.the-variants.{Refused}
 use Rattle.machine.specs.Device.{Situation}
 use Rattle.machine.specs.Step.{step}
-use Rattle.guarantee.specs.Run.{Messages, empty, _▷_, after}
+use Rattle.machine.specs.BootCheck.{bootCheck}
+use Rattle.guarantee.specs.Run.{Messages, empty, _▷_, after, answerTo}
 use Rattle.guarantee.specs.Demand3.{here, Misled}
 use Rattle.guarantee.proofs.Toy.{Step, any, fresh, flash, manifestWith, computing}
 
 -- of the second byte of the input and the second of its later half the larger one counts
-weakHash : ℕ → List ℕ
+unfoldable pub weakHash : ℕ → List ℕ
 weakHash b = 1 ∷ b ∷ replicate 30 0
 
-pub weak : List ℕ → List ℕ
+unfoldable pub weak : List ℕ → List ℕ
 weak x = weakHash (max (getD x 1 0) (getD x 33 0))
 
-pub device : Step
+unfoldable pub device : Step
 device = step weak any
 
 -- blocks of fives and of threes: the hashes are 5 and 3, the root 5
-pair : Job
+unfoldable pub pair : Job
 pair = record { image = record { bytes = replicate 64 5 ++ replicate 64 3; «block_len» = 64 }; model = 7; serial = 1 }
 
-pub before : Messages
+unfoldable pub before : Messages
 before = empty ▷ programFor weak pair [] ▷ blockFor weak (pair .image) 1 ▷ blockFor weak (pair .image) 2
 
 -- a first block of ones, beside a sibling that says 2: with the fives this leads to 5 as well, with the ones to 2, where the tree has 3
@@ -60,3 +63,9 @@ second-case = (
     };
   },
 )
+
+-- Then the boot check fails, and an update is refused 19. In a list nothing else brings a device there (`nobody-else` in AlteredHolds).
+pub then-altered : (let now : Situation = after device fresh flash (before ▷ message) in bootCheck weak (now .device) (now .flash) ≡ Refused refusal.Altered)
+    × (answerTo device fresh flash (before ▷ message) (updateMessage (manifestWith 3 (weakHash 3)) 1 (replicate 64 1) []) ≡ Refused refusal.Altered)
+unfolding computing weakHash weak device pair before message
+then-altered = (refl, refl)

@@ -5,9 +5,7 @@ use mathlib.Core.Bool.{Bool, false}
 use mathlib.Core.List.{List}
 use Prim.Native.Nat.{ℕ, suc, pred, _+_, _<_}
 use native.Mathlib.Omega.{arith}
-use lib.Dec.{eqb}
 use lib.ListN.{length, take}
-use borrow.Author.Tests.{eqb-true, not-false}
 use Rattle.merkle.specs.Limits.{hashLength}
 use Rattle.merkle.specs.Blocks.{blockCount, cut}
 use Rattle.merkle.specs.Shape.{size, shape}
@@ -22,22 +20,19 @@ use Rattle.merkle.proofs.WayLaws.{leaf-depths}
 use Rattle.wire.specs.declared.manifest.Manifest.{Manifest}
 use Rattle.wire.specs.Geometry.{countOf, blockLength, blocksOf, withBlock, treeOver}
 use Rattle.wire.specs.Message.{manifestIn, updateNumber, updateBlock, leastUpdate}
-use Rattle.wire.proofs.SizeLaws.{and-true}
 use Rattle.wire.proofs.GeometryLaws.{with-blocks}
 use Rattle.wire.proofs.MessageLaws.{length-update-block}
 use Rattle.machine.specs.declared.state.Device.{Device}
 use Rattle.machine.specs.Flash.{updated}
 use Rattle.machine.specs.Refusals.{unlike}
-use Rattle.machine.proofs.RefusalLaws.{PathPassed, path-block}
+use Rattle.machine.proofs.RefusalLaws.{alike-lengths, PathPassed, path-block}
 use Rattle.guarantee.specs.Run.{siblingsIn}
 use Rattle.guarantee.specs.Demand3.{Clash}
 
 -- manifests that refusal 13 does not tell apart have the same blocks and the same tree
 alike-tree : (H : List ℕ → List ℕ) (s old : Manifest) (f : List ℕ) → unlike s old ≡ false → treeOver H s f ≡ treeOver H old f
-unfolding unlike treeOver blocksOf countOf
-alike-tree H s old f e =
-    let q = and-true (eqb (s .«block_len») (old .«block_len»)) (eqb (s .«image_len») (old .«image_len»)) (not-false _ e) in
-    ap₂ (λ L T. rootOver (plain H) (cut L (take T f)) (blockCount L T)) (eqb-true (s .«block_len») (old .«block_len») (q .0)) (eqb-true (s .«image_len») (old .«image_len») (q .1))
+unfolding treeOver blocksOf countOf
+alike-tree H s old f e = let q = alike-lengths s old e in ap₂ (λ L T. rootOver (plain H) (cut L (take T f)) (blockCount L T)) (q .0) (q .1)
 
 module _ (H : List ℕ → List ℕ) (hash-long : (x : List ℕ) → length (H x) ≡ hashLength) (valid : (key message signature : List ℕ) → Bool) (d : Device) (flash m : List ℕ) (p : PathPassed H valid d flash m) where
   abbrev s : Manifest

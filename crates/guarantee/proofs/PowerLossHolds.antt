@@ -1,15 +1,19 @@
--- Power loss: the same block messages over two flashes that agree where it counts, an update over its own torn block, and what a path update reads.
+-- Power loss: the same block messages over two flashes that agree where it counts, an update over two flashes, and what a path update reads.
 use mathlib.Core.Path.{_≡_, refl, sym, ap, _∙_, subst}
 use mathlib.Core.Logic.{_⊎_, inl, inr, ⊎-elim}
-use mathlib.Core.Bool.{Bool, true, false, true≢false}
-use mathlib.Core.List.{List, [], _∷_, _++_}
+use mathlib.Core.Bool.{Bool, true, false, _&&_, true≢false}
+use mathlib.Core.List.{List, _++_}
 use mathlib.Core.Option.{Option, none, some}
 use Prim.Native.Nat.{ℕ, suc, pred, _+_, _*_, _≤_, _<_}
 use native.Mathlib.Omega.{arith}
 use lib.ListN.{length, take, drop}
-use borrow.Author.Tests.{lt-ltb, le-ltb}
+use lib.Seq.{take-take, length-take-le}
+use lib.Dec.{eqb}
+use borrow.Author.Tests.{ltb-false, eqb-true, not-false, lt-ltb, le-ltb}
+use Rattle.merkle.specs.Limits.{hashLength}
+use Rattle.merkle.specs.Blocks.{cut}
 use Rattle.merkle.specs.Shape.{shape}
-use Rattle.merkle.specs.Hash.{plain}
+use Rattle.merkle.specs.Hash.{plain, Collision}
 use Rattle.merkle.proofs.ShapeLaws.{lt-or-le}
 use Rattle.merkle.proofs.PathBindingLaws.{two-paths}
 use Rattle.wire.specs.declared.kind.Kind.the-variants.{Block, Update, PathUpdate}
@@ -17,82 +21,53 @@ use Rattle.wire.specs.declared.manifest.Manifest.{Manifest}
 use Rattle.wire.specs.declared.refusal.Refusal.{Refusal}
 use Rattle.wire.specs.declared.refusal.Refusal.the-variants as refusal
 use Rattle.wire.specs.Refusal.{firstThatApplies}
-use Rattle.wire.specs.Geometry.{countOf, blockLength, blockStart, blocksOf}
-use Rattle.wire.specs.Message.{kind, manifestIn, blockIn, updateNumber, updateBlock, pathIn, dueLength, leastUpdate}
+use Rattle.wire.specs.Geometry.{countOf, blockLength, blocksOf, treeOver}
+use Rattle.wire.specs.Message.{kind, manifestIn, blockIn, updateNumber, pathIn, dueLength}
+use Rattle.wire.proofs.SizeLaws.{Sized}
 use Rattle.wire.proofs.GeometryLaws.{block-full, block-last, length-with, with-behind, with-start, with-same}
-use Rattle.wire.proofs.MessageLaws.{length-block, length-update-block}
+use Rattle.wire.proofs.MessageLaws.{length-block}
 use Rattle.machine.specs.declared.state.Stage.{Stage}
 use Rattle.machine.specs.declared.state.Stage.the-variants.{Loading, Complete}
 use Rattle.machine.specs.declared.state.Device.{Device}
-use Rattle.machine.specs.declared.state.Answer.the-variants.{Accepted}
 use Rattle.machine.specs.Device.{nextOf, Situation}
-use Rattle.machine.specs.Flash.{stored, updated}
-use Rattle.machine.specs.Refusals.{tooSmall, notLoading, strays, always, ofManifest, ofBlock, ofSuccessor, ofUpdate, ofPathUpdate, ofKind, refusals}
+use Rattle.machine.specs.Flash.{stored}
+use Rattle.machine.specs.Refusals.{tooSmall, notLoading, wrongLength, lacksRoot, lastAltered, strays, always, ofManifest, ofBlock, ofSuccessor, ofUpdate, ofPathUpdate, ofKind, refusals}
 use Rattle.machine.specs.Step.{stageAfter, acceptBlock, acceptUpdate, accept, answerOf, outcome, refusalOf, step}
-use Rattle.machine.proofs.RefusalLaws.{BlockPassed, block-passed, UpdatePassed, update-passed, newLength, newDepth, ledTo, path-passed}
+use Rattle.machine.proofs.RefusalLaws.{of-second, alike-lengths, has-root, testOf, clear, awaits, BlockPassed, block-passed, update-passed, newLength, newDepth, ledTo, path-passed}
 use Rattle.guarantee.specs.Run.{Messages, empty, _▷_, after, answerTo, siblingsIn}
 use Rattle.guarantee.specs.PowerLoss.{OnlyBlocks, Agree, SameLoad, TornLoad, TornUpdate, PathReads, TornPath}
-use Rattle.guarantee.proofs.RunLaws.{accepted-step, now, refusalAt, answered, none-at, more, same}
+use Rattle.machine.proofs.TestLaws.{same-behind, next-test}
+use Rattle.guarantee.proofs.FirstHalf.{bound-image}
+use Rattle.guarantee.proofs.RunLaws.{now, refusalAt, answered, more, same, unrefused}
 
-module _ (H : List ℕ → List ℕ) (valid : (key message signature : List ℕ) → Bool) where
-  -- of the flash a block message's refusals see the length alone
-  block-refusal : (d : Device) (f g m : List ℕ) → kind m ≡ Block → length f ≡ length g → refusalOf H valid d f m ≡ refusalOf H valid d g m
-  unfolding refusalOf refusals ofKind ofBlock tooSmall
-  block-refusal d f g m e long = rw (e, long)
+-- Two flashes that have the manifest's tree have the same program, or their trees collide.
+one-tree : (H : List ℕ → List ℕ) → ((x : List ℕ) → length (H x) ≡ hashLength) → (s : Manifest) (f g : List ℕ) → Sized (s .«block_len») (s .«image_len») → s .«image_len» ≤ length f
+    → treeOver H s f ≡ s .root → treeOver H s g ≡ s .root
+    → (take (s .«image_len») f ≡ take (s .«image_len») g) ⊎ Collision (plain H) (blocksOf s f) (blocksOf s g) 0 (shape (countOf s))
+unfolding treeOver
+one-tree H hash-long s f g z room a b =
+    let T = s .«image_len» in
+    let again : blocksOf s (take T f) ≡ blocksOf s f = unfold blocksOf in ap (cut (s .«block_len»)) (take-take T T f (omega arith)) in
+    rw again at (bound-image H hash-long s g (take T f) z b (length-take-le T f room) (rw again a))
 
-  -- an update's also the flash that it would leave
-  update-refusal : (d : Device) (f g m : List ℕ) → kind m ≡ Update → length f ≡ length g → updated (manifestIn m) f m ≡ updated (manifestIn m) g m
-      → refusalOf H valid d f m ≡ refusalOf H valid d g m
-  unfolding refusalOf refusals ofKind ofSuccessor ofUpdate tooSmall
-  update-refusal d f g m e long after = rw (e, long, after)
+-- Before 19, which is the eleventh, an update's refusals see the length alone of the flash.
+altered-or-rooted : (H : List ℕ → List ℕ) (valid : (key message signature : List ℕ) → Bool) (d : Device) (f g m : List ℕ) → kind m ≡ Update → length f ≡ length g
+    → refusalOf H valid d f m ≡ none → (refusalOf H valid d g m ≡ some refusal.Altered) ⊎ (treeOver H (d .manifest) g ≡ d .manifest .root)
+unfolding refusalOf refusals always ofKind ofManifest ofSuccessor ofUpdate tooSmall
+altered-or-rooted H valid d f g m k long e =
+    let es = refusals H valid Update d f m in
+    ⊎-elim (λ q. inl (rw (k, ← long) q)) (λ q. inr (has-root H _ _ (q .0)))
+    (next-test (take 10 es) (drop 10 es) (drop 11 (refusals H valid Update d g m)) refusal.Altered (lacksRoot H (d .manifest) g) (rw k at e))
 
-  update-is : (d : Device) (f m : List ℕ) → kind m ≡ Update → refusalOf H valid d f m ≡ none
-      → step H valid d f m ≡ record {
-        answer = Accepted;
-        device = record { model = d .model; key = d .key; stage = d .stage; manifest = manifestIn m; hashes = d .hashes };
-        flash = updated (manifestIn m) f m;
-      }
-  unfolding accept acceptUpdate
-  update-is d f m k e = accepted-step H valid d f m e ∙ rw (k, accept)
-
-  same-update : (d : Device) (f g m : List ℕ) → UpdatePassed H valid d f m
-      → (let s = manifestIn m in let at = blockStart (s .«block_len») (updateNumber m) in let end = at + blockLength (s .«block_len») (s .«image_len») (updateNumber m) in
-      (take at f ≡ take at g) → (drop end f ≡ drop end g) → updated s f m ≡ updated s g m)
-  unfolding updated leastUpdate
-  same-update d f g m p before behind =
-      let s : Manifest = manifestIn m in
-      let i : ℕ = updateNumber m in
-      let size : ℕ = blockLength (s .«block_len») (s .«image_len») i in
-      with-same (s .«block_len») i f g (updateBlock size m) before (rw (length-update-block size m (p .successor .long)) behind)
-
-  pub torn-update : TornUpdate H valid
-  unfolding after answerTo
-  torn-update d f g m k long before behind ok =
-      let e : refusalOf H valid d f m ≡ none = none-at H valid d f empty m ok in
-      let u : updated (manifestIn m) f m ≡ updated (manifestIn m) g m = same-update d f g m (update-passed H valid d f m k e) before behind in
-      let e' : refusalOf H valid d g m ≡ none = sym (update-refusal d f g m k long u) ∙ e in
-      update-is d g m k e'
-      ∙ ap (λ (w : List ℕ). record {
-        answer = Accepted;
-        device = record { model = d .model; key = d .key; stage = d .stage; manifest = manifestIn m; hashes = d .hashes };
-        flash = w;
-      }) (sym u)
-      ∙ sym (update-is d f m k e)
-
--- Two lists of refusals that differ in one test: where none of the first applies, none of the second does, or that one.
-one-test : (before behind : List (Refusal × Bool)) (r : Refusal) (t u : Bool) → firstThatApplies (before ++ ((r, t) ∷ behind)) ≡ none
-    → (firstThatApplies (before ++ ((r, u) ∷ behind)) ≡ some r) ⊎ (firstThatApplies (before ++ ((r, u) ∷ behind)) ≡ none)
-unfolding firstThatApplies
-one-test [] behind r true u e = absurd (let z : _≡_ {A = ℕ} 0 1 = cc in omega arith)
-one-test [] behind r false true e = inl refl
-one-test [] behind r false false e = inr e
-one-test (x ∷ before) behind r t u e = go (x .1) refl (one-test before behind r t u)
-  where
-    go : (b : Bool) → x .1 ≡ b
-        → (firstThatApplies (before ++ ((r, t) ∷ behind)) ≡ none → (firstThatApplies (before ++ ((r, u) ∷ behind)) ≡ some r) ⊎ (firstThatApplies (before ++ ((r, u) ∷ behind)) ≡ none))
-        → (firstThatApplies (x ∷ (before ++ ((r, u) ∷ behind))) ≡ some r) ⊎ (firstThatApplies (x ∷ (before ++ ((r, u) ∷ behind))) ≡ none)
-    go true q ih = absurd (let y : some (x .0) ≡ none = rw (q, firstThatApplies) at e in let z : _≡_ {A = ℕ} 0 1 = cc in omega arith)
-    go false q ih = rw (q, firstThatApplies) (ih (rw (q, firstThatApplies) at e))
+pub torn-update : (H : List ℕ → List ℕ) → ((x : List ℕ) → length (H x) ≡ hashLength) → (valid : (key message signature : List ℕ) → Bool) → TornUpdate H valid
+unfolding after answerTo answerOf
+torn-update H hash-long valid d f g m k long ok =
+    let e : refusalOf H valid d f m ≡ none = unrefused H valid d f m ok in
+    let p = update-passed H valid d f m k e in
+    let q = alike-lengths (manifestIn m) (d .manifest) (p .successor .alike) in
+    ⊎-elim (λ r. inl (answered H valid d g empty m ∙ ap answerOf r))
+    (λ r. inr (one-tree H hash-long (d .manifest) f g (rw (q .0, q .1) at (p .successor .size)) (rw (q .1) at (p .successor .room)) (p .intact) r))
+    (altered-or-rooted H valid d f g m k long e)
 
 module _ (H : List ℕ → List ℕ) (valid : (key message signature : List ℕ) → Bool) (d : Device) (f g m : List ℕ) (k : kind m ≡ PathUpdate) (long : length f ≡ length g) where
   abbrev s : Manifest
@@ -120,8 +95,10 @@ module _ (H : List ℕ → List ℕ) (valid : (key message signature : List ℕ)
   path-or-none e =
       let es = refusals H valid PathUpdate d f m in
       let siblings = pathIn (newLength H valid d f m) (newDepth H valid d f m) m in
-      let test : List ℕ → Bool = λ flash. strays H s (updateNumber m) (blocksOf s flash i) siblings (d .manifest .root) in
-      rw (k, ← long) (one-test (take 13 es) (drop 14 es) refusal.Path (test f) (test g) (rw k at e))
+      let e' : firstThatApplies es ≡ none = rw k at e in
+      rw (k, ← long)
+      (⊎-elim (λ q. inl q) (λ q. inr (q .1 ∙ of-second (take 14 es) (drop 14 es) e'))
+      (next-test (take 13 es) (drop 13 es) (drop 14 es) refusal.Path (strays H s (updateNumber m) (blocksOf s g i) siblings (d .manifest .root)) e'))
 
 pub path-reads : (H : List ℕ → List ℕ) (valid : (key message signature : List ℕ) → Bool) → PathReads H valid
 path-reads H valid = reads H valid
@@ -129,7 +106,7 @@ path-reads H valid = reads H valid
 pub torn-path : (H : List ℕ → List ℕ) (valid : (key message signature : List ℕ) → Bool) → TornPath H valid
 unfolding after answerTo answerOf
 torn-path H valid d f g m k long ok =
-    let e : refusalOf H valid d f m ≡ none = none-at H valid d f empty m ok in
+    let e : refusalOf H valid d f m ≡ none = unrefused H valid d f m ok in
     let s : Manifest = manifestIn m in
     let i : ℕ = pred (updateNumber m) in
     let root : (x : List ℕ) → refusalOf H valid d x m ≡ none → ledTo H valid d x m (blocksOf s x i) ≡ d .manifest .root = λ x e. path-passed H valid d x m k e .old in
@@ -175,7 +152,28 @@ module _ (s : Manifest) (k : ℕ) (f g m : List ℕ) (below : k < countOf s) (ag
       let e : k * L + length block ≡ s .«image_len» = omega (arith, long, block-last L (s .«image_len») k below h) in
       with-same L (suc k) f g block (agree .accepted) (rw e (agree .behind))
 
+  -- so 19 is the same over both
+  last-same : (H : List ℕ → List ℕ) → lastAltered H s (suc k) f m ≡ lastAltered H s (suc k) g m
+  unfolding lastAltered
+  last-same H = go (eqb (suc k) (countOf s)) refl
+    where
+      go : (b : Bool) → eqb (suc k) (countOf s) ≡ b → b && lacksRoot H s (stored s (suc k) f m) ≡ b && lacksRoot H s (stored s (suc k) g m)
+      go true e = ap (lacksRoot H s) (now-same (omega (arith, eqb-true (suc k) (countOf s) e)))
+      go false e = refl
+
 module _ (H : List ℕ → List ℕ) (valid : (key message signature : List ℕ) → Bool) where
+  -- before 19, its last, a block message's refusals see the length alone of the flash
+  block-refusal : (d : Device) (k : ℕ) (f g m : List ℕ) → kind m ≡ Block → d .stage ≡ Loading (suc k) → Agree (d .manifest) k f g → refusalOf H valid d f m ≡ refusalOf H valid d g m
+  unfolding refusalOf refusals always ofKind ofBlock nextOf tooSmall wrongLength testOf
+  block-refusal d k f g m e t agree =
+      let next : nextOf (d .stage) ≡ suc k = rw t in
+      rw (e, ← agree .long)
+      (same-behind (take 8 (refusals H valid Block d f m)) _ _
+      (λ a.
+      let below = awaits d (clear refusal.State _ a) (clear refusal.Stage _ a) (sym next) .high in
+      let due : wrongLength (d .manifest) (suc k) m ≡ false = rw next at (clear refusal.Length _ a) in
+      rw (next, last-same (d .manifest) k f g m below agree (ltb-false _ _ (clear refusal.Area _ a)) (eqb-true _ _ (not-false _ due)) H)))
+
   block-is : (d : Device) (k : ℕ) (f m : List ℕ) → d .stage ≡ Loading (suc k) → (t : Stage) → stageAfter (countOf (d .manifest)) (suc k) ≡ t
       → acceptBlock d f m ≡ record {
         device = record { model = d .model; key = d .key; stage = t; manifest = d .manifest; hashes = acceptBlock d f m .device .hashes };
@@ -221,17 +219,17 @@ module _ (H : List ℕ → List ℕ) (valid : (key message signature : List ℕ)
     abbrev over-g : Messages → Situation
     over-g ms = now H valid d g ms
 
-    same-refusal : (ms : Messages) (m : List ℕ) → kind m ≡ Block → over-f ms .device ≡ over-g ms .device → length (over-f ms .flash) ≡ length (over-g ms .flash)
-        → refusalAt H valid d f ms m ≡ refusalAt H valid d g ms m
-    same-refusal ms m e q long =
-        block-refusal H valid (over-f ms .device) (over-f ms .flash) (over-g ms .flash) m e long ∙ ap (λ (x : Device). refusalOf H valid x (over-g ms .flash) m) q
+    same-refusal : (ms : Messages) (m : List ℕ) → kind m ≡ Block → (k : ℕ) → over-f ms .device ≡ over-g ms .device → over-f ms .device .stage ≡ Loading (suc k)
+        → Agree (over-f ms .device .manifest) k (over-f ms .flash) (over-g ms .flash) → refusalAt H valid d f ms m ≡ refusalAt H valid d g ms m
+    same-refusal ms m e k q t agree =
+        block-refusal (over-f ms .device) k (over-f ms .flash) (over-g ms .flash) m e t agree ∙ ap (λ (x : Device). refusalOf H valid x (over-g ms .flash) m) q
 
     one-more : (ms : Messages) (m : List ℕ) → kind m ≡ Block → Together (over-f ms) (over-g ms) → Together (over-f (ms ▷ m)) (over-g (ms ▷ m))
     unfolding accept notLoading
     one-more ms m e (waits k q t agree) = go (refusalAt H valid d f ms m) refl
       where
         both : refusalAt H valid d f ms m ≡ refusalAt H valid d g ms m
-        both = same-refusal ms m e q (agree .long)
+        both = same-refusal ms m e k q t agree
 
         go : (r : Option Refusal) → refusalAt H valid d f ms m ≡ r → Together (over-f (ms ▷ m)) (over-g (ms ▷ m))
         go none h =
@@ -258,7 +256,7 @@ module _ (H : List ℕ → List ℕ) (valid : (key message signature : List ℕ)
     unfolding answerOf
     same-load ms (waits k q t agree) =
         record {
-          answers = λ m e. answered H valid d f ms m ∙ ap answerOf (same-refusal ms m e q (agree .long)) ∙ sym (answered H valid d g ms m);
+          answers = λ m e. answered H valid d f ms m ∙ ap answerOf (same-refusal ms m e k q t agree) ∙ sym (answered H valid d g ms m);
           states = q;
           flashes = λ c. absurd (let z : _≡_ {A = ℕ} 0 1 = cc in omega arith);
         }

@@ -1,5 +1,6 @@
--- Recovery follows from demand 3, for any step that meets it. For our own step it holds from every state that makes sense, reached or not.
-use mathlib.Core.Path.{_≡_, refl, sym, ap, _∙_}
+-- Recovery follows from demand 3, for any step that meets it. For our own step it holds from every state that makes sense, reached or not; and what a device that is
+-- not idle answers to its own manifest, and what its state from right after a new program does, put back.
+use mathlib.Core.Path.{_≡_, refl, sym, ap, _∙_, subst}
 use mathlib.Core.Logic.{_⊎_, inl, inr}
 use mathlib.Core.Bool.{Bool, false, true≢false}
 use mathlib.Core.List.{List}
@@ -7,32 +8,37 @@ use mathlib.Core.Option.{none, some}
 use Prim.Native.Nat.{ℕ, zero, suc, _≤_, _<_}
 use native.Mathlib.Omega.{arith}
 use lib.ListN.{length}
+use borrow.Author.Tests.{le-ltb, eq-eqb}
 use Rattle.sha256.specs.Sha256.{digest}
 use Rattle.sha256.proofs.DigestLaws.{length-digest}
 use Rattle.merkle.specs.Limits.{hashLength}
 use Rattle.merkle.proofs.ShapeLaws.{lt-or-le}
 use Rattle.lms.specs.Lms as lms
+use Rattle.wire.specs.declared.kind.Kind.the-variants.{Program}
 use Rattle.wire.specs.declared.manifest.Manifest.{Manifest}
+use Rattle.wire.specs.declared.refusal.Refusal.the-variants as refusal
+use Rattle.wire.specs.Refusal.{firstThatApplies}
 use Rattle.wire.specs.Geometry.{countOf}
-use Rattle.wire.specs.Message.{manifestIn}
+use Rattle.wire.specs.Message.{leastLength, short, manifestIn}
 use Rattle.wire.proofs.SizeLaws.{Sized}
-use Rattle.sender.specs.Job.{Job, count, programFor}
+use Rattle.sender.specs.Job.{Image, Job, count, programFor}
 use Rattle.machine.specs.declared.state.Stage.{Stage}
 use Rattle.machine.specs.declared.state.Stage.the-variants.{Idle, Loading, Complete}
 use Rattle.machine.specs.declared.state.Device.{Device}
 use Rattle.machine.specs.declared.state.Answer.{Answer}
 use Rattle.machine.specs.declared.state.Answer.the-variants.{Accepted, Refused}
-use Rattle.machine.specs.Device.{Situation, Outcome}
-use Rattle.machine.specs.Refusals.{wrongVersion, senseless, notLoading, notComplete}
-use Rattle.machine.specs.Step.{answerOf, refusalOf, step}
+use Rattle.machine.specs.Device.{serialOf, Situation, Outcome}
+use Rattle.machine.specs.Refusals.{wrongVersion, senseless, noKind, otherModel, notNewer, notLoading, always, ofManifest, ofProgram, ofKind, refusals}
+use Rattle.machine.specs.Step.{acceptProgram, accept, answerOf, refusalOf, step}
 use Rattle.machine.proofs.RefusalLaws.{answer-none, Successor, Passed, took-program, took-block, took-update, took-path, passed}
-use Rattle.machine.proofs.SenseLaws.{sense-idle, sense-loading, sense-complete}
+use Rattle.machine.proofs.SenseLaws.{sound, not-complete, sense-idle, sense-loading, sense-complete}
 use Rattle.guarantee.specs.Run.{Messages, empty, _▷_, after, answerTo, accepted, lastProgram, blocksSince, lastCarrier, signatureIn, Completed}
 use Rattle.guarantee.specs.Demand3.{thenBlocks, Calls, Begun, Honest, begin, next, Loaded, Claim, SecondHalf, Demand3}
 use Rattle.guarantee.specs.Claims.{MakesSense}
-use Rattle.guarantee.specs.Recovery.{Offered, Recovers, Recovery, RecoveryFrom}
+use Rattle.guarantee.specs.Recovery.{Offered, Recovers, Recovery, RecoveryFrom, SameAgain, PutBack}
+use Rattle.guarantee.specs.Updates.{Installed}
 use Rattle.guarantee.proofs.InvariantLaws.{with-program, with-block, with-update, with-path}
-use Rattle.guarantee.proofs.RunLaws.{calls}
+use Rattle.guarantee.proofs.RunLaws.{accepted-step, answered, calls}
 use Rattle.guarantee.proofs.SecondHalf.{second-half}
 use Rattle.guarantee.proofs.Demand3Holds.{demand3}
 use Rattle.guarantee.proofs.ProgramLaws.{is-program, program-accepted}
@@ -45,7 +51,7 @@ data Standing (taken : Messages) : Type 0 where
   complete : (s : Manifest) (m : List ℕ) → lastProgram taken ≡ some s → lastCarrier taken ≡ some m → wrongVersion (manifestIn m) ≡ false
       → Sized (manifestIn m .«block_len») (manifestIn m .«image_len») → blocksSince taken ≡ countOf s → Standing taken
 
--- a stage that the tests of kinds 2, 3 and 4 let pass
+-- a stage that the tests of kind 2 let pass
 not-idle : (t : Stage) → notLoading t ≡ false → t ≡ Idle → ⊥
 unfolding notLoading
 not-idle t e q = true≢false (rw q at e)
@@ -53,12 +59,6 @@ not-idle t e q = true≢false (rw q at e)
 not-done : (t : Stage) → notLoading t ≡ false → t ≡ Complete → ⊥
 unfolding notLoading
 not-done t e q = true≢false (rw q at e)
-
-not-complete : (t : Stage) → notComplete t ≡ false → t ≡ Complete
-unfolding notComplete
-not-complete Idle e = absurd (true≢false e)
-not-complete (Loading i) e = absurd (true≢false e)
-not-complete Complete e = refl
 
 module _ (H : List ℕ → List ℕ) (valid : (key message signature : List ℕ) → Bool) (any : Device → List ℕ → List ℕ → Outcome) (d : Device) (flash : List ℕ)
     (claim : (ms : Messages) → Claim H valid any d flash ms) where
@@ -170,3 +170,57 @@ pub recovery-from : (H : List ℕ → List ℕ) → ((x : List ℕ) → length (
 unfolding after
 recovery-from H hash-long valid d sense flash job signature =
     recovers H hash-long valid (step H valid) d flash empty job signature (calls H valid d flash empty) refl (λ list. second-half H hash-long valid d flash list) sense
+
+-- the serial of a device that is not idle
+own-serial : (d : Device) → (d .stage ≡ Idle → ⊥) → serialOf d ≡ d .manifest .serial
+unfolding serialOf
+own-serial d busy = go (d .stage) refl
+  where
+    go : (t : Stage) → d .stage ≡ t → serialOf d ≡ d .manifest .serial
+    go Idle z = absurd (busy z)
+    go (Loading i) z = rw (z, serialOf)
+    go Complete z = rw (z, serialOf)
+
+-- so a further new program with the same manifest is refused 7
+pub same-again : (H : List ℕ → List ℕ) (valid : (key message signature : List ℕ) → Bool) → SameAgain H valid
+unfolding after answerTo answerOf refusalOf refusals always ofKind ofManifest ofProgram noKind short otherModel notNewer firstThatApplies
+same-again H valid d e busy model flash m is long same =
+    let s = d .manifest in
+    let q = sound d e busy in
+    let first : refusalOf H valid d flash m ≡ some refusal.Serial =
+    rw (is, same, e, le-ltb (length m) (leastLength Program) long, q .0, q .1, eq-eqb (s .model) (d .model) model, own-serial d busy, le-ltb (s .serial) (s .serial) (omega arith)) in
+    answered H valid d flash empty m ∙ ap answerOf first
+
+-- a list of blocks after others, as a list from where those lead
+from-there : (H : List ℕ → List ℕ) (any : Device → List ℕ → List ℕ → Outcome) (d : Device) (flash : List ℕ) (image : Image) (ms : Messages) (j : ℕ)
+    → after any d flash (thenBlocks H image ms j) ≡ (let s = after any d flash ms in after any (s .device) (s .flash) (thenBlocks H image empty j))
+unfolding after thenBlocks
+from-there H any d flash image ms zero = refl
+from-there H any d flash image ms (suc j) = rw (from-there H any d flash image ms j)
+
+-- what an offered program does: the device then has nothing of the flash
+program-does : (H : List ℕ → List ℕ) → ((x : List ℕ) → length (H x) ≡ hashLength) → (valid : (key message signature : List ℕ) → Bool)
+    (d : Device) → senseless d ≡ false → (flash : List ℕ) (job : Job) (signature : List ℕ) → Offered H valid (step H valid) d flash empty job signature
+    → (let p = programFor H job signature in step H valid d flash p ≡ record { answer = Accepted; device = acceptProgram d flash p .device; flash = flash })
+unfolding after accept acceptProgram
+program-does H hash-long valid d sense flash job signature o =
+    accepted-step H valid d flash _ (program-accepted H hash-long valid job (o .sendable) signature d flash sense (o .model) (o .newer) (o .room) (o .signed))
+    ∙ rw (is-program H hash-long valid job (o .sendable) signature .is, accept)
+
+pub put-back : (H : List ℕ → List ℕ) → ((x : List ℕ) → length (H x) ≡ hashLength) → (valid : (key message signature : List ℕ) → Bool) → PutBack H valid
+unfolding after acceptProgram
+put-back H hash-long valid d sense flash job signature o now room =
+    let p = programFor H job signature in
+    let n = count (job .image) in
+    let o' : Offered H valid (step H valid) d now empty job signature = record { sendable = o .sendable; model = o .model; newer = o .newer; room = room; signed = o .signed } in
+    let does = program-does H hash-long valid d sense in
+    let saved : after (step H valid) d now (empty ▷ p) ≡ record { device = step H valid d flash p .device; flash = now } = rw (does now job signature o', does flash job signature o) in
+    let r = recovery-from H hash-long valid d sense now job signature o' in
+    let end = r .none-between in
+    record {
+      same = saved;
+      recovers = r;
+      loads = subst (λ (s : Situation). Installed H job now (s .device) (s .flash))
+          (from-there H (step H valid) d now (job .image) (empty ▷ p) n ∙ ap (λ (s : Situation). after (step H valid) (s .device) (s .flash) (thenBlocks H (job .image) empty n)) saved)
+          (record { stage = end .stage; manifest = end .manifest; image = end .image });
+    }

@@ -1,6 +1,6 @@
 -- One message more: what it adds to a list, and what no list changes.
 use mathlib.Core.Path.{_≡_, refl, sym, ap, _∙_}
-use mathlib.Core.Bool.{Bool}
+use mathlib.Core.Bool.{Bool, cond}
 use mathlib.Core.List.{List}
 use mathlib.Core.Option.{Option, none, some}
 use Prim.Native.Nat.{ℕ}
@@ -8,7 +8,7 @@ use Rattle.wire.specs.declared.kind.Kind.{Kind}
 use Rattle.wire.specs.declared.kind.Kind.the-variants.{Program, Block, Update, PathUpdate, Unknown}
 use Rattle.wire.specs.declared.refusal.Refusal.{Refusal}
 use Rattle.wire.specs.Refusal.{refusalNumber}
-use Rattle.wire.specs.Message.{kind}
+use Rattle.wire.specs.Message.{kind, carries, manifestIn}
 use Rattle.machine.specs.declared.state.Device.{Device}
 use Rattle.machine.specs.declared.state.Answer.the-variants.{Accepted, Refused}
 use Rattle.machine.specs.Device.{Situation}
@@ -25,6 +25,15 @@ accept-keeps Block d flash m = (refl, refl)
 accept-keeps Update d flash m = (refl, refl)
 accept-keeps PathUpdate d flash m = (refl, refl)
 accept-keeps Unknown d flash m = (refl, refl)
+
+-- an accepted message of each kind leaves the manifest that it goes by
+pub goes-by : (d : Device) (flash m : List ℕ) (k : Kind) → accept k d flash m .device .manifest ≡ cond (carries k) (manifestIn m) (d .manifest)
+unfolding carries accept acceptProgram acceptBlock acceptUpdate
+goes-by d flash m Program = refl
+goes-by d flash m Block = refl
+goes-by d flash m Update = refl
+goes-by d flash m PathUpdate = refl
+goes-by d flash m Unknown = refl
 
 -- what an accepted message does
 pub accepted-step : (H : List ℕ → List ℕ) (valid : (key message signature : List ℕ) → Bool) (d : Device) (f m : List ℕ) → refusalOf H valid d f m ≡ none
@@ -109,3 +118,8 @@ module _ (H : List ℕ → List ℕ) (valid : (key message signature : List ℕ)
         model = keeps ms .0;
         key = keeps ms .1;
       }
+
+-- a call by itself: what is accepted no refusal applies to
+pub unrefused : (H : List ℕ → List ℕ) (valid : (key message signature : List ℕ) → Bool) (d : Device) (f m : List ℕ) → step H valid d f m .answer ≡ Accepted → refusalOf H valid d f m ≡ none
+unfolding after answerTo
+unrefused H valid d f m a = none-at H valid d f empty m a

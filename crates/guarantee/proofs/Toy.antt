@@ -34,8 +34,9 @@ use Rattle.machine.specs.declared.state.Device.{Device}
 use Rattle.machine.specs.declared.state.Answer.the-variants.{Accepted, Refused}
 use Rattle.machine.specs.Device.{Fresh, serialOf, nextOf, heldBy, Outcome}
 use Rattle.machine.specs.Flash.{stored, updated}
-use Rattle.machine.specs.Refusals.{wrongVersion, senseless, noKind, otherModel, notNewer, tooSmall, notLoading, notComplete, notNext, wrongLength, unlike, mismatch, lacksRoot, unsigned, strays, ofManifest, always, ofProgram, ofBlock, ofSuccessor, ofUpdate, ofPathUpdate, ofKind, refusals}
+use Rattle.machine.specs.Refusals.{wrongVersion, senseless, noKind, otherModel, notNewer, tooSmall, notLoading, notComplete, notNext, wrongLength, unlike, mismatch, lacksRoot, lastAltered, unsigned, strays, ofManifest, always, ofProgram, ofBlock, ofSuccessor, ofUpdate, ofPathUpdate, ofKind, refusals}
 use Rattle.machine.specs.Step.{acceptProgram, stageAfter, acceptBlock, acceptUpdate, accept, answerOf, outcome, refusalOf, step}
+use Rattle.machine.specs.BootCheck.{ofBoot, bootCheck}
 use Rattle.guarantee.specs.Run.{Messages, empty, _▷_, after, answerTo, accepted, lastProgram, blocksSince, pathsSince, lastCarrier, signatureIn}
 use Rattle.guarantee.specs.Demand3.{thenBlocks, Demand3}
 use Rattle.guarantee.proofs.Demand3Holds.{demand3-for}
@@ -133,11 +134,11 @@ unfolding count blocks rootOf manifestFor programFor blockFor updateFor pathFor
 sender-computes = 0
 
 unfoldable pub refusals-compute : ℕ
-unfolding serialOf nextOf heldBy wrongVersion senseless noKind otherModel notNewer tooSmall notLoading notComplete notNext wrongLength unlike mismatch lacksRoot unsigned strays always ofManifest ofProgram ofBlock ofSuccessor ofUpdate ofPathUpdate ofKind refusals refusalOf
+unfolding serialOf nextOf heldBy wrongVersion senseless noKind otherModel notNewer tooSmall notLoading notComplete notNext wrongLength unlike mismatch lacksRoot lastAltered unsigned strays always ofManifest ofProgram ofBlock ofSuccessor ofUpdate ofPathUpdate ofKind refusals refusalOf ofBoot
 refusals-compute = 0
 
 unfoldable pub run-computes : ℕ
-unfolding stored updated acceptProgram stageAfter acceptBlock acceptUpdate accept outcome step after answerTo accepted lastProgram blocksSince pathsSince lastCarrier signatureIn answerOf thenBlocks
+unfolding stored updated acceptProgram stageAfter acceptBlock acceptUpdate accept outcome step bootCheck after answerTo accepted lastProgram blocksSince pathsSince lastCarrier signatureIn answerOf thenBlocks
 run-computes = 0
 
 unfoldable pub computing : ℕ

@@ -36,6 +36,7 @@ use Rattle.machine.proofs.SenseLaws.{sense-complete}
 use Rattle.guarantee.specs.Updates.{Installed, UpdateOffered, Updated, Updates}
 use Rattle.guarantee.proofs.RunLaws.{accepted-step}
 use Rattle.guarantee.proofs.SentLaws.{count-most, block-length, root-long, manifest-is}
+use Rattle.guarantee.proofs.HonestLaws.{image-rooted}
 
 module _ (H : List ℕ → List ℕ) (hash-long : (x : List ℕ) → length (H x) ≡ hashLength) (valid : (key message signature : List ℕ) → Bool) (d : Device) (flash old : List ℕ)
     (a b : Job) (i : ℕ) (signature : List ℕ) (was : Installed H a old d flash) (o : UpdateOffered H valid d a b i signature) where
@@ -55,10 +56,6 @@ module _ (H : List ℕ → List ℕ) (hash-long : (x : List ℕ) → length (H x
   allowed-old : Sized (a .image .«block_len») (length v)
   allowed-old = rw (← o .cut, ← o .long) (sized _ _ (o .sendable .size))
 
-  long : length w ≡ s .«image_len»
-  unfolding manifestFor
-  long = refl
-
   long-old : length v ≡ s .«image_len»
   unfolding manifestFor
   long-old = sym (o .long)
@@ -67,14 +64,14 @@ module _ (H : List ℕ → List ℕ) (hash-long : (x : List ℕ) → length (H x
   unfolding blocks
   blocks-old j = ap (λ L. cut L v j) (o .cut)
 
-  -- the flash with the new block, and its tree
+  -- the flash with the new block
   flash-new : withBlock (b .image .«block_len») flash (suc i) (blocks (b .image) i) ≡ atStart w old
   unfolding blocks count
   flash-new = rw (was .image) (one-changed (b .image .«block_len») v w old i (sym (o .long)) (o .within) (λ j h apart. blocks-old j ∙ sym (o .others j h apart)))
 
-  tree-new : treeOver H s (atStart w old) ≡ s .root
-  unfolding treeOver manifestFor rootOf blocks countOf count
-  tree-new = ap (λ f. rootOver (plain H) f n) (start-blocks s w old long)
+  -- the tree over the flash as it is
+  tree-old : treeOver H (d .manifest) flash ≡ d .manifest .root
+  tree-old = rw (was .manifest, was .image) (image-rooted H a old)
 
   -- the block in the flash, and the root that the device has
   block-old : blocksOf s flash i ≡ blocks (a .image) i
@@ -153,7 +150,7 @@ module _ (H : List ℕ → List ℕ) (hash-long : (x : List ℕ) → length (H x
       let z = size update c in
       done update c (rw (r .is))
       (update-unrefused H valid d flash update (due update c (r .is) (omega (arith, r .size)) (omega (arith, r .size)) (rw z (r .signed)))
-      (rw (after update c, read update c) tree-new))
+      tree-old (rw (after update c, read update c) (image-rooted H b old)))
 
   -- kind 4
   abbrev path : List ℕ

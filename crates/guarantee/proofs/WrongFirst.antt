@@ -94,7 +94,7 @@ other-serial : (wrong : Step) (ms : Messages) (m : List ℕ) → lastCarrier (ac
 other-serial wrong ms m c n h = n (ap (λ (s : Manifest). s .serial) (h .manifest m c))
 
 -- the device with another serial and root in its manifest
-withManifest : (serial : ℕ) (root : List ℕ) → Device → Device
+unfoldable pub withManifest : (serial : ℕ) (root : List ℕ) → Device → Device
 withManifest serial root d =
     let s = d .manifest in
     record {

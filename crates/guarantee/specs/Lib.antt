@@ -3,5 +3,7 @@ pub mod Demand3
 pub mod Recovery
 pub mod Updates
 pub mod Behind
+pub mod OneCall
+pub mod Altered
 pub mod PowerLoss
 pub mod Claims

@@ -4,15 +4,15 @@ use mathlib.Core.Path.{_≡_}
 use mathlib.Core.Logic.{_⊎_}
 use mathlib.Core.Bool.{Bool}
 use mathlib.Core.List.{List}
-use Prim.Native.Nat.{ℕ, suc, pred, _+_}
+use Prim.Native.Nat.{ℕ, suc, pred}
 use lib.ListN.{length, take, drop}
 use Rattle.merkle.specs.Shape.{Place, shape}
-use Rattle.merkle.specs.Hash.{plain}
+use Rattle.merkle.specs.Hash.{plain, Collision}
 use Rattle.merkle.specs.Path.{pathInputs, PathsCollide}
 use Rattle.wire.specs.declared.kind.Kind.the-variants.{Block, Update, PathUpdate}
 use Rattle.wire.specs.declared.manifest.Manifest.{Manifest}
 use Rattle.wire.specs.declared.refusal.Refusal.the-variants as refusal
-use Rattle.wire.specs.Geometry.{countOf, blockLength, blockStart, blocksOf}
+use Rattle.wire.specs.Geometry.{countOf, blockStart, blocksOf}
 use Rattle.wire.specs.Message.{kind, manifestIn, updateNumber}
 use Rattle.machine.specs.declared.state.Stage.the-variants.{Loading, Complete}
 use Rattle.machine.specs.declared.state.Device.{Device}
@@ -43,12 +43,13 @@ module _ (H : List ℕ → List ℕ) (valid : (key message signature : List ℕ)
   TornLoad = (d : Device) (k : ℕ) → d .stage ≡ Loading (suc k) → (f g : List ℕ) → Agree (d .manifest) k f g
       → (ms : Messages) → OnlyBlocks ms → SameLoad d f g ms
 
-  -- An update that is accepted over f is accepted over every flash that agrees with f outside the numbered block, with the same state and flash: given again
-  -- over its own torn block it does what it was to do the first time.
+  -- An update that is accepted over f is refused 19 over another flash of that length; or the program's bytes are the same in both, or their trees collide. So it is
+  -- not taken again over its own block, torn or whole, where that is not the old one, short of a collision.
   abbrev pub TornUpdate : Type 0
-  TornUpdate = (d : Device) (f g m : List ℕ) → kind m ≡ Update → length f ≡ length g
-      → (let s = manifestIn m in let at = blockStart (s .«block_len») (updateNumber m) in let end = at + blockLength (s .«block_len») (s .«image_len») (updateNumber m) in
-      (take at f ≡ take at g) → (drop end f ≡ drop end g) → step H valid d f m .answer ≡ Accepted → step H valid d g m ≡ step H valid d f m)
+  TornUpdate = (d : Device) (f g m : List ℕ) → kind m ≡ Update → length f ≡ length g → step H valid d f m .answer ≡ Accepted
+      → (let s = d .manifest in
+      (step H valid d g m .answer ≡ Refused refusal.Altered)
+      ⊎ ((take (s .«image_len») f ≡ take (s .«image_len») g) ⊎ Collision (plain H) (blocksOf s f) (blocksOf s g) 0 (shape (countOf s))))
 
   -- Of the flash a path update reads its length and the numbered block. So what is torn or altered elsewhere is not noticed.
   abbrev pub PathReads : Type 0
@@ -57,7 +58,7 @@ module _ (H : List ℕ → List ℕ) (valid : (key message signature : List ℕ)
       → (step H valid d f m .answer ≡ step H valid d g m .answer) × (step H valid d f m .device ≡ step H valid d g m .device)
 
   -- A path update that is accepted over f is refused 15 over another flash of that length, or accepted there too; then the numbered block is the same, or the two
-  -- paths collide. So unlike an update it is not taken again over its own block, torn or whole, where that is not the old one, short of a collision.
+  -- paths collide. So it is not taken again over its own block, torn or whole, where that is not the old one, short of a collision.
   abbrev pub TornPath : Type 0
   TornPath = (d : Device) (f g m : List ℕ) → kind m ≡ PathUpdate → length f ≡ length g → step H valid d f m .answer ≡ Accepted
       → (let s = manifestIn m in let i = pred (updateNumber m) in let inputs : List ℕ → List (Place × List ℕ) = λ block. pathInputs (plain H) 0 (shape (countOf s)) i block (siblingsIn m) in

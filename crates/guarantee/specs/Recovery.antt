@@ -5,15 +5,20 @@ use mathlib.Core.Bool.{Bool, true, false}
 use mathlib.Core.List.{List}
 use Prim.Native.Nat.{ℕ, _≤_, _<_}
 use lib.ListN.{length}
+use Rattle.wire.specs.declared.kind.Kind.the-variants.{Program}
+use Rattle.wire.specs.declared.refusal.Refusal.the-variants as refusal
 use Rattle.wire.specs.Manifest.{written}
+use Rattle.wire.specs.Message.{kind, leastLength, manifestIn}
 use Rattle.sender.specs.Job.{Job, count, manifestFor, programFor}
+use Rattle.machine.specs.declared.state.Stage.the-variants.{Idle}
 use Rattle.machine.specs.declared.state.Device.{Device}
-use Rattle.machine.specs.declared.state.Answer.the-variants.{Accepted}
+use Rattle.machine.specs.declared.state.Answer.the-variants.{Accepted, Refused}
 use Rattle.machine.specs.Device.{Fresh, serialOf, Outcome}
 use Rattle.machine.specs.Refusals.{senseless}
 use Rattle.machine.specs.Step.{step}
 use Rattle.guarantee.specs.Run.{Messages, empty, _▷_, after, answerTo}
 use Rattle.guarantee.specs.Demand3.{Sendable, thenBlocks, Honest, Loaded}
+use Rattle.guarantee.specs.Updates.{Installed}
 
 module _ (H : List ℕ → List ℕ) (valid : (key message signature : List ℕ) → Bool) (step : Device → List ℕ → List ℕ → Outcome) (d : Device) (flash : List ℕ) where
   -- What it takes after a list: a program that the sender can send, for the device's model, with a serial above the one held (above 0 when idle), room in the
@@ -43,3 +48,24 @@ abbrev pub RecoveryFrom : (H : List ℕ → List ℕ) (valid : (key message sign
 RecoveryFrom H valid =
     (d : Device) → senseless d ≡ false → (flash : List ℕ) (job : Job) (signature : List ℕ) → Offered H valid (step H valid) d flash empty job signature
     → Recovers H valid (step H valid) d flash empty job signature
+
+-- A device that is refused 19 at its last block stays loading (`OneCall.refused`), and its own manifest in a further new program is refused 7, as it is where the
+-- device is complete. (6 comes before 7; every manifest that a device took has its model.)
+abbrev pub SameAgain : (H : List ℕ → List ℕ) (valid : (key message signature : List ℕ) → Bool) → Type 0
+SameAgain H valid =
+    (d : Device) → senseless d ≡ false → (d .stage ≡ Idle → ⊥) → d .manifest .model ≡ d .model → (flash m : List ℕ) → kind m ≡ Program → leastLength Program ≤ length m
+    → manifestIn m ≡ d .manifest → step H valid d flash m .answer ≡ Refused refusal.Serial
+
+-- A higher serial is one way out (`RecoveryFrom`). The other: the state saved right after the new program, put back over any flash with room, and the blocks 1 to n
+-- again. Device and flash are then as if the new program had just been taken over this flash, so all that `RecoveryFrom` says counts here too, with refused messages
+-- between the blocks.
+pub record Restarts (H : List ℕ → List ℕ) (valid : (key message signature : List ℕ) → Bool) (d saved : Device) (now : List ℕ) (job : Job) (signature : List ℕ) : Type 0 where
+  pub same : after (step H valid) d now (empty ▷ programFor H job signature) ≡ record { device = saved; flash = now }
+  pub recovers : Recovers H valid (step H valid) d now empty job signature
+  pub loads : (let end = after (step H valid) saved now (thenBlocks H (job .image) empty (count (job .image))) in Installed H job now (end .device) (end .flash))
+
+abbrev pub PutBack : (H : List ℕ → List ℕ) (valid : (key message signature : List ℕ) → Bool) → Type 0
+PutBack H valid =
+    (d : Device) → senseless d ≡ false → (flash : List ℕ) (job : Job) (signature : List ℕ) → Offered H valid (step H valid) d flash empty job signature
+    → (now : List ℕ) → length (job .image .bytes) ≤ length now
+    → Restarts H valid d (step H valid d flash (programFor H job signature) .device) now job signature

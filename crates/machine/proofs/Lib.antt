@@ -1,5 +1,6 @@
 pub mod FreshLaws
 pub mod RefusalLaws
+pub mod TestLaws
 pub mod HeldLaws
 pub mod SenseLaws
 pub mod SerialLaws

@@ -1,13 +1,13 @@
 -- What is known of a message that no refusal applies to, and how to show that none does.
 use mathlib.Core.Path.{_≡_, refl, sym, ap, _∙_, subst}
-use mathlib.Core.Bool.{Bool, true, false, not, _||_, cond, true≢false}
+use mathlib.Core.Bool.{Bool, true, false, not, _||_, _&&_, cond, true≢false}
 use mathlib.Core.List.{List, [], _∷_, _++_}
 use mathlib.Core.Option.{Option, none, some}
 use Prim.Native.Nat.{ℕ, pred, _≤_, _<_}
 use native.Mathlib.Omega.{arith}
 use lib.Dec.{eqb, ltb}
 use lib.ListN.{length}
-use borrow.Author.Tests.{eqb-true, ltb-false, not-false}
+use borrow.Author.Tests.{eqb-true, eq-eqb, ltb-false, not-false}
 use Rattle.octets.specs.Octets.{equal}
 use Rattle.octets.proofs.EqualLaws.{equal-self, equal-true}
 use Rattle.merkle.specs.Shape.{shape}
@@ -16,20 +16,21 @@ use Rattle.merkle.specs.Path.{leafDepth, pathHash}
 use Rattle.merkle.specs.Held.{hashesIn}
 use Rattle.wire.specs.declared.kind.Kind.{Kind}
 use Rattle.wire.specs.declared.kind.Kind.the-variants.{Program, Block, Update, PathUpdate, Unknown}
+use Rattle.wire.specs.declared.manifest.Manifest.{Manifest}
 use Rattle.wire.specs.declared.refusal.Refusal.{Refusal}
 use Rattle.wire.specs.declared.refusal.Refusal.the-variants as refusal
 use Rattle.wire.specs.Refusal.{refusalNumber, firstThatApplies}
 use Rattle.wire.specs.Size.{wrongSize, outside}
 use Rattle.wire.specs.Geometry.{countOf, blockLength, blocksOf, treeOver}
 use Rattle.wire.specs.Message.{kind, leastLength, short, manifestBytes, manifestIn, programSignature, updateNumber, updateBlock, updateSignature, pathIn, pathSignature, dueLength, leastUpdate, leastPath}
-use Rattle.wire.proofs.SizeLaws.{Sized, sized, or-false, inside}
+use Rattle.wire.proofs.SizeLaws.{Sized, sized, or-false, and-true, inside}
 use Rattle.machine.specs.declared.state.Stage.{Stage}
 use Rattle.machine.specs.declared.state.Stage.the-variants.{Idle, Loading, Complete}
 use Rattle.machine.specs.declared.state.Device.{Device}
 use Rattle.machine.specs.declared.state.Answer.the-variants.{Accepted, Refused}
 use Rattle.machine.specs.Device.{nextOf}
-use Rattle.machine.specs.Flash.{updated}
-use Rattle.machine.specs.Refusals.{wrongVersion, senseless, otherModel, notNewer, noKind, tooSmall, notLoading, notComplete, notNext, wrongLength, mismatch, unlike, lacksRoot, strays, unsigned, ofManifest, always, ofProgram, ofBlock, ofSuccessor, ofUpdate, ofPathUpdate, ofKind, refusals}
+use Rattle.machine.specs.Flash.{stored, updated}
+use Rattle.machine.specs.Refusals.{wrongVersion, senseless, otherModel, notNewer, noKind, tooSmall, notLoading, notComplete, notNext, wrongLength, mismatch, unlike, lacksRoot, lastAltered, strays, unsigned, ofManifest, always, ofProgram, ofBlock, ofSuccessor, ofUpdate, ofPathUpdate, ofKind, refusals}
 use Rattle.machine.specs.Step.{answerOf, refusalOf}
 
 -- The test of a refusal; one that the list lacks never applies.
@@ -92,12 +93,43 @@ in-piece (f ∷ fs) rest {r} a = go (f .1) refl (in-piece fs rest)
     go true q ih = rw (q, firstThatApplies) (rw (q, firstThatApplies) at a)
     go false q ih = rw (q, firstThatApplies) (ih (rw (q, firstThatApplies) at a))
 
+-- where no test of two pieces applies, none of either does
+pub of-first : (fs rest : List (Refusal × Bool)) → firstThatApplies (fs ++ rest) ≡ none → firstThatApplies fs ≡ none
+of-first fs rest a = go (firstThatApplies fs) refl
+  where
+    go : (r : Option Refusal) → firstThatApplies fs ≡ r → firstThatApplies fs ≡ none
+    go none e = e
+    go (some r) e = absurd (let x = in-piece fs rest e in let z : _≡_ {A = ℕ} 0 1 = cc in omega arith)
+
+pub of-second : (fs rest : List (Refusal × Bool)) → firstThatApplies (fs ++ rest) ≡ none → firstThatApplies rest ≡ none
+of-second fs rest a = sym (behind-piece fs rest (of-first fs rest a)) ∙ a
+
 not-unequal : {s t : List ℕ} → s ≡ t → not (equal s t) ≡ false
 not-unequal {s} {t} e = rw e (ap not (equal-self t))
+
+-- the second of two tests, where the first is true and both together are not
+after-true : (s t : Bool) → s ≡ true → s && t ≡ false → t ≡ false
+after-true s t e q = rw e at q
+
+-- manifests that 13 does not tell apart have the same lengths
+pub alike-lengths : (s old : Manifest) → unlike s old ≡ false → (s .«block_len» ≡ old .«block_len») × (s .«image_len» ≡ old .«image_len»)
+unfolding unlike
+alike-lengths s old e = let q = and-true (eqb (s .«block_len») (old .«block_len»)) _ (not-false _ e) in (eqb-true _ _ (q .0), eqb-true _ _ (q .1))
+
+-- A tree that does not lack its root has it.
+module _ (H : List ℕ → List ℕ) (s : Manifest) (flash : List ℕ) where
+  pub has-root : lacksRoot H s flash ≡ false → treeOver H s flash ≡ s .root
+  unfolding lacksRoot
+  has-root e = equal-true _ _ (not-false _ e)
+
+  pub lacks-none : treeOver H s flash ≡ s .root → lacksRoot H s flash ≡ false
+  unfolding lacksRoot
+  lacks-none e = not-unequal e
 
 -- A device that makes sense and is loading, at block i.
 pub record Awaits (d : Device) (i : ℕ) : Type 0 where
   pub stage : d .stage ≡ Loading i
+  pub version : wrongVersion (d .manifest) ≡ false
   pub size : wrongSize (d .manifest .«block_len») (d .manifest .«image_len») ≡ false
   pub low : 0 < i
   pub high : i ≤ countOf (d .manifest)
@@ -112,7 +144,7 @@ awaits d {i} e q is = go (d .stage) refl
         let a = or-false (wrongVersion (d .manifest) || wrongSize (d .manifest .«block_len») (d .manifest .«image_len»)) _ (rw z at e) in
         let b = or-false (wrongVersion (d .manifest)) _ (a .0) in
         let k = inside _ _ (a .1) in
-        rw (is, z) (record { stage = refl; size = b .1; low = k .0; high = k .1 })
+        rw (is, z) (record { stage = refl; version = b .0; size = b .1; low = k .0; high = k .1 })
     go Complete z = absurd (true≢false (rw z at q))
 
 module _ (H : List ℕ → List ℕ) (valid : (key message signature : List ℕ) → Bool) (d : Device) (flash m : List ℕ) where
@@ -130,6 +162,7 @@ module _ (H : List ℕ → List ℕ) (valid : (key message signature : List ℕ)
     pub room : d .manifest .«image_len» ≤ length flash
     pub long : length m ≡ dueLength (d .manifest .«block_len») (d .manifest .«image_len») (nextOf (d .stage))
     pub same : mismatch H d (nextOf (d .stage)) m ≡ false
+    pub whole : nextOf (d .stage) ≡ countOf (d .manifest) → treeOver H (d .manifest) (stored (d .manifest) (nextOf (d .stage)) flash m) ≡ d .manifest .root
 
   -- of an update of either kind, with its least length and its signature
   pub record Successor (least : ℕ) (signature : List ℕ) : Type 0 where
@@ -151,6 +184,7 @@ module _ (H : List ℕ → List ℕ) (valid : (key message signature : List ℕ)
 
   pub record UpdatePassed : Type 0 where
     pub successor : Successor (leastUpdate (manifestIn m .«block_len») (manifestIn m .«image_len») (updateNumber m)) (updateSignature newLength m)
+    pub intact : treeOver H (d .manifest) flash ≡ d .manifest .root
     pub rooted : treeOver H (manifestIn m) (updated (manifestIn m) flash m) ≡ manifestIn m .root
 
   -- what the message's siblings and a block lead to
@@ -191,8 +225,9 @@ module _ (H : List ℕ → List ℕ) (valid : (key message signature : List ℕ)
     pub turn : notNext (nextOf (d .stage)) m ≡ false
     pub size : wrongLength (d .manifest) (nextOf (d .stage)) m ≡ false
     pub same : mismatch H d (nextOf (d .stage)) m ≡ false
+    pub whole : lastAltered H (d .manifest) (nextOf (d .stage)) flash m ≡ false
 
-  -- an update of either kind, with its least length and its signature: no test applies up to that of the signature
+  -- an update of either kind, with its least length and its signature: no test applies up to that of the signature, but for 19, which an update by a path lacks
   pub record SuccessorDue (k : Kind) (least : ℕ) (signature : List ℕ) : Type 0 where
     pub is : kind m ≡ k
     pub sense : senseless d ≡ false
@@ -229,7 +264,7 @@ module _ (H : List ℕ → List ℕ) (valid : (key message signature : List ℕ)
       }
 
   pub block-passed : kind m ≡ Block → refusalOf H valid d flash m ≡ none → BlockPassed
-  unfolding refusals always ofKind ofBlock testOf tooSmall wrongLength
+  unfolding refusals always ofKind ofBlock testOf tooSmall wrongLength lastAltered
   block-passed k a =
       record {
         awaited = awaits d (without refusal.State Block k a) (without refusal.Stage Block k a) refl;
@@ -237,14 +272,21 @@ module _ (H : List ℕ → List ℕ) (valid : (key message signature : List ℕ)
         room = ltb-false _ _ (without refusal.Area Block k a);
         long = eqb-true _ _ (not-false _ (without refusal.Length Block k a));
         same = without refusal.Mismatch Block k a;
+        whole = λ e. has-root H _ _ (after-true _ _ (eq-eqb _ _ e) (without refusal.Altered Block k a));
       }
 
-  -- an update of either kind that no refusal applies to
-  successor-passed : (k : Kind) {least : ℕ} {signature : List ℕ} (rest : List (Refusal × Bool))
-      → firstThatApplies (always k d m ++ (ofSuccessor d flash (manifestIn m) (updateNumber m) ++ ((refusal.Length, ltb (length m) least) ∷ (refusal.Unsigned, unsigned valid d (manifestBytes m) signature) ∷ rest))) ≡ none
+  -- what an update of either kind meets behind its own tests: 11, 12, 9, then others
+  abbrev ofRest : ℕ → List ℕ → List (Refusal × Bool) → List (Refusal × Bool)
+  ofRest least signature rest =
+      (refusal.Turn, outside (countOf (manifestIn m)) (updateNumber m)) ∷ (refusal.Length, ltb (length m) least) ∷ (refusal.Unsigned, unsigned valid d (manifestBytes m) signature) ∷ rest
+
+  -- an update of either kind that no refusal applies to; `own` are tests that one kind has in the middle
+  successor-passed : (k : Kind) {least : ℕ} {signature : List ℕ} (own rest : List (Refusal × Bool))
+      → firstThatApplies (always k d m ++ (ofSuccessor d flash (manifestIn m) ++ (own ++ ofRest least signature rest))) ≡ none
       → Successor least signature
   unfolding always ofManifest ofSuccessor testOf tooSmall unsigned
-  successor-passed k rest a =
+  successor-passed k own rest a =
+      let b = of-second own _ (of-second (ofSuccessor d flash (manifestIn m)) _ (of-second (always k d m) _ a)) in
       record {
         complete = clear refusal.Stage _ a;
         version = clear refusal.Version _ a;
@@ -252,20 +294,25 @@ module _ (H : List ℕ → List ℕ) (valid : (key message signature : List ℕ)
         newer = clear refusal.Serial _ a;
         alike = clear refusal.Unlike _ a;
         room = ltb-false _ _ (clear refusal.Area _ a);
-        turn = inside _ _ (clear refusal.Turn _ a);
-        long = ltb-false _ _ (clear refusal.Length _ a);
-        signed = not-false _ (clear refusal.Unsigned _ a);
+        turn = inside _ _ (clear refusal.Turn _ b);
+        long = ltb-false _ _ (clear refusal.Length _ b);
+        signed = not-false _ (clear refusal.Unsigned _ b);
       }
 
   pub update-passed : kind m ≡ Update → refusalOf H valid d flash m ≡ none → UpdatePassed
-  unfolding refusals always ofKind ofManifest ofSuccessor ofUpdate testOf lacksRoot
-  update-passed k a = record { successor = successor-passed Update _ (unrefused Update k a); rooted = equal-true _ _ (not-false _ (without refusal.Mismatch Update k a)) }
+  unfolding refusals always ofKind ofManifest ofSuccessor ofUpdate testOf
+  update-passed k a =
+      record {
+        successor = successor-passed Update ((refusal.Altered, lacksRoot H (d .manifest) flash) ∷ []) _ (unrefused Update k a);
+        intact = has-root H _ _ (without refusal.Altered Update k a);
+        rooted = has-root H _ _ (without refusal.Mismatch Update k a);
+      }
 
   pub path-passed : kind m ≡ PathUpdate → refusalOf H valid d flash m ≡ none → PathPassed
   unfolding refusals always ofKind ofManifest ofSuccessor ofPathUpdate testOf strays
   path-passed k a =
       record {
-        successor = successor-passed PathUpdate _ (unrefused PathUpdate k a);
+        successor = successor-passed PathUpdate [] _ (unrefused PathUpdate k a);
         old = equal-true _ _ (not-false _ (without refusal.Path PathUpdate k a));
         new = equal-true _ _ (not-false _ (without refusal.Mismatch PathUpdate k a));
       }
@@ -308,11 +355,11 @@ module _ (H : List ℕ → List ℕ) (valid : (key message signature : List ℕ)
   unfolding refusalOf refusals always ofKind ofBlock noKind firstThatApplies
   due-unrefused w =
       subst (λ k. firstThatApplies (refusals H valid k d flash m) ≡ none) (sym (w .is))
-      ((start (refusals H valid Block d flash m) past w .sense past refl past w .head past w .loading past w .area past w .turn past w .size past w .same) .same)
+      ((start (refusals H valid Block d flash m) past w .sense past refl past w .head past w .loading past w .area past w .turn past w .size past w .same past w .whole) .same)
 
   -- what updates of both kinds meet first is past
   successor-past : {k : Kind} {least : ℕ} {signature : List ℕ} → SuccessorDue k least signature → noKind k ≡ false → (rest : List (Refusal × Bool))
-      → Passes (always k d m ++ (ofSuccessor d flash (manifestIn m) (updateNumber m) ++ ((refusal.Length, ltb (length m) least) ∷ (refusal.Unsigned, unsigned valid d (manifestBytes m) signature) ∷ rest))) rest
+      → Passes (always k d m ++ (ofSuccessor d flash (manifestIn m) ++ rest)) rest
   unfolding always ofManifest ofSuccessor
   successor-past w known rest =
       start _
@@ -326,15 +373,18 @@ module _ (H : List ℕ → List ℕ) (valid : (key message signature : List ℕ)
       past w .serial
       past w .alike
       past w .area
-      past w .turn
-      past w .long
-      past w .signed
+
+  -- .. and what they meet behind the tests of one of them
+  rest-past : {k : Kind} {least : ℕ} {signature : List ℕ} → SuccessorDue k least signature → {es rest : List (Refusal × Bool)} → Passes es (ofRest least signature rest) → Passes es rest
+  rest-past w p = p past w .turn past w .long past w .signed
 
   pub update-unrefused : SuccessorDue Update (leastUpdate (manifestIn m .«block_len») (manifestIn m .«image_len») (updateNumber m)) (updateSignature newLength m)
-      → treeOver H (manifestIn m) (updated (manifestIn m) flash m) ≡ manifestIn m .root → refusalOf H valid d flash m ≡ none
-  unfolding refusalOf refusals ofKind ofUpdate noKind lacksRoot firstThatApplies
-  update-unrefused w rooted =
-      subst (λ k. firstThatApplies (refusals H valid k d flash m) ≡ none) (sym (w .is)) ((successor-past w refl _ past not-unequal rooted) .same)
+      → treeOver H (d .manifest) flash ≡ d .manifest .root → treeOver H (manifestIn m) (updated (manifestIn m) flash m) ≡ manifestIn m .root
+      → refusalOf H valid d flash m ≡ none
+  unfolding refusalOf refusals ofKind ofUpdate noKind firstThatApplies
+  update-unrefused w intact rooted =
+      subst (λ k. firstThatApplies (refusals H valid k d flash m) ≡ none) (sym (w .is))
+      ((rest-past w (successor-past w refl _ past lacks-none H _ _ intact) past lacks-none H _ _ rooted) .same)
 
   pub path-unrefused : SuccessorDue PathUpdate (leastPath (manifestIn m .«block_len») (manifestIn m .«image_len») (updateNumber m)) (pathSignature newLength newDepth m)
       → ledTo (blocksOf (manifestIn m) flash (pred (updateNumber m))) ≡ d .manifest .root → ledTo (updateBlock newLength m) ≡ manifestIn m .root
@@ -342,4 +392,4 @@ module _ (H : List ℕ → List ℕ) (valid : (key message signature : List ℕ)
   unfolding refusalOf refusals ofKind ofPathUpdate noKind strays firstThatApplies
   path-unrefused w old new =
       subst (λ k. firstThatApplies (refusals H valid k d flash m) ≡ none) (sym (w .is))
-      ((successor-past w refl _ past not-unequal old past not-unequal new) .same)
+      ((rest-past w (successor-past w refl _) past not-unequal old past not-unequal new) .same)

@@ -13,6 +13,7 @@ use Rattle.machine.specs.declared.state.Device.{Device}
 use Rattle.machine.specs.Device.{Fresh, freshWith, serialOf}
 use Rattle.machine.specs.Refusals.{refusals}
 use Rattle.machine.specs.Step.{refusalOf}
+use Rattle.machine.specs.BootCheck.{ofBoot}
 
 -- A device as `freshWith` makes it is fresh, with any model and key: the list that demand 3 speaks of starts there.
 abbrev pub FreshIs : Type 0
@@ -25,12 +26,14 @@ numbers (e ∷ es) = refusalNumber (e .0) ∷ numbers es
 
 module _ (H : List ℕ → List ℕ) (valid : (key message signature : List ℕ) → Bool) (d : Device) (flash m : List ℕ) where
   -- "Order, first that applies: always 1, 2, 3; then kind 1: 4, 5, 6, 7, 8, 9. Kind 2: 10, 8, 11, 12, 14. Kind 3: 10, 4, 5, 6, 7, 13, 8, 11, 12, 9, 14."
-  -- Kind 4 (02, change 1): "All of kind 3's checks apply", and 15 "after 9 and before 14".
+  -- Kind 4 (02, change 1): "All of kind 3's checks apply", and 15 "after 9 and before 14". 19 (02, change 5): "for kind 3 between 8 and 11, for the last block
+  -- after 14"; for kind 4 none.
   pub record Orders : Type 0 where
     pub program : numbers (refusals H valid Program d flash m) ≡ 1 ∷ 2 ∷ 3 ∷ 4 ∷ 5 ∷ 6 ∷ 7 ∷ 8 ∷ 9 ∷ []
-    pub block : numbers (refusals H valid Block d flash m) ≡ 1 ∷ 2 ∷ 3 ∷ 10 ∷ 8 ∷ 11 ∷ 12 ∷ 14 ∷ []
-    pub update : numbers (refusals H valid Update d flash m) ≡ 1 ∷ 2 ∷ 3 ∷ 10 ∷ 4 ∷ 5 ∷ 6 ∷ 7 ∷ 13 ∷ 8 ∷ 11 ∷ 12 ∷ 9 ∷ 14 ∷ []
+    pub block : numbers (refusals H valid Block d flash m) ≡ 1 ∷ 2 ∷ 3 ∷ 10 ∷ 8 ∷ 11 ∷ 12 ∷ 14 ∷ 19 ∷ []
+    pub update : numbers (refusals H valid Update d flash m) ≡ 1 ∷ 2 ∷ 3 ∷ 10 ∷ 4 ∷ 5 ∷ 6 ∷ 7 ∷ 13 ∷ 8 ∷ 19 ∷ 11 ∷ 12 ∷ 9 ∷ 14 ∷ []
     pub pathUpdate : numbers (refusals H valid PathUpdate d flash m) ≡ 1 ∷ 2 ∷ 3 ∷ 10 ∷ 4 ∷ 5 ∷ 6 ∷ 7 ∷ 13 ∷ 8 ∷ 11 ∷ 12 ∷ 9 ∷ 15 ∷ 14 ∷ []
+    pub boot : numbers (ofBoot H d flash) ≡ 1 ∷ 10 ∷ 8 ∷ 19 ∷ []
 
   -- "The serial is compared as a plain number and has no wrap: after 4,294,967,295 no slip is accepted."
   abbrev pub LastSerial : Type 0

@@ -3,4 +3,5 @@ pub mod Flash
 pub mod Refusals
 pub mod Step
 pub mod Readers
+pub mod BootCheck
 pub mod Claims

@@ -22,7 +22,7 @@ use Rattle.machine.specs.declared.state.Stage.{Stage}
 use Rattle.machine.specs.declared.state.Stage.the-variants.{Idle, Loading, Complete}
 use Rattle.machine.specs.declared.state.Device.{Device}
 use Rattle.machine.specs.Device.{serialOf, nextOf, heldBy}
-use Rattle.machine.specs.Flash.{updated}
+use Rattle.machine.specs.Flash.{stored, updated}
 
 -- 4: version not 1
 unfoldable pub wrongVersion : Manifest → Bool
@@ -80,9 +80,14 @@ module _ (H : List ℕ → List ℕ) where
       let k = blockLength (s .«block_len») (s .«image_len») i in
       not (equal (getD (heldBy d) 0 []) (climb (plain H) (blockIn k m) (hashesIn (carriedCount (countOf s) i) (hashesAfter k m))))
 
-  -- 14 for kind 3: the tree over the flash with the new block lacks the new root
+  -- The tree over the flash lacks the manifest's root. 14 for kind 3: of the flash with the new block, and the new manifest. 19 for kind 3 (02, change 5): of "the
+  -- area as handed in", and "the held slip's root"
   unfoldable pub lacksRoot : Manifest → List ℕ → Bool
   lacksRoot s flash = not (equal (treeOver H s flash) (s .root))
+
+  -- 19 for kind 2: "The last block of a download does the same for the whole area with that block in place"; s is the manifest held
+  unfoldable pub lastAltered : Manifest → (i : ℕ) → (flash m : List ℕ) → Bool
+  lastAltered s i flash m = eqb i (countOf s) && lacksRoot s (stored s i flash m)
 
   -- 15 and 14 for kind 4: block i with these siblings does not lead to the root
   unfoldable pub strays : Manifest → (i : ℕ) → (block siblings root : List ℕ) → Bool
@@ -117,7 +122,7 @@ ofProgram valid d flash m s =
     ∷ (refusal.Unsigned, unsigned valid d (manifestBytes m) (programSignature m))
     ∷ [])
 
--- "Kind 2: 10, 8, 11, 12, 14"; i is the next number
+-- "Kind 2: 10, 8, 11, 12, 14", and 19 "for the last block after 14"; i is the next number
 unfoldable pub ofBlock : (H : List ℕ → List ℕ) → Device → (flash m : List ℕ) → ℕ → List (Refusal × Bool)
 ofBlock H d flash m i =
     (refusal.Stage, notLoading (d .stage))
@@ -125,37 +130,41 @@ ofBlock H d flash m i =
     ∷ (refusal.Turn, notNext i m)
     ∷ (refusal.Length, wrongLength (d .manifest) i m)
     ∷ (refusal.Mismatch, mismatch H d i m)
+    ∷ (refusal.Altered, lastAltered H (d .manifest) i flash m)
     ∷ []
 
--- 10, 4, 5, 6, 7, 13, 8, 11: what an update of either kind meets first; s is the manifest that it carries, i its number
-unfoldable pub ofSuccessor : Device → List ℕ → Manifest → ℕ → List (Refusal × Bool)
-ofSuccessor d flash s i =
+-- 10, 4, 5, 6, 7, 13, 8: what an update of either kind meets first; s is the manifest that it carries
+unfoldable pub ofSuccessor : Device → List ℕ → Manifest → List (Refusal × Bool)
+ofSuccessor d flash s =
     (refusal.Stage, notComplete (d .stage))
     ∷ ofManifest d s
     ++ ((refusal.Unlike, unlike s (d .manifest))
     ∷ (refusal.Area, tooSmall s flash)
-    ∷ (refusal.Turn, outside (countOf s) i)
     ∷ [])
 
 module _ (H : List ℕ → List ℕ) (valid : (key message signature : List ℕ) → Bool) where
-  -- "Kind 3: 10, 4, 5, 6, 7, 13, 8, 11, 12, 9, 14"; s is the manifest that the message carries, i its number
+  -- "Kind 3: 10, 4, 5, 6, 7, 13, 8, 11, 12, 9, 14", and 19 "between 8 and 11"; s is the manifest that the message carries, i its number
   unfoldable pub ofUpdate : Device → (flash m : List ℕ) → Manifest → ℕ → List (Refusal × Bool)
   ofUpdate d flash m s i =
       let k = blockLength (s .«block_len») (s .«image_len») i in
-      ofSuccessor d flash s i
-      ++ ((refusal.Length, ltb (length m) (leastUpdate (s .«block_len») (s .«image_len») i))
+      ofSuccessor d flash s
+      ++ ((refusal.Altered, lacksRoot H (d .manifest) flash)
+      ∷ (refusal.Turn, outside (countOf s) i)
+      ∷ (refusal.Length, ltb (length m) (leastUpdate (s .«block_len») (s .«image_len») i))
       ∷ (refusal.Unsigned, unsigned valid d (manifestBytes m) (updateSignature k m))
       ∷ (refusal.Mismatch, lacksRoot H s (updated s flash m))
       ∷ [])
 
-  -- Kind 4 (02, change 1): "All of kind 3's checks apply"; 15 "if the old block doesn't lead to the held root, after 9 and before 14, here for the new root"
+  -- Kind 4 (02, change 1): "All of kind 3's checks apply", but for 19 (change 5: it "keeps the old assumption"); 15 "if the old block doesn't lead to the held
+  -- root, after 9 and before 14, here for the new root"
   unfoldable pub ofPathUpdate : Device → (flash m : List ℕ) → Manifest → ℕ → List (Refusal × Bool)
   ofPathUpdate d flash m s i =
       let k = blockLength (s .«block_len») (s .«image_len») i in
       let depth = leafDepth (countOf s) (pred i) in
       let siblings = pathIn k depth m in
-      ofSuccessor d flash s i
-      ++ ((refusal.Length, ltb (length m) (leastPath (s .«block_len») (s .«image_len») i))
+      ofSuccessor d flash s
+      ++ ((refusal.Turn, outside (countOf s) i)
+      ∷ (refusal.Length, ltb (length m) (leastPath (s .«block_len») (s .«image_len») i))
       ∷ (refusal.Unsigned, unsigned valid d (manifestBytes m) (pathSignature k depth m))
       ∷ (refusal.Path, strays H s i (blocksOf s flash (pred i)) siblings (d .manifest .root))
       ∷ (refusal.Mismatch, strays H s i (updateBlock k m) siblings (s .root))

@@ -21,6 +21,7 @@ pub enum Refusal {
     Text,
     Place,
     Twice,
+    Altered,
 }
 
 // Its number there.
@@ -46,5 +47,6 @@ pub fn refusal_number(refusal: Refusal) -> u8
         Refusal::Text => 16,
         Refusal::Place => 17,
         Refusal::Twice => 18,
+        Refusal::Altered => 19,
     }
 }

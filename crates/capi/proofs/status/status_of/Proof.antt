@@ -2,7 +2,8 @@ use mathlib.Core.Path.{_∙_}
 use Rattle.machine.specs.Device.{serialOf, nextOf}
 use Rattle.capi.specs.State.{stageNumber}
 use Rattle.capi.specs.Status.{unlessIdle, statusOf}
-use Rattle.capi.proofs.StatusLaws.{loading, complete}
+use Rattle.machine.proofs.SenseLaws.{complete-size}
+use Rattle.capi.proofs.StatusLaws.{loading}
 use borrow.Author.Needs.{needs}
 use Rattle.capi.proofs.status.status_of.Statement.{statement}
 use Rattle.capi.proofs.status.status_of.Tie as tie
@@ -29,7 +30,7 @@ enum-told-2 : tie.Need-enum-told-2
 enum-told-2 c = search needs
 
 with-manifest-requires-2 : tie.Need-with-manifest-requires-2
-with-manifest-requires-2 c κs = complete _ (c .before .before .before .pre) (c .enum-told2 .given .1)
+with-manifest-requires-2 c κs = complete-size _ (c .before .before .before .pre) (c .enum-told2 .given .1)
 
 returns : tie.Need-returns
 unfolding statusOf unlessIdle nextOf serialOf stageNumber

@@ -1,10 +1,15 @@
-use mathlib.Core.Path.{sym}
+use mathlib.Core.Path.{sym, ap, _∙_}
+use mathlib.Core.Bool.{not}
+use lib.ListN.{take}
 use lib.Seq.{length-take-le}
 use borrow.Author.Tests.{ltb-false}
+use Rattle.octets.specs.Octets.{equal}
 use Rattle.sha256.specs.Sha256.{digest}
-use Rattle.wire.proofs.SizeLaws.{inside}
-use Rattle.machine.specs.Refusals.{tooSmall}
-use Rattle.device.proofs.ConditionLaws.{rest-fits, lacks-is}
+use Rattle.merkle.specs.Blocks.{cut}
+use Rattle.merkle.specs.Hash.{plain, rootOver}
+use Rattle.wire.specs.Geometry.{blocksOf, treeOver}
+use Rattle.machine.specs.Refusals.{tooSmall, lacksRoot}
+use Rattle.device.proofs.ConditionLaws.{rest-fits}
 use borrow.Author.Needs.{needs}
 use Rattle.device.proofs.conditions.lacks_root.Statement.{statement}
 use Rattle.device.proofs.conditions.lacks_root.Tie as tie
@@ -12,22 +17,19 @@ use Rattle.device.proofs.conditions.lacks_root.Tie as tie
 cast-end : tie.Need-cast-end
 cast-end c = search needs
 
-slice-aggregate-root-with : tie.Need-slice-aggregate-root-with
+slice-aggregate-root : tie.Need-slice-aggregate-root
 unfolding tooSmall
-slice-aggregate-root-with c = let s = c .before .before .before .before .before in sym (length-take-le (s .args .manifest .«image_len») (s .args .flash .now) (ltb-false _ _ (s .pre .1)))
+slice-aggregate-root c = let s = c .before .before .before .before in sym (length-take-le (s .args .manifest .«image_len») (s .args .flash .now) (ltb-false _ _ (s .pre .1)))
 
-cast-root-with : tie.Need-cast-root-with
-cast-root-with c = search needs
+cast-root : tie.Need-cast-root
+cast-root c = search needs
 
 count-requires : tie.Need-count-requires
 count-requires c κs = search needs
 
-sub-root-with : tie.Need-sub-root-with
-sub-root-with c = inside _ _ (c .before .before .before .before .before .before .before .pre .2) .0
-
-root-with-requires : tie.Need-root-with-requires
-root-with-requires c κs =
-    let s = c .before .before .before .before .before .before .before in
+root-requires : tie.Need-root-requires
+root-requires c κs =
+    let s = c .before .before .before .before .before .before in
     rest-fits _ _ _ (s .pre .0) (s .pre .1) (c .count .ensures)
 
 slice-aggregate-equal : tie.Need-slice-aggregate-equal
@@ -40,24 +42,23 @@ equal-requires : tie.Need-equal-requires
 equal-requires c κs = search needs
 
 returns : tie.Need-returns
+unfolding lacksRoot treeOver blocksOf
 returns c =
     let e = c .before .before .before in
     let n = e .before in
-    let s = n .before .before .before .before .before .before .before in
-    let z = inside _ _ (s .pre .2) in
-    lacks-is (s .args .manifest) (s .args .flash .now) digest (s .args .block .now) (s .args .number) (n .count .result) (e .root-with .result) _ (s .pre .1) (z .0) (z .1)
-    (n .count .ensures) (s .pre .3) (e .root-with .ensures) (c .equal .ensures)
+    let a = n .before .before .before .before .before .before .args in
+    let s = a .manifest in
+    ap not (c .equal .ensures ∙ ap (λ y. equal y (s .root)) (e .root2 .ensures ∙ ap (rootOver (plain digest) (cut (s .«block_len») (take (s .«image_len») (a .flash .now)))) (n .count .ensures)))
 
 pub lacks-root-spec : {M : Type 1} → statement M
 lacks-root-spec =
     tie.close
     (tie.spec
     cast-end
-    slice-aggregate-root-with
-    cast-root-with
+    slice-aggregate-root
+    cast-root
     count-requires
-    sub-root-with
-    root-with-requires
+    root-requires
     slice-aggregate-equal
     slice-aggregate-equal-2
     equal-requires

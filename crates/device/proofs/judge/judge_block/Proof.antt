@@ -37,6 +37,10 @@ long : (c : tie.Else4) → Past refusal.Length (c .before .before .before .befor
 unfolding ofBlock behind
 long c = turn (c .before .before) past (sym (c .before .wrong-length .ensures) ∙ c .if4 .left)
 
+same : (c : tie.Else5) → Past refusal.Mismatch (c .before .before .before .before .before .before .before .before .before)
+unfolding ofBlock behind
+same c = long (c .before .before) past (sym (c .before .mismatch .ensures) ∙ c .if5 .left)
+
 -- a block is awaited
 awaited : (c : tie.After-next-of) → Awaits (c .before .before .before .before .before .args .device) (c .next-of .result)
 awaited c = awaits _ (c .before .before .before .before .before .pre .0) (sym (c .before .before .not-loading .ensures) ∙ c .before .if1 .left) (c .next-of .ensures)
@@ -81,9 +85,19 @@ returns-5 : tie.Need-returns-5
 unfolding ofBlock behind
 returns-5 c = refused (long (c .before .before)) (sym (c .before .mismatch .ensures) ∙ c .if5 .taken)
 
+last-altered-requires : tie.Need-last-altered-requires
+last-altered-requires c κs =
+    let w = awaited (c .before .before .before .before .before .before .before .before .before) in
+    let l = c .before .before in
+    (w .size, sym (l .before .before .before .before .before .too-small .ensures) ∙ l .before .before .before .before .if2 .left, w .low, w .high, sym (l .before .wrong-length .ensures) ∙ l .if4 .left)
+
 returns-6 : tie.Need-returns-6
 unfolding ofBlock behind
-returns-6 c = accepted (long (c .before .before) past (sym (c .before .mismatch .ensures) ∙ c .if5 .left))
+returns-6 c = refused (same (c .before .before)) (sym (c .before .last-altered .ensures) ∙ c .if6 .taken)
+
+returns-7 : tie.Need-returns-7
+unfolding ofBlock behind
+returns-7 c = accepted (same (c .before .before) past (sym (c .before .last-altered .ensures) ∙ c .if6 .left))
 
 pub judge-block-spec : {M : Type 1} → statement M
 judge-block-spec =
@@ -100,4 +114,6 @@ judge-block-spec =
     returns-4
     mismatch-requires
     returns-5
-    returns-6)
+    last-altered-requires
+    returns-6
+    returns-7)

@@ -59,58 +59,65 @@ depth j = leafDepth (countOf (manifest j)) (pred (number j))
 abbrev siblings : tie.After-judge-successor → List ℕ
 siblings j = pathIn (size j) (depth j) (message j)
 
-turn : (c : tie.After-enum-told) → Past refusal.Turn (c .before .before)
+-- the first tests do not apply
+area : (c : tie.After-enum-told) → Past refusal.Area (c .before .before)
 unfolding ofPathUpdate ofSuccessor ofManifest behind
-turn c =
+area c =
     let j = c .before .before in
-    past-all (ofSuccessor (start-of j .args .device) (start-of j .args .flash .now) (manifest j) (number j)) _ (told j) (sym (c .enum-told .given .1) ∙ j .judge-successor .ensures)
+    past-all (ofSuccessor (start-of j .args .device) (start-of j .args .flash .now) (manifest j)) _ (told j) (sym (c .enum-told .given .1) ∙ j .judge-successor .ensures)
 
-long : (c : tie.Else1) → Past refusal.Length (c .before .before .before .before)
+turn : (c : tie.Else1) → Past refusal.Turn (c .before .before .before .before)
 unfolding ofPathUpdate ofSuccessor ofManifest behind
-long c = turn (c .before .before) past (sym (c .before .cut-path .ensures) ∙ c .if1 .left)
+turn c = area (c .before .before) past (sym (c .before .outside .ensures) ∙ c .if1 .left)
+
+long : (c : tie.Else2) → Past refusal.Length (c .before .before .before .before .before .before)
+unfolding ofPathUpdate ofSuccessor ofManifest behind
+long c = turn (c .before .before) past (sym (c .before .cut-path .ensures) ∙ c .if2 .left)
 
 -- the message has the block and its siblings whole
-enough : (c : tie.After-leaf-depth) → leastLength Update + c .before .own-len .result + hashLength * c .leaf-depth .result ≤ length (message (c .before .before .before .before .before .before))
+enough : (c : tie.After-leaf-depth) → leastLength Update + c .before .own-len .result + hashLength * c .leaf-depth .result ≤ length (message (c .before .before .before .before .before .before .before .before))
 unfolding leastUpdate leastPath countOf
-enough c = rw (c .before .own-len .ensures, c .leaf-depth .ensures) (ltb-false _ _ (sym (c .before .before .before .cut-path .ensures) ∙ c .before .before .if1 .left))
+enough c = rw (c .before .own-len .ensures, c .leaf-depth .ensures) (ltb-false _ _ (sym (c .before .before .before .cut-path .ensures) ∙ c .before .before .if2 .left))
 
 -- the verdict on manifest and signature, as they stand in the message
-verdict : (c : tie.After-unsigned) → let j = c .before .before .before .before .before .before .before .before .before in c .unsigned .result ≡ unsigned valid (start-of j .args .device) (manifestBytes (message j)) (pathSignature (size j) (depth j) (message j))
+verdict : (c : tie.After-unsigned) → let j = c .before .before .before .before .before .before .before .before .before .before .before in c .unsigned .result ≡ unsigned valid (start-of j .args .device) (manifestBytes (message j)) (pathSignature (size j) (depth j) (message j))
 verdict c =
-    let j = c .before .before .before .before .before .before .before .before .before in
+    let j = c .before .before .before .before .before .before .before .before .before .before .before in
     let d = c .before .before .before in
     c .unsigned .ensures ∙ ap₂ (unsigned valid _) (c .before .before .manifest-bytes .ensures) (c .before .path-signature .ensures ∙ ap₂ (λ k d. pathSignature k d (message j)) (d .before .own-len .ensures) (d .leaf-depth .ensures))
 
-signed : (c : tie.Else2) → Past refusal.Unsigned (c .before .before .before .before .before .before .before .before .before .before)
+signed : (c : tie.Else3) → Past refusal.Unsigned (c .before .before .before .before .before .before .before .before .before .before .before .before)
 unfolding ofPathUpdate ofSuccessor ofManifest behind
-signed c = long (c .before .before .before .before .before .before) past (sym (verdict (c .before)) ∙ c .if2 .left)
+signed c = long (c .before .before .before .before .before .before) past (sym (verdict (c .before)) ∙ c .if3 .left)
 
-siblings-are : (c : tie.After-path-in) → c .path-in .result .now ≡ siblings (c .before .before .before .before .before .before .before .before .before .before .before)
-siblings-are c = let d = c .before .before .before .before .before in c .path-in .ensures ∙ ap₂ (λ k d. pathIn k d (message (c .before .before .before .before .before .before .before .before .before .before .before))) (d .before .own-len .ensures) (d .leaf-depth .ensures)
+siblings-are : (c : tie.After-path-in) → c .path-in .result .now ≡ siblings (c .before .before .before .before .before .before .before .before .before .before .before .before .before)
+siblings-are c = let d = c .before .before .before .before .before in c .path-in .ensures ∙ ap₂ (λ k d. pathIn k d (message (c .before .before .before .before .before .before .before .before .before .before .before .before .before))) (d .before .own-len .ensures) (d .leaf-depth .ensures)
 
 -- the old block and the new one, each with the siblings
-from : (c : tie.After-strays) → let j = c .before .before .before .before .before .before .before .before .before .before .before .before .before .before .before in c .strays .result ≡ strays digest (manifest j) (number j) (blocksOf (manifest j) (start-of j .args .flash .now) (pred (number j))) (siblings j) (start-of j .args .device .manifest .root)
-from c = let j = c .before .before .before .before .before .before .before .before .before .before .before .before .before .before .before in c .strays .ensures ∙ ap₂ (λ b y. strays digest (manifest j) (number j) b y (start-of j .args .device .manifest .root)) (c .before .before .before .old-block .ensures) (siblings-are (c .before .before .before .before))
+from : (c : tie.After-strays) → let j = c .before .before .before .before .before .before .before .before .before .before .before .before .before .before .before .before .before in c .strays .result ≡ strays digest (manifest j) (number j) (blocksOf (manifest j) (start-of j .args .flash .now) (pred (number j))) (siblings j) (start-of j .args .device .manifest .root)
+from c = let j = c .before .before .before .before .before .before .before .before .before .before .before .before .before .before .before .before .before in c .strays .ensures ∙ ap₂ (λ b y. strays digest (manifest j) (number j) b y (start-of j .args .device .manifest .root)) (c .before .before .before .old-block .ensures) (siblings-are (c .before .before .before .before))
 
-rooted : (c : tie.Else3) → Past refusal.Path (c .before .before .before .before .before .before .before .before .before .before .before .before .before .before .before .before)
+rooted : (c : tie.Else4) → Past refusal.Path (c .before .before .before .before .before .before .before .before .before .before .before .before .before .before .before .before .before .before)
 unfolding ofPathUpdate ofSuccessor ofManifest behind
-rooted c = signed (c .before .before .before .before .before .before) past (sym (from (c .before)) ∙ c .if3 .left)
+rooted c = signed (c .before .before .before .before .before .before) past (sym (from (c .before)) ∙ c .if4 .left)
 
-to : (c : tie.After-strays2) → let j = c .before .before .before .before .before .before .before .before .before .before .before .before .before .before .before .before .before .before .before .before in c .strays2 .result ≡ strays digest (manifest j) (number j) (updateBlock (size j) (message j)) (siblings j) (manifest j .root)
+to : (c : tie.After-strays2) → let j = c .before .before .before .before .before .before .before .before .before .before .before .before .before .before .before .before .before .before .before .before .before .before in c .strays2 .result ≡ strays digest (manifest j) (number j) (updateBlock (size j) (message j)) (siblings j) (manifest j .root)
 to c =
-    let j = c .before .before .before .before .before .before .before .before .before .before .before .before .before .before .before .before .before .before .before .before in
+    let j = c .before .before .before .before .before .before .before .before .before .before .before .before .before .before .before .before .before .before .before .before .before .before in
     c .strays2 .ensures ∙ ap₂ (λ b y. strays digest (manifest j) (number j) b y (manifest j .root)) (c .before .before .before .update-block .ensures ∙ ap (λ k. updateBlock k (message j)) (c .before .before .before .before .before .before .before .before .before .before .before .before .before .before .before .own-len .ensures)) (siblings-are (c .before .before .before .before .before .before .before .before .before))
 
--- what the first tests have shown
-known : (c : tie.After-enum-told) → let j = c .before .before in Known (manifest j) (start-of j .args .flash .now) (number j)
-known c = successor-known _ _ _ _ (c .before .before .judge-successor .ensures) (c .enum-told .given .1)
+-- what the tests have shown
+known : (c : tie.After-enum-told) → let j = c .before .before in Known (manifest j) (start-of j .args .flash .now)
+known c = successor-known _ _ _ (c .before .before .judge-successor .ensures) (c .enum-told .given .1)
 
-strays-needs : (c : tie.After-path-in) → let j = c .before .before .before .before .before .before .before .before .before .before .before in
+within : (c : tie.Else1) → let j = c .before .before .before .before in outside (countOf (manifest j)) (number j) ≡ false
+within c = sym (c .before .outside .ensures) ∙ c .if1 .left
+
+strays-needs : (c : tie.After-path-in) → let j = c .before .before .before .before .before .before .before .before .before .before .before .before .before in
     (wrongSize (manifest j .«block_len») (manifest j .«image_len») ≡ false) × (outside (countOf (manifest j)) (number j) ≡ false) × (length (c .path-in .result .now) ≡ hashLength * depth j)
 strays-needs c =
     let d = c .before .before .before .before .before in
-    let p = known (c .before .before .before .before .before .before .before .before .before) in
-    (p .0, p .2, ap length (c .path-in .ensures) ∙ length-path-in _ (message (c .before .before .before .before .before .before .before .before .before .before .before)) _ (enough d) ∙ ap (λ k. hashLength * k) (d .leaf-depth .ensures))
+    (known (c .before .before .before .before .before .before .before .before .before .before .before) .0, within (c .before .before .before .before .before .before .before .before .before), ap length (c .path-in .ensures) ∙ length-path-in _ (message (c .before .before .before .before .before .before .before .before .before .before .before .before .before)) _ (enough d) ∙ ap (λ k. hashLength * k) (d .leaf-depth .ensures))
 
 manifest-in-requires : tie.Need-manifest-in-requires
 manifest-in-requires c κs = search needs
@@ -132,20 +139,27 @@ unfolding ofPathUpdate
 returns c =
     let j = c .before .before in
     let e = c .enum-told2 .given .1 in
-    e ∙ refused-in (ofSuccessor (start-of j .args .device) (start-of j .args .flash .now) (manifest j) (number j)) _ (told j) (sym e ∙ j .judge-successor .ensures)
+    e ∙ refused-in (ofSuccessor (start-of j .args .device) (start-of j .args .flash .now) (manifest j)) _ (told j) (sym e ∙ j .judge-successor .ensures)
 
-cut-path-requires : tie.Need-cut-path-requires
-cut-path-requires c κs = let p = known c in (p .0, p .2)
+outside-requires : tie.Need-outside-requires
+outside-requires c κs = known c .0
 
 returns-2 : tie.Need-returns-2
 unfolding ofPathUpdate ofSuccessor ofManifest behind
-returns-2 c = refused (turn (c .before .before)) (sym (c .before .cut-path .ensures) ∙ c .if1 .taken)
+returns-2 c = refused (area (c .before .before)) (sym (c .before .outside .ensures) ∙ c .if1 .taken)
+
+cut-path-requires : tie.Need-cut-path-requires
+cut-path-requires c κs = (known (c .before .before) .0, within c)
+
+returns-3 : tie.Need-returns-3
+unfolding ofPathUpdate ofSuccessor ofManifest behind
+returns-3 c = refused (turn (c .before .before)) (sym (c .before .cut-path .ensures) ∙ c .if2 .taken)
 
 own-len-requires : tie.Need-own-len-requires
-own-len-requires c κs = inside _ _ (known (c .before .before) .2)
+own-len-requires c κs = inside _ _ (within (c .before .before))
 
 leaf-depth-requires : tie.Need-leaf-depth-requires
-leaf-depth-requires c κs = let p = known (c .before .before .before) in (p .0, p .2)
+leaf-depth-requires c κs = (known (c .before .before .before .before .before) .0, within (c .before .before .before))
 
 manifest-bytes-requires : tie.Need-manifest-bytes-requires
 manifest-bytes-requires c κs = search needs
@@ -156,22 +170,22 @@ path-signature-requires c κs = enough (c .before)
 unsigned-requires : tie.Need-unsigned-requires
 unsigned-requires c κs = search needs
 
-returns-3 : tie.Need-returns-3
+returns-4 : tie.Need-returns-4
 unfolding ofPathUpdate ofSuccessor ofManifest behind
-returns-3 c = refused (long (c .before .before .before .before .before .before)) (sym (verdict (c .before)) ∙ c .if2 .taken)
+returns-4 c = refused (long (c .before .before .before .before .before .before)) (sym (verdict (c .before)) ∙ c .if3 .taken)
 
 path-in-requires : tie.Need-path-in-requires
 path-in-requires c κs = enough (c .before .before .before .before)
 
 old-block-requires : tie.Need-old-block-requires
-old-block-requires c κs = let p = known (c .before .before .before .before .before .before .before .before .before) in (p .1, p .2)
+old-block-requires c κs = (known (c .before .before .before .before .before .before .before .before .before .before .before) .1, within (c .before .before .before .before .before .before .before .before .before))
 
 strays-requires : tie.Need-strays-requires
 strays-requires c κs = strays-needs (c .before .before .before)
 
-returns-4 : tie.Need-returns-4
+returns-5 : tie.Need-returns-5
 unfolding ofPathUpdate ofSuccessor ofManifest behind
-returns-4 c = refused (signed (c .before .before .before .before .before .before)) (sym (from (c .before)) ∙ c .if3 .taken)
+returns-5 c = refused (signed (c .before .before .before .before .before .before)) (sym (from (c .before)) ∙ c .if4 .taken)
 
 update-block-requires : tie.Need-update-block-requires
 update-block-requires c κs = omega (arith, enough (c .before .before .before .before .before .before .before .before .before .before))
@@ -179,13 +193,13 @@ update-block-requires c κs = omega (arith, enough (c .before .before .before .b
 strays-requires-2 : tie.Need-strays-requires-2
 strays-requires-2 c κs = strays-needs (c .before .before .before .before .before .before .before .before)
 
-returns-5 : tie.Need-returns-5
-unfolding ofPathUpdate ofSuccessor ofManifest behind
-returns-5 c = refused (rooted (c .before .before .before .before .before)) (sym (to (c .before)) ∙ c .if4 .taken)
-
 returns-6 : tie.Need-returns-6
 unfolding ofPathUpdate ofSuccessor ofManifest behind
-returns-6 c = accepted (rooted (c .before .before .before .before .before) past (sym (to (c .before)) ∙ c .if4 .left))
+returns-6 c = refused (rooted (c .before .before .before .before .before)) (sym (to (c .before)) ∙ c .if5 .taken)
+
+returns-7 : tie.Need-returns-7
+unfolding ofPathUpdate ofSuccessor ofManifest behind
+returns-7 c = accepted (rooted (c .before .before .before .before .before) past (sym (to (c .before)) ∙ c .if5 .left))
 
 pub judge-path-update-spec : {M : Type 1} → statement M
 judge-path-update-spec =
@@ -197,19 +211,21 @@ judge-path-update-spec =
     enum-told
     enum-told-2
     returns
-    cut-path-requires
+    outside-requires
     returns-2
+    cut-path-requires
+    returns-3
     own-len-requires
     leaf-depth-requires
     manifest-bytes-requires
     path-signature-requires
     unsigned-requires
-    returns-3
+    returns-4
     path-in-requires
     old-block-requires
     strays-requires
-    returns-4
+    returns-5
     update-block-requires
     strays-requires-2
-    returns-5
-    returns-6)
+    returns-6
+    returns-7)

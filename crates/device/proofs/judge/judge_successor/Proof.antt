@@ -1,18 +1,17 @@
-use mathlib.Core.Path.{sym, ap, _∙_}
+use mathlib.Core.Path.{sym, _∙_}
 use mathlib.Core.Bool.{Bool}
 use mathlib.Core.List.{List}
 use Rattle.wire.specs.declared.refusal.Refusal.{Refusal}
 use Rattle.wire.specs.declared.refusal.Refusal.the-variants as refusal
-use Rattle.wire.specs.Size.{outside}
 use Rattle.machine.specs.Refusals.{ofManifest, ofSuccessor}
 use Rattle.machine.proofs.RefusalLaws.{Passes, start, _past_}
-use Rattle.device.proofs.JudgeLaws.{behind, refused, accepted, refused-in, past-all, size-passed}
+use Rattle.device.proofs.JudgeLaws.{behind, refused, accepted, refused-in, past-all}
 use borrow.Author.Needs.{needs}
 use Rattle.device.proofs.judge.judge_successor.Statement.{statement}
 use Rattle.device.proofs.judge.judge_successor.Tie as tie
 
 abbrev tests : tie.Start → List (Refusal × Bool)
-tests a = ofSuccessor (a .args .device) (a .args .flash .now) (a .args .manifest) (a .args .number)
+tests a = ofSuccessor (a .args .device) (a .args .flash .now) (a .args .manifest)
 
 -- no test up to that of this refusal applies
 abbrev Past : Refusal → tie.Start → Type 0
@@ -49,10 +48,6 @@ unlike : (c : tie.Else2) → Past refusal.Unlike (c .before .before .before .bef
 unfolding ofSuccessor ofManifest behind
 unlike c = serial (c .before .before .before) past (sym (c .before .unlike .ensures) ∙ c .if2 .left)
 
-area : (c : tie.Else3) → Past refusal.Area (c .before .before .before .before .before .before .before .before .before .before .before)
-unfolding ofSuccessor ofManifest behind
-area c = unlike (c .before .before) past (sym (c .before .too-small .ensures) ∙ c .if3 .left)
-
 returns-2 : tie.Need-returns-2
 unfolding ofSuccessor behind
 returns-2 c =
@@ -75,23 +70,9 @@ returns-4 : tie.Need-returns-4
 unfolding ofSuccessor ofManifest behind
 returns-4 c = refused (unlike (c .before .before)) (sym (c .before .too-small .ensures) ∙ c .if3 .taken)
 
-count-requires : tie.Need-count-requires
-count-requires c κs = let t = c .before .before .before .before .before in size-passed _ _ (t .before .before .judge-manifest .ensures) (t .enum-told .given .1)
-
-outside-requires : tie.Need-outside-requires
-outside-requires c κs = search needs
-
 returns-5 : tie.Need-returns-5
 unfolding ofSuccessor ofManifest behind
-returns-5 c =
-    let o = c .before in
-    refused (area (o .before .before)) (sym (o .outside .ensures ∙ ap (λ n. outside n (o .before .before .before .before .before .before .before .before .before .before .before .before .before .args .number)) (o .before .count .ensures)) ∙ c .if4 .taken)
-
-returns-6 : tie.Need-returns-6
-unfolding ofSuccessor ofManifest behind
-returns-6 c =
-    let o = c .before in
-    accepted (area (o .before .before) past (sym (o .outside .ensures ∙ ap (λ n. outside n (o .before .before .before .before .before .before .before .before .before .before .before .before .before .args .number)) (o .before .count .ensures)) ∙ c .if4 .left))
+returns-5 c = accepted (unlike (c .before .before) past (sym (c .before .too-small .ensures) ∙ c .if3 .left))
 
 pub judge-successor-spec : {M : Type 1} → statement M
 judge-successor-spec =
@@ -107,7 +88,4 @@ judge-successor-spec =
     returns-3
     too-small-requires
     returns-4
-    count-requires
-    outside-requires
-    returns-5
-    returns-6)
+    returns-5)

@@ -1,5 +1,5 @@
 use mathlib.Core.Path.{_≡_, sym, ap, ap₂, _∙_}
-use mathlib.Core.Bool.{Bool}
+use mathlib.Core.Bool.{Bool, false}
 use mathlib.Core.List.{List}
 use Prim.Native.Nat.{ℕ, _+_, _≤_}
 use lib.ListN.{length}
@@ -10,14 +10,15 @@ use Rattle.wire.specs.declared.kind.Kind.the-variants.{Update}
 use Rattle.wire.specs.declared.manifest.Manifest.{Manifest}
 use Rattle.wire.specs.declared.refusal.Refusal.{Refusal}
 use Rattle.wire.specs.declared.refusal.Refusal.the-variants as refusal
-use Rattle.wire.specs.Geometry.{blockLength, withBlock}
+use Rattle.wire.specs.Size.{outside}
+use Rattle.wire.specs.Geometry.{countOf, blockLength, withBlock}
 use Rattle.wire.specs.Message.{leastLength, manifestBytes, manifestIn, updateNumber, updateBlock, updateSignature, leastUpdate}
 use Rattle.wire.proofs.SizeLaws.{inside}
 use Rattle.wire.proofs.MessageLaws.{length-update-block}
 use Rattle.machine.specs.Flash.{updated}
 use Rattle.machine.specs.Refusals.{lacksRoot, unsigned, ofManifest, ofSuccessor, ofUpdate}
 use Rattle.machine.proofs.RefusalLaws.{Passes, _past_}
-use Rattle.device.proofs.JudgeLaws.{behind, retold, refused, accepted, refused-in, past-all, Known, successor-known}
+use Rattle.device.proofs.JudgeLaws.{behind, retold, refused, accepted, refused-in, past-all, Known, successor-known, held-known}
 use borrow.Author.Needs.{needs}
 use Rattle.device.proofs.judge.judge_update.Statement.{statement}
 use Rattle.device.proofs.judge.judge_update.Tie as tie
@@ -46,47 +47,58 @@ Past r j = Passes (tests j (manifestIn (message j)) (updateNumber (message j))) 
 told : (j : tie.After-judge-successor) → Passes (tests j (manifestIn (message j)) (updateNumber (message j))) (tests j (manifest j) (number j))
 told j = retold (ap₂ (tests j) (j .before .before .manifest-in .ensures) (j .before .update-number .ensures))
 
-turn : (c : tie.After-enum-told) → Past refusal.Turn (c .before .before)
+-- the first tests do not apply
+area : (c : tie.After-enum-told) → Past refusal.Area (c .before .before)
 unfolding ofUpdate ofSuccessor ofManifest behind
-turn c =
+area c =
     let j = c .before .before in
-    past-all (ofSuccessor (start-of j .args .device) (start-of j .args .flash .now) (manifest j) (number j)) _ (told j) (sym (c .enum-told .given .1) ∙ j .judge-successor .ensures)
+    past-all (ofSuccessor (start-of j .args .device) (start-of j .args .flash .now) (manifest j)) _ (told j) (sym (c .enum-told .given .1) ∙ j .judge-successor .ensures)
 
-long : (c : tie.Else1) → Past refusal.Length (c .before .before .before .before)
+intact : (c : tie.Else1) → Past refusal.Altered (c .before .before .before .before .before)
 unfolding ofUpdate ofSuccessor ofManifest behind
-long c = turn (c .before .before) past (sym (c .before .cut-update .ensures) ∙ c .if1 .left)
+intact c = area (c .before .before .before) past (sym (c .before .lacks-root .ensures) ∙ c .if1 .left)
+
+turn : (c : tie.Else2) → Past refusal.Turn (c .before .before .before .before .before .before .before)
+unfolding ofUpdate ofSuccessor ofManifest behind
+turn c = intact (c .before .before) past (sym (c .before .outside .ensures) ∙ c .if2 .left)
+
+long : (c : tie.Else3) → Past refusal.Length (c .before .before .before .before .before .before .before .before .before)
+unfolding ofUpdate ofSuccessor ofManifest behind
+long c = turn (c .before .before) past (sym (c .before .cut-update .ensures) ∙ c .if3 .left)
 
 -- the message has the block whole
-enough : (c : tie.After-own-len) → leastLength Update + c .own-len .result ≤ length (message (c .before .before .before .before .before))
+enough : (c : tie.After-own-len) → leastLength Update + c .own-len .result ≤ length (message (c .before .before .before .before .before .before .before .before .before .before))
 unfolding leastUpdate
-enough c = rw (c .own-len .ensures) (ltb-false _ _ (sym (c .before .before .cut-update .ensures) ∙ c .before .if1 .left))
+enough c = rw (c .own-len .ensures) (ltb-false _ _ (sym (c .before .before .cut-update .ensures) ∙ c .before .if3 .left))
 
 -- the verdict on manifest and signature, as they stand in the message
-verdict : (c : tie.After-unsigned) → let j = c .before .before .before .before .before .before .before .before in let s = manifest j in
+verdict : (c : tie.After-unsigned) → let j = c .before .before .before .before .before .before .before .before .before .before .before .before .before in let s = manifest j in
     c .unsigned .result ≡ unsigned valid (start-of j .args .device) (manifestBytes (message j)) (updateSignature (blockLength (s .«block_len») (s .«image_len») (number j)) (message j))
 verdict c =
-    let j = c .before .before .before .before .before .before .before .before in
+    let j = c .before .before .before .before .before .before .before .before .before .before .before .before .before in
     c .unsigned .ensures ∙ ap₂ (unsigned valid _) (c .before .before .manifest-bytes .ensures) (c .before .update-signature .ensures ∙ ap (λ k. updateSignature k (message j)) (c .before .before .before .own-len .ensures))
 
-signed : (c : tie.Else2) → Past refusal.Unsigned (c .before .before .before .before .before .before .before .before .before)
+signed : (c : tie.Else4) → Past refusal.Unsigned (c .before .before .before .before .before .before .before .before .before .before .before .before .before .before)
 unfolding ofUpdate ofSuccessor ofManifest behind
-signed c = long (c .before .before .before .before .before) past (sym (verdict (c .before)) ∙ c .if2 .left)
+signed c = long (c .before .before .before .before .before) past (sym (verdict (c .before)) ∙ c .if4 .left)
 
 -- the tree over the flash with the new block, as it stands in the message
-rooted : (c : tie.After-lacks-root) → let j = c .before .before .before .before .before .before .before .before .before .before .before in
-    c .lacks-root .result ≡ lacksRoot digest (manifest j) (updated (manifest j) (start-of j .args .flash .now) (message j))
+rooted : (c : tie.After-lacks-root-with) → let j = c .before .before .before .before .before .before .before .before .before .before .before .before .before .before .before .before in c .lacks-root-with .result ≡ lacksRoot digest (manifest j) (updated (manifest j) (start-of j .args .flash .now) (message j))
 unfolding updated
 rooted c =
-    let j = c .before .before .before .before .before .before .before .before .before .before .before in
+    let j = c .before .before .before .before .before .before .before .before .before .before .before .before .before .before .before .before in
     let s = manifest j in
     let written : ℕ → List ℕ = λ i. withBlock (s .«block_len») (start-of j .args .flash .now) i (updateBlock (blockLength (s .«block_len») (s .«image_len») i) (message j)) in
-    c .lacks-root .ensures
+    c .lacks-root-with .ensures
     ∙ ap (λ b. lacksRoot digest s (withBlock (s .«block_len») (start-of j .args .flash .now) (number j) b)) (c .before .update-block .ensures ∙ ap (λ k. updateBlock k (message j)) (c .before .before .before .before .before .before .own-len .ensures))
     ∙ ap (λ i. lacksRoot digest s (written i)) (j .before .update-number .ensures)
 
--- what the first tests have shown
-known : (c : tie.After-enum-told) → let j = c .before .before in Known (manifest j) (start-of j .args .flash .now) (number j)
-known c = successor-known _ _ _ _ (c .before .before .judge-successor .ensures) (c .enum-told .given .1)
+-- what the tests have shown of the new manifest and the held one
+known : (c : tie.After-enum-told) → let j = c .before .before in Known (manifest j) (start-of j .args .flash .now)
+known c = successor-known _ _ _ (c .before .before .judge-successor .ensures) (c .enum-told .given .1)
+
+within : (c : tie.Else2) → let j = c .before .before .before .before .before .before .before in outside (countOf (manifest j)) (number j) ≡ false
+within c = sym (c .before .outside .ensures) ∙ c .if2 .left
 
 manifest-in-requires : tie.Need-manifest-in-requires
 manifest-in-requires c κs = search needs
@@ -108,17 +120,31 @@ unfolding ofUpdate
 returns c =
     let j = c .before .before in
     let e = c .enum-told2 .given .1 in
-    e ∙ refused-in (ofSuccessor (start-of j .args .device) (start-of j .args .flash .now) (manifest j) (number j)) _ (told j) (sym e ∙ j .judge-successor .ensures)
+    e ∙ refused-in (ofSuccessor (start-of j .args .device) (start-of j .args .flash .now) (manifest j)) _ (told j) (sym e ∙ j .judge-successor .ensures)
 
-cut-update-requires : tie.Need-cut-update-requires
-cut-update-requires c κs = let p = known c in (p .0, p .2)
+lacks-root-requires : tie.Need-lacks-root-requires
+lacks-root-requires c κs = let t = c .before in held-known _ _ _ (t .before .before .judge-successor .ensures) (t .enum-told .given .1)
 
 returns-2 : tie.Need-returns-2
 unfolding ofUpdate ofSuccessor ofManifest behind
-returns-2 c = refused (turn (c .before .before)) (sym (c .before .cut-update .ensures) ∙ c .if1 .taken)
+returns-2 c = refused (area (c .before .before .before)) (sym (c .before .lacks-root .ensures) ∙ c .if1 .taken)
+
+outside-requires : tie.Need-outside-requires
+outside-requires c κs = known (c .before .before .before) .0
+
+returns-3 : tie.Need-returns-3
+unfolding ofUpdate ofSuccessor ofManifest behind
+returns-3 c = refused (intact (c .before .before)) (sym (c .before .outside .ensures) ∙ c .if2 .taken)
+
+cut-update-requires : tie.Need-cut-update-requires
+cut-update-requires c κs = (known (c .before .before .before .before .before) .0, within c)
+
+returns-4 : tie.Need-returns-4
+unfolding ofUpdate ofSuccessor ofManifest behind
+returns-4 c = refused (turn (c .before .before)) (sym (c .before .cut-update .ensures) ∙ c .if3 .taken)
 
 own-len-requires : tie.Need-own-len-requires
-own-len-requires c κs = inside _ _ (known (c .before .before) .2)
+own-len-requires c κs = inside _ _ (within (c .before .before))
 
 manifest-bytes-requires : tie.Need-manifest-bytes-requires
 manifest-bytes-requires c κs = search needs
@@ -129,27 +155,26 @@ update-signature-requires c κs = enough (c .before)
 unsigned-requires : tie.Need-unsigned-requires
 unsigned-requires c κs = search needs
 
-returns-3 : tie.Need-returns-3
+returns-5 : tie.Need-returns-5
 unfolding ofUpdate ofSuccessor ofManifest behind
-returns-3 c = refused (long (c .before .before .before .before .before)) (sym (verdict (c .before)) ∙ c .if2 .taken)
+returns-5 c = refused (long (c .before .before .before .before .before)) (sym (verdict (c .before)) ∙ c .if4 .taken)
 
 update-block-requires : tie.Need-update-block-requires
 update-block-requires c κs = enough (c .before .before .before .before)
 
-lacks-root-requires : tie.Need-lacks-root-requires
-lacks-root-requires c κs =
+lacks-root-with-requires : tie.Need-lacks-root-with-requires
+lacks-root-with-requires c κs =
     let k = c .before .before .before .before .before in
-    let t = k .before .before .before in
-    let p = known t in
-    (p .0, p .1, p .2, ap length (c .update-block .ensures) ∙ length-update-block _ (message (t .before .before)) (enough k) ∙ k .own-len .ensures)
+    let p = known (k .before .before .before .before .before .before .before .before) in
+    (p .0, p .1, within (k .before .before .before), ap length (c .update-block .ensures) ∙ length-update-block _ (message (k .before .before .before .before .before .before .before .before .before .before)) (enough k) ∙ k .own-len .ensures)
 
-returns-4 : tie.Need-returns-4
+returns-6 : tie.Need-returns-6
 unfolding ofUpdate ofSuccessor ofManifest behind
-returns-4 c = refused (signed (c .before .before .before)) (sym (rooted (c .before)) ∙ c .if3 .taken)
+returns-6 c = refused (signed (c .before .before .before)) (sym (rooted (c .before)) ∙ c .if5 .taken)
 
-returns-5 : tie.Need-returns-5
+returns-7 : tie.Need-returns-7
 unfolding ofUpdate ofSuccessor ofManifest behind
-returns-5 c = accepted (signed (c .before .before .before) past (sym (rooted (c .before)) ∙ c .if3 .left))
+returns-7 c = accepted (signed (c .before .before .before) past (sym (rooted (c .before)) ∙ c .if5 .left))
 
 pub judge-update-spec : {M : Type 1} → statement M
 judge-update-spec =
@@ -161,14 +186,18 @@ judge-update-spec =
     enum-told
     enum-told-2
     returns
-    cut-update-requires
+    lacks-root-requires
     returns-2
+    outside-requires
+    returns-3
+    cut-update-requires
+    returns-4
     own-len-requires
     manifest-bytes-requires
     update-signature-requires
     unsigned-requires
-    returns-3
+    returns-5
     update-block-requires
-    lacks-root-requires
-    returns-4
-    returns-5)
+    lacks-root-with-requires
+    returns-6
+    returns-7)

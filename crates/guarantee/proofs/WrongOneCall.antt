@@ -1,0 +1,180 @@
+-- Wrong devices that break what is said of one call (specs/OneCall). Where the comment says 'alone', all other clauses hold of the device, by reading. Demand 3 does
+-- not see `late`, `believing` and `adopting`: they differ from the right device only where a block is refused 19, and in a list none is (`nobody-else` in AlteredHolds).
+use mathlib.Core.Path.{_≡_, refl, ap}
+use mathlib.Core.Logic.{⊎-elim}
+use mathlib.Core.Bool.{Bool, cond, _&&_}
+use mathlib.Core.List.{List, [], _∷_, _++_}
+use Prim.Native.Nat.{ℕ}
+use native.Mathlib.Omega.{arith}
+use lib.Dec.{eqb}
+use lib.ListN.{getD, take, drop, replicate}
+use Rattle.wire.specs.declared.kind.Kind.the-variants.{Program, Block, Update, PathUpdate}
+use Rattle.wire.specs.declared.manifest.Manifest.{Manifest}
+use Rattle.wire.specs.declared.refusal.Refusal.{Refusal}
+use Rattle.wire.specs.declared.refusal.Refusal.the-variants as refusal
+use Rattle.wire.specs.Refusal.{refusalNumber, firstThatApplies}
+use Rattle.wire.specs.Geometry.{countOf, treeOver}
+use Rattle.wire.specs.Message.{kind, updateMessage}
+use Rattle.sender.specs.Job.{programFor, blockFor}
+use Rattle.machine.specs.declared.state.Stage.the-variants.{Complete}
+use Rattle.machine.specs.declared.state.Device.{Device}
+use Rattle.machine.specs.declared.state.Answer.the-variants.{Accepted, Refused}
+use Rattle.machine.specs.Device.{nextOf}
+use Rattle.machine.specs.Refusals.{lacksRoot, refusals}
+use Rattle.machine.specs.Readers.{numberOf}
+use Rattle.machine.specs.Step.{acceptBlock, accept, outcome}
+use Rattle.guarantee.specs.Run.{empty, _▷_, after}
+use Rattle.guarantee.specs.Behind.{goesBy}
+use Rattle.guarantee.specs.OneCall.{OneCall, EachCall}
+use Rattle.guarantee.proofs.OneCallHolds.{each-call}
+use Rattle.guarantee.proofs.Toy.{Step, any, fresh, flash, manifestWith, but, butFlash, byKind, computing, at}
+use Rattle.guarantee.proofs.WrongFirst.{withManifest}
+use Rattle.guarantee.proofs.MisledRun.{weakHash, weak, device, pair, before}
+
+-- a device that waits for the last block of the pair, and that message: fives are loaded, threes are to come
+pub waiting : Device
+waiting = after device fresh flash (empty ▷ programFor weak pair [] ▷ blockFor weak (pair .image) 1) .device
+
+pub threes : List ℕ
+threes = blockFor weak (pair .image) 2
+
+-- one that has the pair, and an update of its first block to fours, with the root 4: the larger of 4 and 3
+pub finished : Device
+finished = after device fresh flash before .device
+
+pub fours : List ℕ
+fours = updateMessage (manifestWith 2 (weakHash 4)) 1 (replicate 64 4) []
+
+-- a flash that somebody else overwrote with ones
+pub worn : List ℕ
+worn = replicate 130 1
+
+-- one in which fives stand where the threes belong, so that the root is right without them
+pub misplaced : List ℕ
+misplaced = replicate 64 1 ++ replicate 64 5
+
+-- a device that refuses by other tests
+judging : (Device → (flash m : List ℕ) → List (Refusal × Bool)) → Step
+judging tests d f m = outcome (firstThatApplies (tests d f m)) d f (accept (kind m) d f m)
+
+-- what the calls compute with
+calling : ℕ
+unfolding computing weakHash weak device pair before waiting threes finished fours worn misplaced judging
+calling = 0
+
+-- the right device finds the worn flash altered, at the last block and at an update
+pub finds-altered : (device waiting worn threes .answer ≡ Refused refusal.Altered) × (device finished worn fours .answer ≡ Refused refusal.Altered)
+unfolding calling
+finds-altered = (refl, refl)
+
+-- It looks for 19 once the block is stored, and leaves it there: caught at `refused`, alone.
+pub late : Step
+late = byKind device (λ d f m.
+    let o = device d f m in
+    record { answer = o .answer; device = o .device; flash = cond (eqb (numberOf (o .answer)) (refusalNumber refusal.Altered)) (acceptBlock d f m .flash) (o .flash) }) device device
+
+pub late-caught : OneCall weak late waiting worn threes → ⊥
+unfolding calling late
+late-caught h =
+    let z : _≡_ {A = ℕ} 3 1 = ap (λ (l : List ℕ). getD l 64 0) (h .refused refusal.Altered refl .1) in
+    omega arith
+
+-- It takes an update's block and keeps the manifest that it had: caught at `manifest`, alone.
+pub stale : Step
+stale = byKind device device (λ d f m. but (device d f m) d) device
+
+pub stale-caught : OneCall weak stale finished (pair .image .bytes) fours → ⊥
+unfolding calling stale goesBy
+stale-caught h =
+    let z : _≡_ {A = ℕ} 1 2 = ap (λ (s : Manifest). s .serial) (h .manifest refl) in
+    omega arith
+
+-- It has no 19 at an update, the eleventh test: caught at `before`, alone.
+pub incurious : Step
+incurious = byKind device device (judging (λ d f m. let es = refusals weak any Update d f m in take 10 es ++ drop 11 es)) device
+
+pub incurious-caught : OneCall weak incurious finished worn fours → ⊥
+unfolding calling incurious
+incurious-caught h =
+    let z : _≡_ {A = ℕ} 1 5 = ap (λ (l : List ℕ). getD l 1 0) (h .before refl refl .root) in
+    omega arith
+
+-- It takes an update's manifest and leaves the block as it was: caught at `update`, alone.
+pub withholding : Step
+withholding = byKind device device (λ d f m. butFlash (device d f m) f) device
+
+pub withholding-caught : OneCall weak withholding finished (pair .image .bytes) fours → ⊥
+unfolding calling withholding
+withholding-caught h =
+    let z : _≡_ {A = ℕ} 5 4 = ap (λ (l : List ℕ). getD l 1 0) (h .update refl refl .root) in
+    omega arith
+
+-- It trusts the hashes held and has no 19 at the last block, the ninth test: caught at `last`, alone.
+pub believing : Step
+believing = byKind device (judging (λ d f m. take 8 (refusals weak any Block d f m))) device device
+
+pub believing-caught : OneCall weak believing waiting worn threes → ⊥
+unfolding calling believing
+believing-caught h =
+    let z : _≡_ {A = ℕ} 3 5 = ap (λ (l : List ℕ). getD l 1 0) (h .last refl refl refl .root) in
+    omega arith
+
+-- At the last block it looks at the flash as handed in, without that block: caught at `last`, alone.
+pub shortsighted : Step
+shortsighted = byKind device (judging (λ d f m.
+    let s = d .manifest in
+    take 8 (refusals weak any Block d f m) ++ ((refusal.Altered, eqb (nextOf (d .stage)) (countOf s) && lacksRoot weak s f) ∷ []))) device device
+
+pub shortsighted-caught : OneCall weak shortsighted waiting misplaced threes → ⊥
+unfolding calling shortsighted
+shortsighted-caught h =
+    let z : _≡_ {A = ℕ} 3 5 = ap (λ (l : List ℕ). getD l 1 0) (h .last refl refl refl .root) in
+    omega arith
+
+-- It is complete as soon as it takes a new program: caught at `only`, alone.
+pub waking : Step
+waking = byKind (λ d f m. let o = device d f m in but o (at Complete (o .device))) device device device
+
+pub waking-caught : OneCall weak waking fresh flash (programFor weak pair []) → ⊥
+unfolding calling waking at
+waking-caught h =
+    ⊎-elim (λ (e : Program ≡ Block). let z : _≡_ {A = ℕ} 0 1 = cc in omega arith)
+    (λ r. ⊎-elim (λ (e : Program ≡ Update). let z : _≡_ {A = ℕ} 0 1 = cc in omega arith) (λ (e : Program ≡ PathUpdate). let z : _≡_ {A = ℕ} 0 1 = cc in omega arith) r) (h .only refl refl)
+
+-- Where the right one says 19 at the last block it takes that, and the root that it finds: caught at `last`, and at `manifest`.
+pub adopting : Step
+adopting = byKind device (λ d f m.
+    let o = device d f m in
+    let t = acceptBlock d f m in
+    cond (eqb (numberOf (o .answer)) (refusalNumber refusal.Altered))
+    (record { answer = Accepted; device = withManifest (d .manifest .serial) (treeOver weak (d .manifest) (t .flash)) (t .device); flash = t .flash }) o) device device
+
+pub adopting-caught : OneCall weak adopting waiting worn threes → ⊥
+unfolding calling adopting withManifest
+adopting-caught h =
+    let z : _≡_ {A = ℕ} 3 5 = ap (λ (l : List ℕ). getD l 1 0) (h .last refl refl refl .root) in
+    omega arith
+
+pub none-meets-each-call : (EachCall weak late → ⊥)
+    × (EachCall weak stale → ⊥)
+    × (EachCall weak incurious → ⊥)
+    × (EachCall weak withholding → ⊥)
+    × (EachCall weak believing → ⊥)
+    × (EachCall weak shortsighted → ⊥)
+    × (EachCall weak waking → ⊥)
+    × (EachCall weak adopting → ⊥)
+none-meets-each-call = (
+  λ c. late-caught (c _ _ _),
+  λ c. stale-caught (c _ _ _),
+  λ c. incurious-caught (c _ _ _),
+  λ c. withholding-caught (c _ _ _),
+  λ c. believing-caught (c _ _ _),
+  λ c. shortsighted-caught (c _ _ _),
+  λ c. waking-caught (c _ _ _),
+  λ c. adopting-caught (c _ _ _),
+)
+
+-- The right device does, with the same hash function and verdicts.
+pub right-meets : EachCall weak device
+unfolding device
+right-meets = each-call weak any

@@ -1,0 +1,39 @@
+-- One call, with nothing assumed (02, change 5: "A program reported complete by either then has its root at that moment, with nothing assumed of the area"). Said of
+-- any step of the device, as demand 3 is, but for every state and every flash handed in, reached by a list or not.
+use mathlib.Core.Path.{_≡_}
+use mathlib.Core.Logic.{_⊎_}
+use mathlib.Core.List.{List}
+use Prim.Native.Nat.{ℕ, _≤_}
+use lib.ListN.{length}
+use Rattle.wire.specs.declared.kind.Kind.the-variants.{Block, Update, PathUpdate}
+use Rattle.wire.specs.declared.manifest.Manifest.{Manifest}
+use Rattle.wire.specs.declared.refusal.Refusal.{Refusal}
+use Rattle.wire.specs.Geometry.{treeOver}
+use Rattle.wire.specs.Message.{kind, manifestIn}
+use Rattle.machine.specs.declared.state.Stage.the-variants.{Complete}
+use Rattle.machine.specs.declared.state.Device.{Device}
+use Rattle.machine.specs.declared.state.Answer.the-variants.{Accepted, Refused}
+use Rattle.machine.specs.Device.{Outcome}
+use Rattle.guarantee.specs.Behind.{goesBy}
+
+-- The flash has the bytes that the manifest needs, and the tree over it has the manifest's root.
+pub record Rooted (H : List ℕ → List ℕ) (s : Manifest) (flash : List ℕ) : Type 0 where
+  pub room : s .«image_len» ≤ length flash
+  pub root : treeOver H s flash ≡ s .root
+
+-- Message m to device d, over this flash.
+pub record OneCall (H : List ℕ → List ℕ) (step : Device → List ℕ → List ℕ → Outcome) (d : Device) (flash m : List ℕ) : Type 0 where
+  -- a refused call leaves both as they were
+  pub refused : (r : Refusal) → step d flash m .answer ≡ Refused r → (step d flash m .device ≡ d) × (step d flash m .flash ≡ flash)
+  -- an accepted one leaves the manifest that it goes by: its own, or else the device's
+  pub manifest : step d flash m .answer ≡ Accepted → step d flash m .device .manifest ≡ goesBy d m
+  -- "Kind 3 now first works out the tree over the area as handed in": that had the root of the manifest held before
+  pub before : kind m ≡ Update → step d flash m .answer ≡ Accepted → Rooted H (d .manifest) flash
+  -- after it the flash has the new manifest's root, and after a block that makes the stage complete that of the manifest held
+  pub update : kind m ≡ Update → step d flash m .answer ≡ Accepted → Rooted H (manifestIn m) (step d flash m .flash)
+  pub last : kind m ≡ Block → step d flash m .answer ≡ Accepted → step d flash m .device .stage ≡ Complete → Rooted H (d .manifest) (step d flash m .flash)
+  -- besides these kinds only a path update leaves the stage complete
+  pub only : step d flash m .answer ≡ Accepted → step d flash m .device .stage ≡ Complete → (kind m ≡ Block) ⊎ ((kind m ≡ Update) ⊎ (kind m ≡ PathUpdate))
+
+abbrev pub EachCall : (H : List ℕ → List ℕ) (step : Device → List ℕ → List ℕ → Outcome) → Type 0
+EachCall H step = (d : Device) (flash m : List ℕ) → OneCall H step d flash m
