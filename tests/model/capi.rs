@@ -95,6 +95,12 @@ unsafe extern "C" {
         state_length: usize,
         length: *mut usize,
     ) -> u32;
+    fn lertxuno_intact(
+        state: *const u8,
+        state_length: usize,
+        flash: *const u8,
+        flash_length: usize,
+    ) -> u32;
 }
 
 pub fn digest(message: &[u8]) -> Lent {
@@ -196,4 +202,9 @@ pub fn block_message_length(state: &[u8], length: &mut usize) -> u32 {
     let state = Lent::new(state);
     let (s, sl) = state.parts();
     unsafe { lertxuno_block_message_length(s, sl, length) }
+}
+
+pub fn intact(state: &Lent, flash: &Lent) -> u32 {
+    let ((s, sl), (f, fl)) = (state.parts(), flash.parts());
+    unsafe { lertxuno_intact(s, sl, f, fl) }
 }

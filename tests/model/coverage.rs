@@ -1,27 +1,30 @@
 //! How often each answer was given, by row (a kind of message, or a function), each sort of path
-//! update accepted, each case of the image's end and each of Intel HEX texts; and which of these
-//! must have occurred at least once.
-
-use std::array;
+//! update accepted, each case of the image's end, of a flash that others have touched and of Intel
+//! HEX texts; and which of these must have occurred at least once.
 
 use crate::ends::{ENDS, End};
 use crate::hexcases;
 use crate::ihex::{BROKEN, Broken};
 use crate::lengths::{LASTS, shape};
 use crate::manifest::BLOCK_LENGTHS;
+use crate::regions::REGIONS;
 use crate::tree::path;
 
 struct Row {
     name: &'static str,
-    /// The columns that must have occurred: answers, depths, kinds, shapes or faults.
+    /// The columns that must have occurred: answers, depths, kinds, regions, shapes or faults.
     due: Vec<usize>,
-    counts: [u64; 16],
+    counts: Vec<u64>,
 }
 
 pub struct Coverage {
     answers: Vec<Row>,
     paths: Vec<Row>,
     ends: Vec<Row>,
+    /// Refused ones, and accepted ones.
+    touched: [Vec<Row>; 2],
+    /// The same answer, and another.
+    instead: [Vec<Row>; 2],
     texts: Vec<Row>,
     /// Broken lines: by a single fault, and by several.
     broken: [Row; 2],
@@ -31,14 +34,17 @@ pub struct Coverage {
     largest: usize,
 }
 
+/// Those of all functions but the Intel HEX reader; the columns of the tables of answers.
+const COLUMNS: [u32; 17] = [0, 1, 2, 3, 4, 5, 6, 7, 8, 9, 10, 11, 12, 13, 14, 15, 19];
+
 /// Rows 0 to 4 are indexed by the message's kind, 0 being any other and the empty message.
-const ANSWERS: [(&str, &[usize]); 17] = [
+const ANSWERS: [(&str, &[u32]); 14] = [
     ("device, other", &[1, 2]),
     ("device, kind 1", &[0, 1, 3, 4, 5, 6, 7, 8, 9]),
-    ("device, kind 2", &[0, 1, 3, 8, 10, 11, 12, 14]),
+    ("device, kind 2", &[0, 1, 3, 8, 10, 11, 12, 14, 19]),
     (
         "device, kind 3",
-        &[0, 1, 3, 4, 5, 6, 7, 8, 9, 10, 11, 12, 13, 14],
+        &[0, 1, 3, 4, 5, 6, 7, 8, 9, 10, 11, 12, 13, 14, 19],
     ),
     (
         "device, kind 4",
@@ -52,19 +58,53 @@ const ANSWERS: [(&str, &[usize]); 17] = [
     ("verify", &[0, 9]),
     ("status", &[0, 1]),
     ("length due", &[0, 1, 10]),
-    // Messages that would be accepted, had not somebody else altered a block of the flash. Kind 3
-    // notices, unless it is the block that it replaces; kind 4 only if it is.
-    ("altered, kind 1", &[0]),
-    ("altered, kind 2", &[0]),
-    ("altered, kind 3", &[0, 14]),
-    ("altered, kind 4", &[0, 15]),
+    ("boot check", &[0, 1, 8, 10, 19]),
 ];
 
 pub const SENDER: usize = 5;
 pub const VERIFY: usize = 10;
 pub const STATUS: usize = 11;
 pub const DUE: usize = 12;
-pub const ALTERED: usize = 13;
+pub const INTACT: usize = 13;
+
+/// Messages that an untouched flash would take, by the one region that others have touched:
+/// refused, and accepted. Kind 1 has all of its image for its block; behind the last block is none.
+const TOUCHED: [[(&str, &[usize]); 5]; 2] = [
+    [
+        ("kind 1", &[]),
+        ("kind 2", &[]),
+        ("last block", &[0]),
+        ("kind 3", &[0, 1, 2]),
+        ("kind 4", &[1]),
+    ],
+    [
+        ("kind 1", &[1, 3]),
+        ("kind 2", &[0, 1, 2, 3]),
+        ("last block", &[1, 3]),
+        ("kind 3", &[3]),
+        ("kind 4", &[0, 2, 3]),
+    ],
+];
+
+/// Messages over a flash that others have touched within the held image, by the answer that an
+/// untouched one would give: where it was the same, and where another came, which in a sound list
+/// is 19, or 15 for kind 4. That kind 4 gets 14 all the same is too rare to be due.
+const INSTEAD: [[(&str, &[u32]); 5]; 2] = [
+    [
+        ("kind 1", &[0, 4, 6, 7, 8, 9]),
+        ("kind 2", &[0, 8, 10, 11, 12, 14]),
+        ("last block", &[0, 8, 10, 11, 12, 14]),
+        ("kind 3", &[4, 6, 7, 8, 10, 13]),
+        ("kind 4", &[0, 4, 6, 7, 8, 9, 10, 11, 12, 13]),
+    ],
+    [
+        ("kind 1", &[]),
+        ("kind 2", &[]),
+        ("last block", &[0]),
+        ("kind 3", &[0, 9, 11, 12, 14]),
+        ("kind 4", &[0, 14]),
+    ],
+];
 
 /// Path updates accepted, by the depth of the block's leaf. Deeper ones than these are too rare to be
 /// due: few lists have a large image.
@@ -104,7 +144,7 @@ fn row(name: &'static str, due: impl IntoIterator<Item = usize>) -> Row {
     Row {
         name,
         due: due.into_iter().collect(),
-        counts: [0; 16],
+        counts: vec![0; COLUMNS.len()],
     }
 }
 
@@ -113,9 +153,16 @@ fn rows(from: &[(&'static str, &[usize])]) -> Vec<Row> {
     from.iter().map(empty).collect()
 }
 
-fn text_column(answer: u32) -> usize {
-    let column = hexcases::ANSWERS.iter().position(|some| *some == answer);
-    column.expect("an answer of the Intel HEX reader")
+fn answer_rows(from: &[(&'static str, &[u32])]) -> Vec<Row> {
+    let empty = |(name, due): &(&'static str, &[u32])| {
+        row(name, due.iter().map(|answer| column(&COLUMNS, *answer)))
+    };
+    from.iter().map(empty).collect()
+}
+
+fn column(answers: &[u32], answer: u32) -> usize {
+    let column = answers.iter().position(|some| *some == answer);
+    column.expect("an answer of such a function")
 }
 
 /// Prints the rows; the number of due columns that stayed empty.
@@ -147,12 +194,15 @@ impl Coverage {
             row(name, due.iter().map(|(kind, _)| *kind))
         };
         let text = |(name, due, _): &hexcases::Case| {
-            row(name, due.iter().map(|answer| text_column(*answer)))
+            let due = due.iter();
+            row(name, due.map(|answer| column(&hexcases::ANSWERS, *answer)))
         };
         Coverage {
-            answers: rows(&ANSWERS),
+            answers: answer_rows(&ANSWERS),
             paths: rows(&PATHS),
             ends: ENDS.iter().map(end).collect(),
+            touched: TOUCHED.map(|from| rows(&from)),
+            instead: INSTEAD.map(|from| answer_rows(&from)),
             texts: hexcases::CASES.concat().iter().map(text).collect(),
             broken: [row("one fault", 0..BROKEN.len()), row("several", [])],
             shapes: [[[0; 16]; 5]; SHAPED.len()],
@@ -161,7 +211,7 @@ impl Coverage {
     }
 
     pub fn count(&mut self, row: usize, answer: u32) {
-        self.answers[row].counts[answer as usize] += 1;
+        self.answers[row].counts[column(&COLUMNS, answer)] += 1;
     }
 
     pub fn completed(&mut self, blocks: usize) {
@@ -183,9 +233,19 @@ impl Coverage {
         self.ends[case as usize].counts[kind] += due as u64;
     }
 
+    /// A message that an untouched flash would take came to one that is touched in this region.
+    pub fn touched(&mut self, row: usize, region: usize, accepted: bool) {
+        self.touched[accepted as usize][row].counts[region] += 1;
+    }
+
+    /// A message to a flash that is touched got the answer of the untouched one, or another.
+    pub fn instead(&mut self, row: usize, without: u32, other: bool) {
+        self.instead[other as usize][row].counts[column(&COLUMNS, without)] += 1;
+    }
+
     /// A call of the Intel HEX reader was this case.
     pub fn text(&mut self, case: usize, answer: u32) {
-        self.texts[case].counts[text_column(answer)] += 1;
+        self.texts[case].counts[column(&hexcases::ANSWERS, answer)] += 1;
     }
 
     /// It refused a line for these.
@@ -205,7 +265,9 @@ impl Coverage {
     /// Of each shape the count for the block length that had it least.
     fn least(&self) -> Vec<Row> {
         let least = |(name, lengths): (&&'static str, &[[u64; 16]; 5])| Row {
-            counts: array::from_fn(|shape| lengths.iter().map(|l| l[shape]).min().unwrap()),
+            counts: (0..16)
+                .map(|shape| lengths.iter().map(|l| l[shape]).min().unwrap())
+                .collect(),
             ..row(name, 0..16)
         };
         SHAPED.iter().zip(&self.shapes).map(least).collect()
@@ -214,13 +276,19 @@ impl Coverage {
     /// Prints all tables; the number of due cases that never came.
     pub fn report(&self) -> u64 {
         let numbers = |n: usize| (0..n).map(|column| column.to_string());
-        let answers = hexcases::ANSWERS.iter().map(u32::to_string);
+        let answers = || COLUMNS.iter().map(u32::to_string);
+        let regions = || REGIONS.into_iter().map(str::to_string);
+        let text_answers = hexcases::ANSWERS.iter().map(u32::to_string);
         let faults = BROKEN.iter().map(|fault| fault.to_string());
         let shapes = ["1", "2", "3", "n"].map(|n| LASTS.map(|last| format!("{n}:{last}")));
-        let missing = table("answers", numbers(16), &self.answers)
+        let missing = table("answers", answers(), &self.answers)
             + table("paths, by depth", numbers(16), &self.paths)
             + table("ends, by kind", numbers(5), &self.ends)
-            + table("texts, by answer", answers, &self.texts)
+            + table("touched, refused", regions(), &self.touched[0])
+            + table("touched, accepted", regions(), &self.touched[1])
+            + table("touched, the same", answers(), &self.instead[0])
+            + table("touched, 19 or 15", answers(), &self.instead[1])
+            + table("texts, by answer", text_answers, &self.texts)
             + table("broken lines", faults, &self.broken)
             + table("shapes, n:last", shapes.concat().into_iter(), &self.least());
         println!("largest complete image: {} blocks", self.largest);

@@ -1,4 +1,4 @@
-//! Document 01 and changes 1 and 2, the drive (here: the device): its state, and its refusals in
+//! Document 01 and changes 1, 2 and 5, the drive (here: the device): its state, and its refusals in
 //! the order of each kind.
 
 use crate::lms::{hashes, number, verify};
@@ -88,6 +88,16 @@ impl Device {
         }
     }
 
+    /// The boot check: complete, and the flash has the manifest's root. 1, 10, 8, 19.
+    pub fn intact(&self, flash: &[u8]) -> Outcome<()> {
+        self.check_state()?;
+        let Stage::Complete { manifest } = &self.stage else {
+            return Err(STAGE);
+        };
+        check_flash(manifest, flash)?;
+        check_tree(manifest, flash)
+    }
+
     pub fn receive(&self, flash: &[u8], message: &[u8]) -> Outcome<Effect> {
         self.check_state()?;
         let least = match message.first() {
@@ -130,7 +140,7 @@ impl Device {
         })
     }
 
-    /// Kind 2: 10, 8, 11, 12, 14.
+    /// Kind 2: 10, 8, 11, 12, 14, and for the last block 19.
     fn block(&self, flash: &[u8], message: &[u8]) -> Outcome<Effect> {
         let Stage::Loading {
             manifest,
@@ -154,6 +164,7 @@ impl Device {
         refuse_if(computed != held[0], MISMATCH)?;
         let manifest = manifest.clone();
         let stage = if i == n {
+            check_tree(&manifest, &with_block(&manifest, flash, i, block))?;
             Stage::Complete { manifest }
         } else {
             Stage::Loading {
@@ -166,7 +177,8 @@ impl Device {
         Ok(Effect { stage, write })
     }
 
-    /// Kind 3: 10, 4, 5, 6, 7, 13, 8, 11, 12, 9, 14. Kind 4: the same, and 15 before 14.
+    /// Kind 3: 10, 4, 5, 6, 7, 13, 8, 19, 11, 12, 9, 14. Kind 4: the same without 19, and 15 before
+    /// 14.
     fn update(&self, flash: &[u8], message: &[u8]) -> Outcome<Effect> {
         let Stage::Complete { manifest: old } = &self.stage else {
             return Err(STAGE);
@@ -177,10 +189,13 @@ impl Device {
             manifest.block_length == old.block_length && manifest.image_length == old.image_length;
         refuse_if(!alike, UNLIKE)?;
         check_flash(&manifest, flash)?;
+        let by_path = message[0] == 4;
+        if !by_path {
+            check_tree(old, flash)?;
+        }
         let (n, i) = (manifest.blocks(), number(&message[49..51]) as usize);
         refuse_if(i < 1 || i > n, TURN)?;
         let place = manifest.place(i);
-        let by_path = message[0] == 4;
         let depth = if by_path { path(n, i).len() } else { 0 };
         refuse_if(message.len() < 51 + place.len() + 32 * depth, LENGTH)?;
         let (block, rest) = message[51..].split_at(place.len());
@@ -193,9 +208,7 @@ impl Device {
             refuse_if(root_by_path(n, i, old_block, &labels) != old.root, PATH)?;
             root_by_path(n, i, block, &labels)
         } else {
-            let mut image = flash[..manifest.image_length as usize].to_vec();
-            image[place].copy_from_slice(block);
-            root(&image, manifest.block_length as usize)
+            tree(&manifest, &with_block(&manifest, flash, i, block))
         };
         refuse_if(new_root != manifest.root, MISMATCH)?;
         Ok(Effect {
@@ -208,6 +221,24 @@ impl Device {
 /// "the area must have T bytes"
 fn check_flash(manifest: &Manifest, flash: &[u8]) -> Outcome<()> {
     refuse_if(flash.len() < manifest.image_length as usize, AREA)
+}
+
+/// The root of the tree over the image's part of the flash.
+fn tree(manifest: &Manifest, flash: &[u8]) -> Hash {
+    let image = &flash[..manifest.image_length as usize];
+    root(image, manifest.block_length as usize)
+}
+
+/// Refusal 19: "if that tree lacks the held slip's root"
+fn check_tree(held: &Manifest, flash: &[u8]) -> Outcome<()> {
+    refuse_if(tree(held, flash) != held.root, ALTERED)
+}
+
+/// The flash "with that block in place"
+fn with_block(manifest: &Manifest, flash: &[u8], i: usize, block: &[u8]) -> Vec<u8> {
+    let mut flash = flash.to_vec();
+    flash[manifest.place(i)].copy_from_slice(block);
+    flash
 }
 
 /// "3 + L + 32 × c(i) bytes", and for the last block its own bytes in the place of L.

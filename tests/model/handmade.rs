@@ -7,17 +7,17 @@ use crate::compare::Compared;
 use crate::coverage::Coverage;
 use crate::craft::Image;
 use crate::functions::{compare_sender, sent};
-use crate::manifest::{AREA, BLOCK_LENGTHS, LENGTH, MISMATCH, UNLIKE, UNSIGNED};
+use crate::manifest::{AREA, BLOCK_LENGTHS, LENGTH, MISMATCH, Manifest, UNLIKE, UNSIGNED};
 use crate::pair::Pair;
 use crate::rng::Rng;
 use crate::sender::{Change, Order, program_message, update_message};
 use crate::signer::Signer;
 
-const ACCEPTED: u32 = 0;
-const MODEL: u32 = 0x0a0b_0c0d;
+pub const ACCEPTED: u32 = 0;
+pub const MODEL: u32 = 0x0a0b_0c0d;
 
 /// Bytes that the flash has behind the image in the second of two downloads; in the first, none.
-const BEHIND: usize = 5;
+pub const BEHIND: usize = 5;
 
 pub fn images(rng: &mut Rng) -> Vec<Image> {
     let mut images = Vec::new();
@@ -31,7 +31,7 @@ pub fn images(rng: &mut Rng) -> Vec<Image> {
     images
 }
 
-fn expect<T: PartialEq + std::fmt::Debug>(what: &str, got: T, due: T) -> Compared<()> {
+pub fn expect<T: PartialEq + std::fmt::Debug>(what: &str, got: T, due: T) -> Compared<()> {
     if got == due {
         return Ok(());
     }
@@ -39,9 +39,9 @@ fn expect<T: PartialEq + std::fmt::Debug>(what: &str, got: T, due: T) -> Compare
 }
 
 pub struct Case<'a> {
-    rng: Rng,
-    signer: &'a Signer,
-    image: Image,
+    pub rng: Rng,
+    pub signer: &'a Signer,
+    pub image: Image,
     serial: u32,
     /// Of no interest here: all that is done has its due answer.
     coverage: Coverage,
@@ -73,9 +73,21 @@ impl<'a> Case<'a> {
         Ok(())
     }
 
-    fn give(&mut self, what: &str, pair: &mut Pair, message: &[u8], due: u32) -> Compared<()> {
+    pub fn give(&mut self, what: &str, pair: &mut Pair, message: &[u8], due: u32) -> Compared<()> {
         let answer = pair.call(message, &mut self.coverage);
         expect(what, answer.map_err(|e| format!("{what}: {e}"))?, due)
+    }
+
+    /// Kind 1 with this manifest.
+    pub fn signed_program(&mut self, manifest: &Manifest) -> Vec<u8> {
+        let bytes = manifest.bytes();
+        program_message(&bytes, &self.signer.sign(&mut self.rng, &bytes))
+    }
+
+    /// Kind 3 or 4 with this manifest.
+    pub fn signed_update(&mut self, manifest: &Manifest, change: &Change) -> Vec<u8> {
+        let bytes = manifest.bytes();
+        update_message(&bytes, change, &self.signer.sign(&mut self.rng, &bytes))
     }
 
     /// Refused for a flash of T - 1 bytes.
@@ -183,10 +195,9 @@ impl<'a> Case<'a> {
     fn longer_update(&mut self, pair: &mut Pair, kind: u8, i: usize) -> Compared<()> {
         let mut longer = self.image.clone();
         longer.bytes.push(0xff);
-        let manifest = longer.manifest(MODEL, self.serial, &longer).bytes();
-        let signature = self.signer.sign(&mut self.rng, &manifest);
+        let manifest = longer.manifest(MODEL, self.serial, &longer);
         let change = Change::new(kind, &longer.bytes, longer.block_length, i);
-        let message = update_message(&manifest, &change, &signature);
+        let message = self.signed_update(&manifest, &change);
         self.give("update to a longer image", pair, &message, UNLIKE)
     }
 
@@ -199,10 +210,9 @@ impl<'a> Case<'a> {
             (&padded, &padded, UNSIGNED),
         ];
         for (carried, hashed, due) in cases {
-            let manifest = own.manifest(MODEL, self.serial, hashed).bytes();
-            let signature = self.signer.sign(&mut self.rng, &manifest);
+            let manifest = own.manifest(MODEL, self.serial, hashed);
             let change = Change::new(kind, &carried.bytes, own.block_length, own.blocks());
-            let message = update_message(&manifest, &change, &signature);
+            let message = self.signed_update(&manifest, &change);
             self.give("padded update", pair, &message, due)?;
         }
         Ok(())
@@ -213,9 +223,7 @@ impl<'a> Case<'a> {
         let (own, padded) = (self.image.clone(), self.image.padded());
         let (n, length) = (own.blocks(), own.bytes.len());
         let mut pair = Pair::fresh(&mut self.rng, MODEL, &self.signer.key, length)?;
-        let manifest = own.manifest(MODEL, self.serial, &padded).bytes();
-        let signature = self.signer.sign(&mut self.rng, &manifest);
-        let program = program_message(&manifest, &signature);
+        let program = self.signed_program(&own.manifest(MODEL, self.serial, &padded));
         self.give("padded program", &mut pair, &program, ACCEPTED)?;
         for i in 1..n {
             let message = padded.block_message(i);

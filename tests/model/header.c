@@ -38,7 +38,7 @@ static void expect(const char *what, size_t got, size_t due) {
 static void words(void) {
     static const char *const due[] = {"accepted", "state", "kind", "short", "version", "size", "model", "serial",
                                       "area", "unsigned", "stage", "turn", "length", "unlike", "mismatch", "path", "text", "place", "twice",
-                                      "unknown"};
+                                      "altered", "unknown"};
     for (uint32_t answer = 0; answer < sizeof due / sizeof *due; answer++) {
         if (strcmp(lertxuno_refusal_word(answer), due[answer]) != 0) {
             printf("wrong: word of answer %u: %s\n", (unsigned)answer, lertxuno_refusal_word(answer));
@@ -153,6 +153,10 @@ static void fields(size_t stage, size_t next, size_t serial) {
 
 static uint32_t receive(size_t flash_length) { return lertxuno_receive(state, LERTXUNO_STATE_LENGTH, flash, flash_length, out, written); }
 
+static uint32_t intact(size_t flash_length) {
+    return lertxuno_intact(state, LERTXUNO_STATE_LENGTH, flash, flash_length);
+}
+
 /* The message that the sender has just written: refused for a flash of a byte less than the image, then taken. */
 static void taken(const char *what, size_t flash_length) {
     expect(what, receive(IMAGE_LENGTH - 1), LERTXUNO_AREA);
@@ -164,12 +168,34 @@ static void expect_flash(void) {
     expect("flash, the byte behind the image", flash[IMAGE_LENGTH], BEHIND);
 }
 
+/* The message that the sender has just written: refused while another byte stands first in the
+ * flash. */
+static void altered(const char *what, size_t flash_length) {
+    flash[0] ^= 1;
+    expect(what, receive(flash_length), LERTXUNO_ALTERED);
+    flash[0] ^= 1;
+}
+
+/* The boot check of a complete device. */
+static void booted(size_t flash_length) {
+    expect("boot check", intact(flash_length), LERTXUNO_ACCEPTED);
+    expect("boot check, a byte too little flash", intact(IMAGE_LENGTH - 1), LERTXUNO_AREA);
+    expect("boot check, a state of a byte less",
+           lertxuno_intact(state, LERTXUNO_STATE_LENGTH - 1, flash, flash_length), LERTXUNO_STATE);
+    flash[0] ^= 1;
+    expect("boot check, altered", intact(flash_length), LERTXUNO_ALTERED);
+    flash[0] ^= 1;
+}
+
 static void block(uint32_t number, size_t flash_length) {
     size_t due = 0;
     lertxuno_block(image, IMAGE_LENGTH, BLOCK_LENGTH, number, out, sizeof out, &written);
     expect_true("block's place in its message", out[LERTXUNO_BLOCK_HEAD] == image[(number - 1) * BLOCK_LENGTH]);
     expect("length due", lertxuno_block_message_length(state, LERTXUNO_STATE_LENGTH, &due), LERTXUNO_ACCEPTED);
     expect("length due", due, written);
+    expect("boot check while loading", intact(flash_length), LERTXUNO_STAGE);
+    if (number == BLOCKS)
+        altered("last block over an altered flash", flash_length);
     taken("block", flash_length);
 }
 
@@ -190,6 +216,7 @@ static void download(size_t flash_length) {
     expect("last block's message", written, LERTXUNO_BLOCK_HEAD + LAST);
     fields(LERTXUNO_COMPLETE, 0, SERIAL);
     expect_flash();
+    booted(flash_length);
 }
 
 typedef uint32_t sender_update(const uint8_t *, size_t, uint32_t, uint32_t, uint32_t, uint32_t, const uint8_t *, size_t, uint8_t *, size_t, size_t *);
@@ -205,9 +232,12 @@ static void update(sender_update *sender, size_t hashes, size_t flash_length) {
     written = least;
     expect("update without signature", receive(flash_length), LERTXUNO_UNSIGNED);
     written = least + sizeof sample_update_signature;
+    if (sender == lertxuno_update)
+        altered("update of an altered flash", flash_length);
     taken("update", flash_length);
     fields(LERTXUNO_COMPLETE, 0, SERIAL + 1);
     expect_flash();
+    booted(flash_length);
 }
 
 int main(void) {

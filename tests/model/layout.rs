@@ -65,6 +65,12 @@ fn write(state: &mut [u8], stage: &Stage) {
     state[STATE_LENGTH - held.len()..].copy_from_slice(&held);
 }
 
+/// The boot check: 0, or the refusal.
+pub fn intact(state: &[u8], flash: &[u8]) -> u32 {
+    let verdict = read(state).and_then(|device| device.intact(flash));
+    verdict.err().unwrap_or(0)
+}
+
 /// One message to the device: 0, with state and flash those after it, or the refusal, with both as
 /// before.
 pub fn receive(state: &mut [u8], flash: &mut [u8], message: &[u8]) -> u32 {

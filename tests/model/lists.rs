@@ -3,7 +3,7 @@
 use std::collections::HashMap;
 
 use crate::compare::Compared;
-use crate::coverage::{ALTERED, Coverage};
+use crate::coverage::Coverage;
 use crate::craft::Author;
 use crate::damage::{damage, noise, resize};
 use crate::device::{Device, Stage};
@@ -15,6 +15,7 @@ use crate::pair::Pair;
 use crate::plan::Plan;
 use crate::rng::Rng;
 use crate::signer::Signer;
+use crate::touch::touched;
 
 /// One list of messages.
 pub struct List<'a> {
@@ -55,6 +56,7 @@ impl<'a> List<'a> {
     /// Makes the next message, hands it over and compares.
     pub fn step(&mut self, coverage: &mut Coverage) -> Compared<()> {
         let message = self.message(&self.pair.device());
+        self.others(&message);
         let kind = message.first().map_or(0, |kind| *kind as usize);
         let answer = self
             .call(&message, coverage)
@@ -71,6 +73,18 @@ impl<'a> List<'a> {
         Ok(())
     }
 
+    /// What becomes of the flash between two calls.
+    fn others(&mut self, message: &[u8]) {
+        let (rng, plan) = (&mut self.author.rng, &self.author.plan);
+        if rng.percent(plan.put_back) {
+            self.pair.put_back();
+        }
+        if rng.percent(plan.touched) {
+            let flash = touched(rng, &self.pair, message);
+            self.pair.put_flash(flash);
+        }
+    }
+
     fn call(&mut self, message: &[u8], coverage: &mut Coverage) -> Compared<u32> {
         let (rng, plan) = (&mut self.author.rng, &self.author.plan);
         if !rng.percent(plan.aside) {
@@ -83,16 +97,8 @@ impl<'a> List<'a> {
                 _ => self.pair.call(message, coverage),
             };
         }
-        let altered = rng.one_in(3);
-        let mut other = if altered {
-            self.pair.altered(rng, message)
-        } else {
-            self.pair.changed(rng)
-        };
+        let mut other = self.pair.changed(rng);
         let answer = other.call(message, coverage)?;
-        if altered && self.pair.takes(message) {
-            coverage.count(ALTERED + message[0] as usize - 1, answer);
-        }
         // A device that went on from odd bytes is worth following, if it has its model, key and
         // whole flash.
         if answer == 0

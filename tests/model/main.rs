@@ -1,10 +1,12 @@
-//! The C library and the loader against a model written from the papers alone: the image's end and
-//! Intel HEX by hand, and random lists of messages, what is read off each state, sender calls,
+//! The C library and the loader against a model written from the papers alone: the image's end,
+//! flashes that others have touched and Intel HEX by hand, and random lists of messages, between
+//! which others touch the flash, what is read off each state, the boot check, sender calls,
 //! digests, verdicts, Intel HEX texts and bundles.
 //!
 //! `model [CALLS [SEED]]`: CALLS messages to devices (200,000 if not given), and of the other calls
 //! a share of it.
 
+mod altered;
 mod bundles;
 mod capi;
 mod compare;
@@ -28,24 +30,29 @@ mod lists;
 mod lms;
 mod loader;
 mod manifest;
+mod orders;
 mod pair;
 mod plan;
 mod readers;
+mod regions;
 mod rfc8554;
 mod rng;
 mod selftest;
 mod sender;
 mod sha256;
 mod signer;
+mod touch;
 mod tree;
 
 use std::collections::BTreeMap;
 use std::sync::atomic::{AtomicU64, Ordering};
 use std::time::{SystemTime, UNIX_EPOCH};
 
+use altered::Altered;
 use bundles::Bundles;
 use compare::Compared;
 use coverage::Coverage;
+use craft::Image;
 use handmade::Case;
 use lists::List;
 use manifest::BLOCK_LENGTHS;
@@ -77,6 +84,12 @@ fn signers(seed: u64) -> Vec<[Signer; 2]> {
     types
         .map(|(tree, ots)| [(); 2].map(|()| Signer::new(&mut rng, tree, ots)))
         .collect()
+}
+
+/// The image, before what was wrong with it.
+fn named(image: &Image) -> impl Fn(String) -> String + use<> {
+    let (length, block_length) = (image.bytes.len(), image.block_length);
+    move |what| format!("L {block_length}, T {length}: {what}")
 }
 
 extern "C" fn fault(_: i32) {
@@ -124,13 +137,22 @@ impl Test<'_> {
             self.record("longest images by hand", 0, index, result);
         }
         for (index, image) in handmade::images(&mut rng).into_iter().enumerate() {
-            let (length, block_length) = (image.bytes.len(), image.block_length);
-            let named = |e| format!("L {block_length}, T {length}: {e}");
+            let named = named(&image);
             let result = bundles.last_blocks(&mut rng, signer, &image);
-            self.record("loader by hand", 0, index, result.map_err(named));
+            self.record("loader by hand", 0, index, result.map_err(&named));
             let case_rng = Rng::new(self.seed, rng.next());
             let result = Case::new(case_rng, signer, image).run();
             self.record("device by hand", 0, index, result.map_err(named));
+        }
+    }
+
+    fn touched_by_hand(&mut self) {
+        let mut rng = Rng::new(self.seed, u64::MAX - 5);
+        for (index, image) in altered::images(&mut rng).into_iter().enumerate() {
+            let named = named(&image);
+            let case = Case::new(Rng::new(self.seed, rng.next()), &self.signers[0][0], image);
+            let result = Altered::new(case).and_then(|mut altered| altered.run());
+            self.record("touched flash by hand", 0, index, result.map_err(named));
         }
     }
 
@@ -255,6 +277,8 @@ fn main() {
     test.self_test();
     println!("the image's end");
     test.by_hand();
+    println!("flashes that others have touched");
+    test.touched_by_hand();
     test.lists(calls);
     println!("sender, digest, verdict");
     test.functions(calls);

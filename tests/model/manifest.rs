@@ -28,6 +28,7 @@ pub const PATH: u32 = 15;
 pub const TEXT: u32 = 16;
 pub const PLACE: u32 = 17;
 pub const TWICE: u32 = 18;
+pub const ALTERED: u32 = 19;
 
 /// The first refusal that applies.
 pub type Outcome<T> = Result<T, u32>;

@@ -1,17 +1,17 @@
 //! A device of the library and one of the model, which get the same messages. After every call
-//! answer, state and flash are compared, and what both read off the state.
+//! answer, state and flash are compared, what both read off the state, and the boot check.
 
 use crate::capi;
 use crate::compare::{Compared, same, same_answer};
-use crate::coverage::Coverage;
+use crate::coverage::{Coverage, INTACT};
 use crate::damage::damage_state;
 use crate::device::Device;
-use crate::ends::Call;
+use crate::ends::{Call, subject};
 use crate::layout::{self, MANIFEST_AT, STATE_LENGTH};
 use crate::lent::Lent;
-use crate::lms::number;
 use crate::manifest::STATE;
 use crate::readers;
+use crate::regions::Meeting;
 use crate::rng::Rng;
 
 /// Both devices, each with its own state and flash.
@@ -21,6 +21,11 @@ pub struct Pair {
     library_flash: Lent,
     pub state: Vec<u8>,
     pub flash: Vec<u8>,
+    /// The flash as it would be had nobody but the device written to it. What it has beyond the
+    /// flash's length counts for nothing.
+    untouched: Vec<u8>,
+    /// What the last accepted block took the place of, and where that is.
+    pub overwritten: (usize, Vec<u8>),
 }
 
 impl Pair {
@@ -36,28 +41,78 @@ impl Pair {
             library_flash: Lent::new(&flash),
             library_state,
             state,
+            untouched: flash.clone(),
             flash,
+            overwritten: (0, Vec::new()),
         })
     }
 
     pub fn call(&mut self, message: &[u8], coverage: &mut Coverage) -> Compared<u32> {
-        let before = layout::read(&self.state);
+        let before = layout::read(&self.state).ok();
+        let meeting = before
+            .as_ref()
+            .and_then(|device| Meeting::new(device, &self.flash, &self.untouched, message));
         let answer = layout::receive(&mut self.state, &mut self.flash, message);
         let library = capi::receive(&mut self.library_state, &mut self.library_flash, message);
         same_answer(library, answer)?;
-        same("state", &self.library_state, &self.state)?;
-        same("flash", &self.library_flash, &self.flash)?;
+        coverage.count(INTACT, self.intact()?);
         readers::compare(&self.state, coverage)?;
-        if let (Ok(device), true) = (before, answer != STATE) {
+        if let (Some(device), true) = (&before, answer != STATE) {
             let call = Call {
-                device: &device,
+                device,
                 flash: &self.flash,
                 message,
                 answer,
             };
             call.count(coverage);
         }
+        if let Some(meeting) = meeting {
+            meeting.count(answer, coverage);
+        }
+        if let (Some(device), 0) = (before, answer) {
+            self.follow(&device, message);
+        }
         Ok(answer)
+    }
+
+    /// The block of an accepted message goes to the untouched flash as well.
+    fn follow(&mut self, device: &Device, message: &[u8]) {
+        let (manifest, i) = subject(device, message).expect("an accepted message");
+        if i > 0 {
+            let place = manifest.place(i);
+            self.overwritten = (place.start, self.untouched[place.clone()].to_vec());
+            self.untouched[place.clone()].copy_from_slice(&self.flash[place]);
+        }
+    }
+
+    /// The boot check, and behind it a look at state and flash, which it must leave as they are.
+    pub fn intact(&self) -> Compared<u32> {
+        let library = capi::intact(&self.library_state, &self.library_flash);
+        same("state", &self.library_state, &self.state)?;
+        same("flash", &self.library_flash, &self.flash)?;
+        let answer = layout::intact(&self.state, &self.flash);
+        same_answer(library, answer).map_err(|what| format!("boot check: {what}"))?;
+        Ok(answer)
+    }
+
+    /// Somebody else writes the whole state.
+    pub fn put_state(&mut self, state: Vec<u8>) {
+        self.library_state = Lent::new(&state);
+        self.state = state;
+    }
+
+    /// Somebody else writes the whole flash.
+    pub fn put_flash(&mut self, flash: Vec<u8>) {
+        self.library_flash = Lent::new(&flash);
+        self.flash = flash;
+    }
+
+    /// Somebody puts back what the device had left in the flash.
+    pub fn put_back(&mut self) {
+        let untouched = &self.untouched[..self.flash.len()];
+        if self.flash != untouched {
+            self.put_flash(untouched.to_vec());
+        }
     }
 
     /// A call that is lent so many bytes of the flash, or all that there are; the rest stays.
@@ -67,11 +122,11 @@ impl Pair {
         message: &[u8],
         coverage: &mut Coverage,
     ) -> Compared<u32> {
-        let rest = self.flash.split_off(length.min(self.flash.len()));
-        self.library_flash = Lent::new(&self.flash);
+        let mut lent = self.flash.clone();
+        let rest = lent.split_off(length.min(lent.len()));
+        self.put_flash(lent);
         let answer = self.call(message, coverage);
-        self.flash.extend(rest);
-        self.library_flash = Lent::new(&self.flash);
+        self.put_flash([&self.flash[..], &rest].concat());
         answer
     }
 
@@ -79,16 +134,11 @@ impl Pair {
         layout::read(&self.state).expect("fresh, or left by an accepted message")
     }
 
-    /// Whether the message would be accepted now.
-    pub fn takes(&self, message: &[u8]) -> bool {
-        self.device().receive(&self.flash, message).is_ok()
-    }
-
     /// The same pair with a flash of so many bytes, or of all that it has.
     pub fn cut(&self, flash_length: usize) -> Pair {
         let mut other = self.clone();
-        other.flash.truncate(flash_length);
-        other.library_flash = Lent::new(&other.flash);
+        let length = flash_length.min(self.flash.len());
+        other.put_flash(self.flash[..length].to_vec());
         other
     }
 
@@ -106,23 +156,9 @@ impl Pair {
             self.clone()
         };
         if what >= 3 {
-            damage_state(rng, &mut other.state);
-            other.library_state = Lent::new(&other.state);
-        }
-        other
-    }
-
-    /// The same pair after somebody else wrote to the program's part of the flash: to the block
-    /// that an update names, or to any.
-    pub fn altered(&self, rng: &mut Rng, message: &[u8]) -> Pair {
-        let mut other = self.clone();
-        if let Some(manifest) = self.device().manifest() {
-            let n = manifest.blocks();
-            let named = message.get(49..51).map_or(0, number) as usize;
-            let any = rng.range(1, n);
-            let place = manifest.place(rng.pick(&[any, named]).clamp(1, n));
-            other.flash[rng.range(place.start, place.end - 1)] ^= 1 << rng.below(8);
-            other.library_flash = Lent::new(&other.flash);
+            let mut state = self.state.clone();
+            damage_state(rng, &mut state);
+            other.put_state(state);
         }
         other
     }

@@ -22,6 +22,11 @@ pub struct Plan {
     pub updates: usize,
     /// Percent of calls that are lent the image's part of the flash alone, or a byte less.
     pub tight: usize,
+    /// Percent of calls before which somebody else writes to the flash.
+    pub touched: usize,
+    /// Percent of calls before which the flash gets back what the device had left there: over a
+    /// touched one many messages are refused.
+    pub put_back: usize,
     /// Percent of calls that go to a changed copy of the device.
     pub aside: usize,
     /// Percent of accepted ones among these from which the list goes on.
@@ -47,6 +52,8 @@ impl Plan {
             restarts: 2,
             updates: 80,
             tight: rng.pick(&[0, 50]),
+            touched: rng.pick(&[0, 0, 10, 30]),
+            put_back: 25,
             aside: rng.pick(&[0, 20, 50]),
             followed: 33,
         }
@@ -70,6 +77,8 @@ impl Plan {
             restarts: 0,
             updates: 90,
             tight: 0,
+            touched: rng.pick(&[0, 1]),
+            put_back: 10,
             aside: 1,
             followed: 0,
         }
