@@ -1,11 +1,10 @@
 -- Early returns, one test after the other, give the answer of the first refusal that applies.
 use mathlib.Core.Path.{_≡_, refl, sym, ap, _∙_}
-use mathlib.Core.Bool.{Bool, true, false, cond}
+use mathlib.Core.Bool.{Bool, true, false}
 use mathlib.Core.List.{List, [], _∷_, _++_}
 use mathlib.Core.Option.{none}
 use Prim.Native.Nat.{ℕ}
 use native.Mathlib.Omega.{arith}
-use lib.Dec.{eqb}
 use lib.ListN.{length}
 use borrow.Author.Tests.{ltb-true}
 use Rattle.wire.specs.declared.kind.Kind.{Kind}
@@ -13,7 +12,7 @@ use Rattle.wire.specs.declared.kind.Kind.the-variants.{Program, Block, Update, 
 use Rattle.wire.specs.declared.manifest.Manifest.{Manifest}
 use Rattle.wire.specs.declared.refusal.Refusal.{Refusal}
 use Rattle.wire.specs.declared.refusal.Refusal.the-variants as refusal
-use Rattle.wire.specs.Refusal.{refusalNumber, firstThatApplies}
+use Rattle.wire.specs.Refusal.{firstThatApplies}
 use Rattle.wire.specs.Size.{wrongSize}
 use Rattle.wire.specs.Message.{short}
 use Rattle.machine.specs.declared.state.Device.{Device}
@@ -22,11 +21,6 @@ use Rattle.machine.specs.declared.state.Answer.the-variants.{Accepted, Refused}
 use Rattle.machine.specs.Refusals.{noKind, tooSmall, ofManifest, ofSuccessor}
 use Rattle.machine.specs.Step.{answerOf}
 use Rattle.machine.proofs.RefusalLaws.{testOf, clear, answer-none, answer-some, Passes, behind-piece, in-piece, alike-lengths}
-
--- the tests behind that of a refusal
-unfoldable pub behind : Refusal → List (Refusal × Bool) → List (Refusal × Bool)
-behind r [] = []
-behind r (e ∷ es) = cond (eqb (refusalNumber (e .0)) (refusalNumber r)) es (behind r es)
 
 -- a list that is told in other words
 pub retold : {es fs : List (Refusal × Bool)} → fs ≡ es → Passes es fs

@@ -5,7 +5,7 @@ use mathlib.Core.Bool.{Bool, true, false, _&&_, true≢false}
 use mathlib.Core.List.{List, []}
 use mathlib.Core.Option.{none, some}
 use Prim.Native.Nat.{ℕ, zero, suc, _≤_}
-use lib.ListN.{length, take, drop}
+use lib.ListN.{length}
 use borrow.Author.Tests.{eqb-true, le-ltb, ltb-false, not-false}
 use Rattle.merkle.specs.Limits.{hashLength}
 use Rattle.wire.specs.declared.kind.Kind.{Kind}
@@ -25,7 +25,7 @@ use Rattle.machine.specs.Flash.{stored, updated}
 use Rattle.machine.specs.Refusals.{senseless, tooSmall, notLoading, notComplete, wrongLength, mismatch, lastAltered, ofManifest, always, ofProgram, ofBlock, ofSuccessor, ofUpdate, ofPathUpdate, ofKind, refusals}
 use Rattle.machine.specs.Step.{acceptBlock, acceptUpdate, accept, answerOf, refusalOf, step}
 use Rattle.machine.specs.BootCheck.{ofBoot, bootCheck}
-use Rattle.machine.proofs.RefusalLaws.{testOf, clear, answer-none, start, _past_, has-root, lacks-none, Successor, block-passed, update-passed, path-passed, path-block}
+use Rattle.machine.proofs.RefusalLaws.{testOf, ahead, behind, clear, answer-none, start, _past_, has-root, lacks-none, Successor, block-passed, update-passed, path-passed, path-block}
 use Rattle.machine.proofs.SenseLaws.{not-complete, complete-size, sense-complete}
 use Rattle.guarantee.specs.Run.{Messages, answerTo}
 use Rattle.guarantee.specs.Demand3.{Clash, Misled}
@@ -145,20 +145,20 @@ module _ (H : List ℕ → List ℕ) (hash-long : (x : List ℕ) → length (H x
       found k e = subst (λ x. firstThatApplies (of x) ≡ some refusal.Altered) e (some-at H valid d flash ms m refusal.Altered a)
 
       no-block : kind m ≡ Block → ⊥
-      unfolding refusals always ofKind ofBlock lacks testOf wrongLength
+      unfolding refusals always ofKind ofBlock lacks testOf ahead wrongLength
       no-block e =
-          let before = take 8 (of Block) in
+          let before = ahead refusal.Altered (of Block) in
           let o = its-own refusal.Altered before [] _ refl refl (found Block e) in
           let sent = eqb-true _ _ (not-false _ (clear refusal.Length before (o .0))) in
           true≢false (sym (o .1) ∙ whole e (clear refusal.Stage before (o .0)) sent (clear refusal.Mismatch before (o .0)))
 
       misled : (k : Kind) → kind m ≡ k → Misled H valid (step H valid) d flash ms
-      unfolding refusals always ofKind ofManifest ofProgram ofSuccessor ofUpdate ofPathUpdate lacks testOf
+      unfolding refusals always ofKind ofManifest ofProgram ofSuccessor ofUpdate ofPathUpdate lacks testOf ahead behind
       misled Program e = absurd (never refusal.Altered (of Program) refl (found Program e))
       misled Block e = absurd (no-block e)
       misled Update e =
-          let before = take 10 (of Update) in
-          let o = its-own refusal.Altered before (drop 11 (of Update)) _ refl refl (found Update e) in
+          let before = ahead refusal.Altered (of Update) in
+          let o = its-own refusal.Altered before (behind refusal.Altered (of Update)) _ refl refl (found Update e) in
           let first = first-half H hash-long valid d fresh flash ms in
           let c = first .exactly .0 (not-complete _ (clear refusal.Stage before (o .0))) in
           ⊎-elim (λ t. absurd (true≢false (sym (o .1) ∙ lacks-none H _ _ (t .rooted)))) (λ w. w) (first .bound c .tree)

@@ -2,11 +2,11 @@
 use mathlib.Core.Path.{_≡_, refl, sym, ap, _∙_, subst}
 use mathlib.Core.Logic.{_⊎_, inl, inr, ⊎-elim}
 use mathlib.Core.Bool.{Bool, true, false, _&&_, true≢false}
-use mathlib.Core.List.{List, _++_}
+use mathlib.Core.List.{List, [], _∷_, _++_}
 use mathlib.Core.Option.{Option, none, some}
 use Prim.Native.Nat.{ℕ, suc, pred, _+_, _*_, _≤_, _<_}
 use native.Mathlib.Omega.{arith}
-use lib.ListN.{length, take, drop}
+use lib.ListN.{length, take}
 use lib.Seq.{take-take, length-take-le}
 use lib.Dec.{eqb}
 use borrow.Author.Tests.{ltb-false, eqb-true, not-false, lt-ltb, le-ltb}
@@ -33,7 +33,7 @@ use Rattle.machine.specs.Device.{nextOf, Situation}
 use Rattle.machine.specs.Flash.{stored}
 use Rattle.machine.specs.Refusals.{tooSmall, notLoading, wrongLength, lacksRoot, lastAltered, strays, always, ofManifest, ofBlock, ofSuccessor, ofUpdate, ofPathUpdate, ofKind, refusals}
 use Rattle.machine.specs.Step.{stageAfter, acceptBlock, acceptUpdate, accept, answerOf, outcome, refusalOf, step}
-use Rattle.machine.proofs.RefusalLaws.{of-second, alike-lengths, has-root, testOf, clear, awaits, BlockPassed, block-passed, update-passed, newLength, newDepth, ledTo, path-passed}
+use Rattle.machine.proofs.RefusalLaws.{of-second, alike-lengths, has-root, testOf, ahead, behind, clear, awaits, BlockPassed, block-passed, update-passed, newLength, newDepth, ledTo, path-passed}
 use Rattle.guarantee.specs.Run.{Messages, empty, _▷_, after, answerTo, siblingsIn}
 use Rattle.guarantee.specs.PowerLoss.{OnlyBlocks, Agree, SameLoad, TornLoad, TornUpdate, PathReads, TornPath}
 use Rattle.machine.proofs.TestLaws.{same-behind, next-test}
@@ -50,14 +50,14 @@ one-tree H hash-long s f g z room a b =
     let again : blocksOf s (take T f) ≡ blocksOf s f = unfold blocksOf in ap (cut (s .«block_len»)) (take-take T T f (omega arith)) in
     rw again at (bound-image H hash-long s g (take T f) z b (length-take-le T f room) (rw again a))
 
--- Before 19, which is the eleventh, an update's refusals see the length alone of the flash.
+-- Before 19 an update's refusals see the length alone of the flash.
 altered-or-rooted : (H : List ℕ → List ℕ) (valid : (key message signature : List ℕ) → Bool) (d : Device) (f g m : List ℕ) → kind m ≡ Update → length f ≡ length g
     → refusalOf H valid d f m ≡ none → (refusalOf H valid d g m ≡ some refusal.Altered) ⊎ (treeOver H (d .manifest) g ≡ d .manifest .root)
-unfolding refusalOf refusals always ofKind ofManifest ofSuccessor ofUpdate tooSmall
+unfolding refusalOf refusals always ofKind ofManifest ofSuccessor ofUpdate tooSmall testOf ahead behind
 altered-or-rooted H valid d f g m k long e =
     let es = refusals H valid Update d f m in
     ⊎-elim (λ q. inl (rw (k, ← long) q)) (λ q. inr (has-root H _ _ (q .0)))
-    (next-test (take 10 es) (drop 10 es) (drop 11 (refusals H valid Update d g m)) refusal.Altered (lacksRoot H (d .manifest) g) (rw k at e))
+    (next-test (ahead refusal.Altered es) ((refusal.Altered, testOf refusal.Altered es) ∷ behind refusal.Altered es) (behind refusal.Altered (refusals H valid Update d g m)) refusal.Altered (lacksRoot H (d .manifest) g) (rw k at e))
 
 pub torn-update : (H : List ℕ → List ℕ) → ((x : List ℕ) → length (H x) ≡ hashLength) → (valid : (key message signature : List ℕ) → Bool) → TornUpdate H valid
 unfolding after answerTo answerOf
@@ -89,16 +89,18 @@ module _ (H : List ℕ → List ℕ) (valid : (key message signature : List ℕ)
       go none = (refl, refl)
       go (some r) = (refl, refl)
 
-  -- all but 15, which is the fourteenth, are the same over both
+  -- all but 15 are the same over both
   path-or-none : refusalOf H valid d f m ≡ none → (refusalOf H valid d g m ≡ some refusal.Path) ⊎ (refusalOf H valid d g m ≡ none)
-  unfolding refusalOf refusals always ofKind ofManifest ofSuccessor ofPathUpdate tooSmall
+  unfolding refusalOf refusals always ofKind ofManifest ofSuccessor ofPathUpdate tooSmall testOf ahead behind
   path-or-none e =
       let es = refusals H valid PathUpdate d f m in
       let siblings = pathIn (newLength H valid d f m) (newDepth H valid d f m) m in
+      let own : Refusal × Bool = (refusal.Path, testOf refusal.Path es) in
+      let rest = behind refusal.Path es in
       let e' : firstThatApplies es ≡ none = rw k at e in
       rw (k, ← long)
-      (⊎-elim (λ q. inl q) (λ q. inr (q .1 ∙ of-second (take 14 es) (drop 14 es) e'))
-      (next-test (take 13 es) (drop 13 es) (drop 14 es) refusal.Path (strays H s (updateNumber m) (blocksOf s g i) siblings (d .manifest .root)) e'))
+      (⊎-elim (λ q. inl q) (λ q. inr (q .1 ∙ of-second (own ∷ []) rest (of-second (ahead refusal.Path es) (own ∷ rest) e')))
+      (next-test (ahead refusal.Path es) (own ∷ rest) rest refusal.Path (strays H s (updateNumber m) (blocksOf s g i) siblings (d .manifest .root)) e'))
 
 pub path-reads : (H : List ℕ → List ℕ) (valid : (key message signature : List ℕ) → Bool) → PathReads H valid
 path-reads H valid = reads H valid
@@ -164,11 +166,11 @@ module _ (s : Manifest) (k : ℕ) (f g m : List ℕ) (below : k < countOf s) (ag
 module _ (H : List ℕ → List ℕ) (valid : (key message signature : List ℕ) → Bool) where
   -- before 19, its last, a block message's refusals see the length alone of the flash
   block-refusal : (d : Device) (k : ℕ) (f g m : List ℕ) → kind m ≡ Block → d .stage ≡ Loading (suc k) → Agree (d .manifest) k f g → refusalOf H valid d f m ≡ refusalOf H valid d g m
-  unfolding refusalOf refusals always ofKind ofBlock nextOf tooSmall wrongLength testOf
+  unfolding refusalOf refusals always ofKind ofBlock nextOf tooSmall wrongLength testOf ahead
   block-refusal d k f g m e t agree =
       let next : nextOf (d .stage) ≡ suc k = rw t in
       rw (e, ← agree .long)
-      (same-behind (take 8 (refusals H valid Block d f m)) _ _
+      (same-behind (ahead refusal.Altered (refusals H valid Block d f m)) _ _
       (λ a.
       let below = awaits d (clear refusal.State _ a) (clear refusal.Stage _ a) (sym next) .high in
       let due : wrongLength (d .manifest) (suc k) m ≡ false = rw next at (clear refusal.Length _ a) in

@@ -1,13 +1,13 @@
 -- Wrong devices that break what is said of one call (specs/OneCall). Where the comment says 'alone', all other clauses hold of the device, by reading. Demand 3 does
 -- not see `late`, `believing` and `adopting`: they differ from the right device only where a block is refused 19, and in a list none is (`nobody-else` in AlteredHolds).
-use mathlib.Core.Path.{_≡_, refl, ap}
+use mathlib.Core.Path.{_≡_, refl, sym, ap, _∙_}
 use mathlib.Core.Logic.{⊎-elim}
 use mathlib.Core.Bool.{Bool, cond, _&&_}
 use mathlib.Core.List.{List, [], _∷_, _++_}
 use Prim.Native.Nat.{ℕ}
 use native.Mathlib.Omega.{arith}
 use lib.Dec.{eqb}
-use lib.ListN.{getD, take, drop, replicate}
+use lib.ListN.{getD, replicate}
 use Rattle.wire.specs.declared.kind.Kind.the-variants.{Program, Block, Update, PathUpdate}
 use Rattle.wire.specs.declared.manifest.Manifest.{Manifest}
 use Rattle.wire.specs.declared.refusal.Refusal.{Refusal}
@@ -23,6 +23,7 @@ use Rattle.machine.specs.Device.{nextOf}
 use Rattle.machine.specs.Refusals.{lacksRoot, refusals}
 use Rattle.machine.specs.Readers.{numberOf}
 use Rattle.machine.specs.Step.{acceptBlock, accept, outcome}
+use Rattle.machine.proofs.RefusalLaws.{ahead, behind}
 use Rattle.guarantee.specs.Run.{empty, _▷_, after}
 use Rattle.guarantee.specs.Behind.{goesBy}
 use Rattle.guarantee.specs.OneCall.{OneCall, EachCall}
@@ -59,7 +60,7 @@ judging tests d f m = outcome (firstThatApplies (tests d f m)) d f (accept (kind
 
 -- what the calls compute with
 calling : ℕ
-unfolding computing weakHash weak device pair before waiting threes finished fours worn misplaced judging
+unfolding computing weakHash weak device pair before waiting threes finished fours worn misplaced judging ahead behind
 calling = 0
 
 -- the right device finds the worn flash altered, at the last block and at an update
@@ -89,9 +90,9 @@ stale-caught h =
     let z : _≡_ {A = ℕ} 1 2 = ap (λ (s : Manifest). s .serial) (h .manifest refl) in
     omega arith
 
--- It has no 19 at an update, the eleventh test: caught at `before`, alone.
+-- It has no 19 at an update: caught at `before`, alone.
 pub incurious : Step
-incurious = byKind device device (judging (λ d f m. let es = refusals weak any Update d f m in take 10 es ++ drop 11 es)) device
+incurious = byKind device device (judging (λ d f m. let es = refusals weak any Update d f m in ahead refusal.Altered es ++ behind refusal.Altered es)) device
 
 pub incurious-caught : OneCall weak incurious finished worn fours → ⊥
 unfolding calling incurious
@@ -109,27 +110,31 @@ withholding-caught h =
     let z : _≡_ {A = ℕ} 5 4 = ap (λ (l : List ℕ). getD l 1 0) (h .update refl refl .root) in
     omega arith
 
--- It trusts the hashes held and has no 19 at the last block, the ninth test: caught at `last`, alone.
+-- A last block that is taken, and the program complete, where the root is 3 and the manifest's 5.
+three-for-five : (wrong : Step) (f : List ℕ) → wrong waiting f threes .answer ≡ Accepted → wrong waiting f threes .device .stage ≡ Complete
+    → getD (treeOver weak (waiting .manifest) (wrong waiting f threes .flash)) 1 0 ≡ 3 → OneCall weak wrong waiting f threes → ⊥
+unfolding calling
+three-for-five wrong f a c e h =
+    let z : _≡_ {A = ℕ} 3 5 = sym e ∙ ap (λ (l : List ℕ). getD l 1 0) (h .last refl a c .root) in
+    omega arith
+
+-- It trusts the hashes held and has no 19 at the last block: caught at `last`, alone.
 pub believing : Step
-believing = byKind device (judging (λ d f m. take 8 (refusals weak any Block d f m))) device device
+believing = byKind device (judging (λ d f m. ahead refusal.Altered (refusals weak any Block d f m))) device device
 
 pub believing-caught : OneCall weak believing waiting worn threes → ⊥
 unfolding calling believing
-believing-caught h =
-    let z : _≡_ {A = ℕ} 3 5 = ap (λ (l : List ℕ). getD l 1 0) (h .last refl refl refl .root) in
-    omega arith
+believing-caught = three-for-five believing worn refl refl refl
 
 -- At the last block it looks at the flash as handed in, without that block: caught at `last`, alone.
 pub shortsighted : Step
 shortsighted = byKind device (judging (λ d f m.
     let s = d .manifest in
-    take 8 (refusals weak any Block d f m) ++ ((refusal.Altered, eqb (nextOf (d .stage)) (countOf s) && lacksRoot weak s f) ∷ []))) device device
+    ahead refusal.Altered (refusals weak any Block d f m) ++ ((refusal.Altered, eqb (nextOf (d .stage)) (countOf s) && lacksRoot weak s f) ∷ []))) device device
 
 pub shortsighted-caught : OneCall weak shortsighted waiting misplaced threes → ⊥
 unfolding calling shortsighted
-shortsighted-caught h =
-    let z : _≡_ {A = ℕ} 3 5 = ap (λ (l : List ℕ). getD l 1 0) (h .last refl refl refl .root) in
-    omega arith
+shortsighted-caught = three-for-five shortsighted misplaced refl refl refl
 
 -- It is complete as soon as it takes a new program: caught at `only`, alone.
 pub waking : Step
@@ -151,9 +156,7 @@ adopting = byKind device (λ d f m.
 
 pub adopting-caught : OneCall weak adopting waiting worn threes → ⊥
 unfolding calling adopting withManifest
-adopting-caught h =
-    let z : _≡_ {A = ℕ} 3 5 = ap (λ (l : List ℕ). getD l 1 0) (h .last refl refl refl .root) in
-    omega arith
+adopting-caught = three-for-five adopting worn refl refl refl
 
 pub none-meets-each-call : (EachCall weak late → ⊥)
     × (EachCall weak stale → ⊥)

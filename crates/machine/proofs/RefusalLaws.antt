@@ -38,6 +38,15 @@ unfoldable pub testOf : Refusal → List (Refusal × Bool) → Bool
 testOf r [] = false
 testOf r (e ∷ es) = cond (eqb (refusalNumber (e .0)) (refusalNumber r)) (e .1) (testOf r es)
 
+-- the tests before it, and those behind it
+unfoldable pub ahead : Refusal → List (Refusal × Bool) → List (Refusal × Bool)
+ahead r [] = []
+ahead r (e ∷ es) = cond (eqb (refusalNumber (e .0)) (refusalNumber r)) [] (e ∷ ahead r es)
+
+unfoldable pub behind : Refusal → List (Refusal × Bool) → List (Refusal × Bool)
+behind r [] = []
+behind r (e ∷ es) = cond (eqb (refusalNumber (e .0)) (refusalNumber r)) es (behind r es)
+
 pub clear : (r : Refusal) (es : List (Refusal × Bool)) → firstThatApplies es ≡ none → testOf r es ≡ false
 unfolding testOf firstThatApplies
 clear r [] a = refl

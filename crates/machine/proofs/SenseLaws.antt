@@ -35,6 +35,7 @@ sound d e busy = go (d .stage) refl
     go (Loading i) z = or-false (wrongVersion (d .manifest)) _ (or-false (wrongVersion (d .manifest) || _) _ (rw z at e) .0)
     go Complete z = or-false (wrongVersion (d .manifest)) _ (rw z at e)
 
+-- so a complete one has an allowed size
 pub complete-size : (d : Device) → senseless d ≡ false → d .stage ≡ Complete → wrongSize (d .manifest .«block_len») (d .manifest .«image_len») ≡ false
 complete-size d e q = sound d e (λ z. let w : _≡_ {A = ℕ} 0 1 = cc in omega arith) .1
 

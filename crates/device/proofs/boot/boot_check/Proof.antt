@@ -3,9 +3,9 @@ use Rattle.sha256.specs.Sha256.{digest}
 use Rattle.wire.specs.declared.refusal.Refusal.{Refusal}
 use Rattle.wire.specs.declared.refusal.Refusal.the-variants as refusal
 use Rattle.machine.specs.BootCheck.{ofBoot, bootCheck}
-use Rattle.machine.proofs.RefusalLaws.{Passes, start, _past_}
+use Rattle.machine.proofs.RefusalLaws.{behind, Passes, start, _past_}
 use Rattle.machine.proofs.SenseLaws.{not-complete, complete-size}
-use Rattle.device.proofs.JudgeLaws.{behind, refused, accepted}
+use Rattle.device.proofs.JudgeLaws.{refused, accepted}
 use borrow.Author.Needs.{needs}
 use Rattle.device.proofs.boot.boot_check.Statement.{statement}
 use Rattle.device.proofs.boot.boot_check.Tie as tie

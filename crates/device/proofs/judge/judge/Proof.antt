@@ -8,8 +8,8 @@ use Rattle.wire.specs.declared.kind.Kind.the-variants as kinds
 use Rattle.wire.specs.declared.refusal.Refusal.the-variants as refusal
 use Rattle.wire.specs.Message.{short}
 use Rattle.machine.specs.Refusals.{noKind, always, ofKind, refusals}
-use Rattle.machine.proofs.RefusalLaws.{Passes, start, _past_}
-use Rattle.device.proofs.JudgeLaws.{behind, onward, refused, known-short}
+use Rattle.machine.proofs.RefusalLaws.{behind, Passes, start, _past_}
+use Rattle.device.proofs.JudgeLaws.{onward, refused, known-short}
 use borrow.Author.Needs.{needs}
 use Rattle.device.proofs.judge.judge.Statement.{statement}
 use Rattle.device.proofs.judge.judge.Tie as tie

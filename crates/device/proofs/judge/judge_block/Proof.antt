@@ -7,8 +7,8 @@ use Rattle.wire.specs.declared.refusal.Refusal.{Refusal}
 use Rattle.wire.specs.declared.refusal.Refusal.the-variants as refusal
 use Rattle.machine.specs.Device.{nextOf}
 use Rattle.machine.specs.Refusals.{ofBlock}
-use Rattle.machine.proofs.RefusalLaws.{Passes, start, _past_, Awaits, awaits}
-use Rattle.device.proofs.JudgeLaws.{behind, retold, refused, accepted}
+use Rattle.machine.proofs.RefusalLaws.{behind, Passes, start, _past_, Awaits, awaits}
+use Rattle.device.proofs.JudgeLaws.{retold, refused, accepted}
 use borrow.Author.Needs.{needs}
 use Rattle.device.proofs.judge.judge_block.Statement.{statement}
 use Rattle.device.proofs.judge.judge_block.Tie as tie

@@ -2,8 +2,8 @@ use mathlib.Core.Path.{sym, _∙_}
 use Rattle.wire.specs.declared.refusal.Refusal.{Refusal}
 use Rattle.wire.specs.declared.refusal.Refusal.the-variants as refusal
 use Rattle.machine.specs.Refusals.{ofManifest}
-use Rattle.machine.proofs.RefusalLaws.{Passes, start, _past_}
-use Rattle.device.proofs.JudgeLaws.{behind, refused, accepted}
+use Rattle.machine.proofs.RefusalLaws.{behind, Passes, start, _past_}
+use Rattle.device.proofs.JudgeLaws.{refused, accepted}
 use borrow.Author.Needs.{needs}
 use Rattle.device.proofs.judge.judge_manifest.Statement.{statement}
 use Rattle.device.proofs.judge.judge_manifest.Tie as tie

@@ -19,8 +19,8 @@ use Rattle.wire.specs.Message.{leastLength, manifestBytes, manifestIn, updateNu
 use Rattle.wire.proofs.SizeLaws.{inside}
 use Rattle.wire.proofs.MessageLaws.{length-path-in}
 use Rattle.machine.specs.Refusals.{strays, unsigned, ofManifest, ofSuccessor, ofPathUpdate}
-use Rattle.machine.proofs.RefusalLaws.{Passes, _past_}
-use Rattle.device.proofs.JudgeLaws.{behind, retold, refused, accepted, refused-in, past-all, Known, successor-known}
+use Rattle.machine.proofs.RefusalLaws.{behind, Passes, _past_}
+use Rattle.device.proofs.JudgeLaws.{retold, refused, accepted, refused-in, past-all, Known, successor-known}
 use borrow.Author.Needs.{needs}
 use Rattle.device.proofs.judge.judge_path_update.Statement.{statement}
 use Rattle.device.proofs.judge.judge_path_update.Tie as tie

@@ -7,8 +7,8 @@ use Rattle.wire.specs.declared.refusal.Refusal.{Refusal}
 use Rattle.wire.specs.declared.refusal.Refusal.the-variants as refusal
 use Rattle.wire.specs.Message.{manifestBytes, manifestIn, programSignature}
 use Rattle.machine.specs.Refusals.{unsigned, ofManifest, ofProgram}
-use Rattle.machine.proofs.RefusalLaws.{Passes, _past_}
-use Rattle.device.proofs.JudgeLaws.{behind, retold, refused, accepted, refused-in, past-all}
+use Rattle.machine.proofs.RefusalLaws.{behind, Passes, _past_}
+use Rattle.device.proofs.JudgeLaws.{retold, refused, accepted, refused-in, past-all}
 use borrow.Author.Needs.{needs}
 use Rattle.device.proofs.judge.judge_program.Statement.{statement}
 use Rattle.device.proofs.judge.judge_program.Tie as tie

@@ -4,8 +4,8 @@ use mathlib.Core.List.{List}
 use Rattle.wire.specs.declared.refusal.Refusal.{Refusal}
 use Rattle.wire.specs.declared.refusal.Refusal.the-variants as refusal
 use Rattle.machine.specs.Refusals.{ofManifest, ofSuccessor}
-use Rattle.machine.proofs.RefusalLaws.{Passes, start, _past_}
-use Rattle.device.proofs.JudgeLaws.{behind, refused, accepted, refused-in, past-all}
+use Rattle.machine.proofs.RefusalLaws.{behind, Passes, start, _past_}
+use Rattle.device.proofs.JudgeLaws.{refused, accepted, refused-in, past-all}
 use borrow.Author.Needs.{needs}
 use Rattle.device.proofs.judge.judge_successor.Statement.{statement}
 use Rattle.device.proofs.judge.judge_successor.Tie as tie

@@ -17,8 +17,8 @@ use Rattle.wire.proofs.SizeLaws.{inside}
 use Rattle.wire.proofs.MessageLaws.{length-update-block}
 use Rattle.machine.specs.Flash.{updated}
 use Rattle.machine.specs.Refusals.{lacksRoot, unsigned, ofManifest, ofSuccessor, ofUpdate}
-use Rattle.machine.proofs.RefusalLaws.{Passes, _past_}
-use Rattle.device.proofs.JudgeLaws.{behind, retold, refused, accepted, refused-in, past-all, Known, successor-known, held-known}
+use Rattle.machine.proofs.RefusalLaws.{behind, Passes, _past_}
+use Rattle.device.proofs.JudgeLaws.{retold, refused, accepted, refused-in, past-all, Known, successor-known, held-known}
 use borrow.Author.Needs.{needs}
 use Rattle.device.proofs.judge.judge_update.Statement.{statement}
 use Rattle.device.proofs.judge.judge_update.Tie as tie
