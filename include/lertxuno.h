@@ -7,7 +7,7 @@
  * The caller's part: a pointer is not null, also where its length is 0; it has as many bytes as its length, or its array type, says; and memory that a
  * function writes (out, written, line, length, state, flash) overlaps no other argument. What firmware must do around the calls is in docs/INTEGRATION.md.
  *
- * The library is for x86-64 Linux. Stack of a call there, at most about: 7 KB for lertxuno_receive, 5.5 KB for lertxuno_intact and the sender's functions,
+ * The library is for x86-64 Linux. Stack of a call there, at most about: 6.5 KB for lertxuno_receive, 5 KB for lertxuno_intact and the sender's functions,
  * 4.5 KB for lertxuno_ihex, 2 KB for lertxuno_verify, 1.1 KB for lertxuno_digest, 100 bytes for the others. The time of lertxuno_ihex grows with its text,
  * which it reads twice. Otherwise time goes into SHA-256 compressions, one for each 64 bytes hashed: a signature's verdict takes about
  * 4,400 (signature type 4, height 5) or 600 (type 3, height 10), at the device a block takes those of its bytes and two for each hash that it carries, the
@@ -29,7 +29,7 @@ extern "C" {
 
 enum lertxuno_refusal {
     LERTXUNO_ACCEPTED = 0,
-    LERTXUNO_STATE = 1,     /* the state makes no sense */
+    LERTXUNO_STATE = 1,     /* the state makes no sense, or holds a program of more than LERTXUNO_MAX_BLOCKS blocks */
     LERTXUNO_KIND = 2,      /* empty message, or its kind is not 1 to 4 */
     LERTXUNO_SHORT = 3,     /* fewer bytes than the kind's least */
     LERTXUNO_VERSION = 4,   /* the manifest's version is not 1 */
@@ -91,19 +91,19 @@ static inline const char *lertxuno_refusal_word(uint32_t answer) {
 enum {
     LERTXUNO_HASH_LENGTH = 32,
     LERTXUNO_KEY_LENGTH = 56,   /* tree type (4), signature type (4), identifier (16), top hash (32): an LMS key, without HSS's four bytes in front */
-    LERTXUNO_MAX_BLOCKS = 4096,
+    LERTXUNO_MAX_BLOCKS = 1536,
     LERTXUNO_MAX_BLOCK_LENGTH = 1024,
-    LERTXUNO_MAX_HASHES = 12,   /* the most that a message carries, and the most that a device holds */
+    LERTXUNO_MAX_HASHES = 11,   /* the most that a message carries, and the most that a device holds */
     LERTXUNO_MAX_SIGNATURE_LENGTH = LERTXUNO_SIGNATURE_LENGTH(67, 25)
 };
 
 /* Manifest: version (2), block length (2), model (4), serial (4), image length (4), root (32).
  * Messages, by their first byte:
  *   1, new program   kind (1), manifest, signature over it
- *   2, block         kind (1), number from 1 (2), block, hashes (32 each); how many follows from number and block count, 0 to 12
+ *   2, block         kind (1), number from 1 (2), block, hashes (32 each); how many follows from number and block count, 0 to 11
  *   3, update        kind (1), new manifest, number (2), new block, signature over the new manifest
  *   4, path update   kind (1), new manifest, number (2), new block, hashes (32 each), signature over the new manifest; the hashes are the siblings from the
- *                    block's leaf to the root, lowest first, and their number is the leaf's depth, 0 to 12 */
+ *                    block's leaf to the root, lowest first, and their number is the leaf's depth, 0 to 11 */
 enum lertxuno_kind { LERTXUNO_PROGRAM = 1, LERTXUNO_BLOCK = 2, LERTXUNO_UPDATE = 3, LERTXUNO_PATH_UPDATE = 4 };
 
 /* Room for the sender's output, and the longest message of each kind. */
@@ -176,7 +176,8 @@ enum {
     LERTXUNO_STATE_HASHES = LERTXUNO_STATE_MANIFEST + LERTXUNO_MANIFEST_LENGTH, /* the held hashes, at the end and in block order; how many follows from
                                                                                 manifest and next number. What stands before them means nothing: a new
                                                                                 program zeroes it, later messages leave in it what they find. */
-    LERTXUNO_STATE_LENGTH = LERTXUNO_STATE_HASHES + LERTXUNO_HASH_LENGTH * LERTXUNO_MAX_HASHES
+    LERTXUNO_STATE_LENGTH = LERTXUNO_STATE_HASHES + LERTXUNO_HASH_LENGTH * LERTXUNO_MAX_HASHES /* a stored state that is longer: docs/INTEGRATION.md,
+                                                                                                  'The stored state' */
 };
 
 enum lertxuno_stage { LERTXUNO_IDLE = 0, LERTXUNO_LOADING = 1, LERTXUNO_COMPLETE = 2 };

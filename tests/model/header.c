@@ -13,6 +13,8 @@ static const size_t longest = sizeof image - 1;
 /* Behind the image a byte of the caller's. */
 enum { BEHIND = 0x5A };
 static uint8_t flash[IMAGE_LENGTH + 1];
+/* For an image of the most blocks. */
+static uint8_t large_flash[LERTXUNO_MAX_BLOCKS * BLOCK_LENGTH];
 static uint8_t signature[LERTXUNO_MAX_SIGNATURE_LENGTH];
 /* Ample, so that a length that the header has too short is told and not overrun. */
 static uint8_t state[4096], out[8192];
@@ -49,6 +51,20 @@ static void words(void) {
 
 static uint32_t manifest(size_t image_length, uint32_t block_length) {
     return lertxuno_manifest(image, image_length, block_length, MODEL, SERIAL, out, sizeof out, &written);
+}
+
+/* The papers' numbers, and those that follow from them. */
+static void numbers(void) {
+    expect("most blocks", LERTXUNO_MAX_BLOCKS, 1536);
+    expect("most hashes", LERTXUNO_MAX_HASHES, 11);
+    expect("longest image", longest, 1572864);
+    expect("longest signature", LERTXUNO_MAX_SIGNATURE_LENGTH, 2988);
+    expect("longest new program", LERTXUNO_MAX_PROGRAM_LENGTH, 3037);
+    expect("longest block message", LERTXUNO_MAX_BLOCK_MESSAGE_LENGTH, 1379);
+    expect("longest update", LERTXUNO_MAX_UPDATE_LENGTH, 4063);
+    expect("longest path update", LERTXUNO_MAX_PATH_UPDATE_LENGTH, 4415);
+    expect("state's hashes", LERTXUNO_STATE_HASHES, 112);
+    expect("state's length", LERTXUNO_STATE_LENGTH, 464);
 }
 
 static void limits(void) {
@@ -128,6 +144,22 @@ static void state_length(void) {
     expect("what stands behind it", status[LERTXUNO_STATUS_NUMBERS], UINT32_MAX);
     expect("status of a byte less", lertxuno_status(state, LERTXUNO_STATE_LENGTH - 1, status), LERTXUNO_STATE);
     expect("status of a byte more", lertxuno_status(state, LERTXUNO_STATE_LENGTH + 1, status), LERTXUNO_STATE);
+}
+
+/* A device that is loading an image of the most blocks: after block 1 the hashes of that message fill all the room that its state has for them. */
+static void most_hashes(void) {
+    const size_t most = sizeof large_flash, hashes = LERTXUNO_MAX_HASHES * LERTXUNO_HASH_LENGTH, carried = LERTXUNO_BLOCK_HEAD + BLOCK_LENGTH;
+    lertxuno_fresh(MODEL, sample_key, state);
+    image[most - 1] = 1; /* else two of the hashes would be equal */
+    manifest(most, BLOCK_LENGTH);
+    state[LERTXUNO_STATE_STAGE + 1] = LERTXUNO_LOADING;
+    state[LERTXUNO_STATE_NEXT + 1] = 1;
+    memcpy(state + LERTXUNO_STATE_MANIFEST, out, LERTXUNO_MANIFEST_LENGTH);
+    memcpy(state + LERTXUNO_STATE_LENGTH - LERTXUNO_HASH_LENGTH, out + LERTXUNO_MANIFEST_LENGTH - LERTXUNO_HASH_LENGTH, LERTXUNO_HASH_LENGTH);
+    lertxuno_block(image, most, BLOCK_LENGTH, 1, out, sizeof out, &written);
+    expect("hashes of block 1 of the most", written, carried + hashes);
+    expect("block 1 of the most", lertxuno_receive(state, LERTXUNO_STATE_LENGTH, large_flash, most, out, written), LERTXUNO_ACCEPTED);
+    expect_true("hashes held after it", memcmp(state + LERTXUNO_STATE_HASHES, out + carried, hashes) == 0);
 }
 
 /* A field of the state, at its offset and in the status. */
@@ -242,11 +274,13 @@ static void update(sender_update *sender, size_t hashes, size_t flash_length) {
 
 int main(void) {
     words();
+    numbers();
     limits();
     longest_messages();
     one_byte();
     intel_hex();
     state_length();
+    most_hashes();
     expect("key's length", LERTXUNO_KEY_LENGTH, sizeof sample_key);
     expect("signature's length", LERTXUNO_SIGNATURE_LENGTH(CHAINS, HEIGHT), sizeof sample_signature);
     expect("image's blocks", LERTXUNO_BLOCKS(IMAGE_LENGTH, BLOCK_LENGTH), BLOCKS);

@@ -10,9 +10,7 @@ use Rattle.wire.specs.Message.{dueLength}
 use Rattle.machine.specs.declared.state.Stage.{Stage}
 use Rattle.machine.specs.declared.state.Stage.the-variants.{Idle, Loading, Complete}
 use Rattle.machine.specs.declared.state.Device.{Device}
-use Rattle.machine.specs.Device.{nextOf}
-use Rattle.machine.specs.Refusals.{senseless, notLoading}
-use Rattle.machine.proofs.RefusalLaws.{Awaits, awaits}
+use Rattle.machine.specs.Refusals.{senseless}
 use Rattle.capi.specs.declared.state.Found.{Found}
 use Rattle.capi.specs.declared.state.Found.the-variants.{At, Nothing}
 use Rattle.capi.specs.Found.{found, foundIn}
@@ -20,11 +18,6 @@ use Rattle.capi.specs.State.{stateLength, stageIn, deviceIn, decode}
 use Rattle.capi.specs.Status.{sensible, statusOf, status, dueOf, blockMessageLength}
 use Rattle.capi.proofs.StateLaws.{decode-none, decode-some}
 use Rattle.capi.proofs.CallLaws.{found-some, found-length}
-
--- what refusal 1 leaves of a device that is loading
-pub loading : (d : Device) → senseless d ≡ false → {i : ℕ} → d .stage ≡ Loading i → Awaits d i
-unfolding notLoading nextOf
-loading d sense e = awaits d sense (rw e) (rw e)
 
 module _ (b : List ℕ) where
   pub sensible-decoded : {d : Device} → decode b ≡ some d → senseless d ≡ false → sensible b ≡ some d

@@ -156,6 +156,10 @@ awaits d {i} e q is = go (d .stage) refl
         rw (is, z) (record { stage = refl; version = b .0; size = b .1; low = k .0; high = k .1 })
     go Complete z = absurd (true≢false (rw z at q))
 
+pub loading : (d : Device) → senseless d ≡ false → {i : ℕ} → d .stage ≡ Loading i → Awaits d i
+unfolding notLoading nextOf
+loading d sense e = awaits d sense (rw e) (rw e)
+
 module _ (H : List ℕ → List ℕ) (valid : (key message signature : List ℕ) → Bool) (d : Device) (flash m : List ℕ) where
   pub record ProgramPassed : Type 0 where
     pub long : leastLength Program ≤ length m

@@ -1,19 +1,25 @@
 -- What is shown of the device's definitions (in proofs/).
 use mathlib.Core.Path.{_≡_}
+use mathlib.Core.Logic.{_≢_}
 use mathlib.Core.Bool.{Bool, true}
 use mathlib.Core.List.{List, [], _∷_}
-use mathlib.Core.Option.{none}
-use Prim.Native.Nat.{ℕ}
+use mathlib.Core.Option.{none, some}
+use Prim.Native.Nat.{ℕ, _<_}
 use Rattle.octets.specs.Octets.{Bytes}
+use Rattle.merkle.specs.Limits.{maxBlocks}
 use Rattle.wire.specs.declared.kind.Kind.the-variants.{Program, Block, Update, PathUpdate}
 use Rattle.wire.specs.declared.refusal.Refusal.{Refusal}
+use Rattle.wire.specs.declared.refusal.Refusal.the-variants.{State}
 use Rattle.wire.specs.Refusal.{refusalNumber}
+use Rattle.wire.specs.Geometry.{countOf}
 use Rattle.wire.specs.Message.{kind, carries}
+use Rattle.machine.specs.declared.state.Stage.the-variants.{Idle, Loading}
 use Rattle.machine.specs.declared.state.Device.{Device}
+use Rattle.machine.specs.declared.state.Answer.the-variants.{Refused}
 use Rattle.machine.specs.Device.{Fresh, freshWith, serialOf}
 use Rattle.machine.specs.Refusals.{refusals}
 use Rattle.machine.specs.Step.{refusalOf}
-use Rattle.machine.specs.BootCheck.{ofBoot}
+use Rattle.machine.specs.BootCheck.{ofBoot, bootCheck}
 
 -- A device as `freshWith` makes it is fresh, with any model and key: the list that demand 3 speaks of starts there.
 abbrev pub FreshIs : Type 0
@@ -23,6 +29,12 @@ FreshIs = (model : ℕ) (key : List ℕ) → Fresh (freshWith model key)
 unfoldable pub numbers : List (Refusal × Bool) → List ℕ
 numbers [] = []
 numbers (e ∷ es) = refusalNumber (e .0) ∷ numbers es
+
+-- "Make that the limit, in slips and in states handed in" (02, change 6): a device that is not idle and whose manifest has more blocks; or, by 01's refusal 1,
+-- one whose next number is above its n.
+pub data Above (d : Device) : Type 0 where
+  blocks : d .stage ≢ Idle → maxBlocks < countOf (d .manifest) → Above d
+  next : {i : ℕ} → d .stage ≡ Loading i → countOf (d .manifest) < i → Above d
 
 module _ (H : List ℕ → List ℕ) (valid : (key message signature : List ℕ) → Bool) (d : Device) (flash m : List ℕ) where
   -- "Order, first that applies: always 1, 2, 3; then kind 1: 4, 5, 6, 7, 8, 9. Kind 2: 10, 8, 11, 12, 14. Kind 3: 10, 4, 5, 6, 7, 13, 8, 11, 12, 9, 14."
@@ -38,3 +50,7 @@ module _ (H : List ℕ → List ℕ) (valid : (key message signature : List ℕ)
   -- "The serial is compared as a plain number and has no wrap: after 4,294,967,295 no slip is accepted."
   abbrev pub LastSerial : Type 0
   LastSerial = Bytes m → serialOf d ≡ 4294967295 → carries (kind m) ≡ true → refusalOf H valid d flash m ≡ none → ⊥
+
+  -- A device above the limit (`Above`) is refused 1: at every message, a new program too, and at the boot check.
+  abbrev pub AboveLimit : Type 0
+  AboveLimit = Above d → (refusalOf H valid d flash m ≡ some State) × (bootCheck H d flash ≡ Refused State)

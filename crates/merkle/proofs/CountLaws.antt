@@ -2,7 +2,7 @@
 use mathlib.Core.Path.{_≡_, refl, sym, ap, _∙_}
 use mathlib.Core.Logic.{⊎-elim}
 use mathlib.Core.List.{List, [], _∷_}
-use Prim.Native.Nat.{ℕ, zero, suc, _+_, _-_, _^_, max, _≤_, _<_}
+use Prim.Native.Nat.{ℕ, zero, suc, pred, _+_, _-_, _^_, max, _≤_, _<_}
 use native.Mathlib.Omega.{arith}
 use lib.Dec.{lit≤}
 use lib.ListN.{length, length-append}
@@ -114,11 +114,12 @@ pub held-depth : (n i : ℕ) → 0 < n → heldCount n i ≤ max 1 (depth n)
 held-depth n zero pos = omega (arith, held-zero n)
 held-depth n (suc i) pos = unfold heldCount in omega (arith, frontier-height 0 (shape n) (suc i) (omega arith), depth-known n .2 pos)
 
+-- A tree of the most blocks is as deep as the most hashes.
+pub limit : (2 ^ pred maxHeld < maxBlocks) × (maxBlocks ≤ 2 ^ maxHeld)
+limit = (lit≤ tt, lit≤ tt)
+
 held-most : (n i : ℕ) → 0 < n → n ≤ maxBlocks → heldCount n i ≤ maxHeld
-held-most n i pos h = omega (arith, held-depth n i pos, depth-least n maxHeld (omega (arith, limit)))
-  where
-    limit : maxBlocks ≤ 2 ^ maxHeld
-    limit = lit≤ tt
+held-most n i pos h = omega (arith, held-depth n i pos, depth-least n maxHeld (omega (arith, limit .1)))
 
 pub held-at-most : HeldAtMost
 held-at-most n i pos = (held-depth n i pos, held-most n i pos)

@@ -1,5 +1,5 @@
 -- The flat array: what is held before and after a message's hashes took the place of the first.
-use mathlib.Core.Path.{_≡_, refl, ap, ap₂, _∙_}
+use mathlib.Core.Path.{_≡_, refl, sym, ap, ap₂, _∙_}
 use mathlib.Core.Bool.{Bool}
 use mathlib.Core.List.{List, [], _∷_, _++_, append-assoc}
 use Prim.Native.Nat.{ℕ, zero, suc, _+_, _-_, _*_, _/_, _≤_, _<_}
@@ -11,9 +11,9 @@ use Rattle.merkle.specs.Limits.{hashLength, maxBlocks, heldBytes}
 use Rattle.merkle.specs.Hash.{Hashing, climb}
 use Rattle.merkle.specs.Frontier.{carriedCount, heldCount}
 use Rattle.merkle.specs.Held.{hashesIn, heldStart, heldIn, nextHeld, begun, advanced, fits}
-use Rattle.merkle.specs.Claims.{Advance, ArrayAdvance, RootAlone}
+use Rattle.merkle.specs.Claims.{Advance, ArrayAdvance, RootAlone, HeldLast}
 use Rattle.merkle.proofs.FrontierLaws.{frontier-zero}
-use Rattle.merkle.proofs.CountLaws.{held-zero, held-all, held-next, room, Counted, counted-most}
+use Rattle.merkle.proofs.CountLaws.{held-zero, held-all, held-next, held-at-most, room, Counted, counted-most}
 
 pub length-hashesIn : (c : ℕ) (bytes : List ℕ) → length (hashesIn c bytes) ≡ c
 unfolding hashesIn
@@ -97,6 +97,14 @@ advance n i array message h le la lm = go (heldCount n i) refl
           );
           size = rw e (simp (length-append, long, length-drop) (omega arith));
         }
+
+-- The hashes held are the last.
+pub held-last : HeldLast
+unfolding heldIn heldStart
+held-last n i front array pos le la =
+    let h = held-at-most n i pos .1 le in
+    let at : length (front ++ array) - hashLength * heldCount n i ≡ length front + (heldBytes - hashLength * heldCount n i) = omega (arith, length-append front array, la, h) in
+    rw (at, sym (drop-drop (heldBytes - hashLength * heldCount n i) (length front) (front ++ array)), drop-at front array (length front) refl)
 
 -- What the code of `next_at`, `fits` and `advance` works out.
 pub start-is : (n i h c : ℕ) → i < n → n ≤ maxBlocks → Counted n i h c

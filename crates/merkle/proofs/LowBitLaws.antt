@@ -2,15 +2,17 @@
 -- or all that are left where those are fewer.
 use mathlib.Core.Path.{_≡_, refl, sym, ap, _∙_}
 use mathlib.Core.Logic.{⊎-elim}
-use Prim.Native.Nat.{ℕ, zero, suc, _+_, _-_, _*_, _/_, _%_, _^_, min, _≤_, _<_}
+use Prim.Native.Nat.{ℕ, zero, suc, pred, _+_, _-_, _*_, _/_, _%_, _^_, min, _≤_, _<_}
 use native.Mathlib.Nat.{mul-assoc, mul-zero, mul-suc, mul-sub, one-mul, mul-le-mul-left, pow-suc, pow-zero, pow-succ'}
 use native.Mathlib.Omega.{arith}
 use lib.Pow.{pow-add, pow-pos, pow-mono}
 use lib.Count.{trailingZeros, under, leadingZeros, leading-length}
+use Rattle.merkle.specs.Limits.{maxHeld}
 use Rattle.merkle.specs.Shape.{depth, split}
 use Rattle.merkle.specs.Frontier.{heldCount, carriedCount}
+use Rattle.merkle.specs.Claims.{HeldReached}
 use Rattle.merkle.proofs.ShapeLaws.{lt-or-le, depth-is, depth-one, depth-halves, Split, split-known, by-halves}
-use Rattle.merkle.proofs.CountLaws.{held-zero, carried-leaf, carried-first, held-left, carried-left, held-right, carried-right}
+use Rattle.merkle.proofs.CountLaws.{held-zero, carried-leaf, carried-first, held-left, carried-left, held-right, carried-right, held-next, limit}
 
 -- l is the lowest set bit of x: a power of two of which x is an odd multiple.
 pub record Low (x l : ℕ) : Type 0 where
@@ -166,6 +168,14 @@ pub carried-depth : (n : ℕ) → 0 < n → carriedCount n 1 ≡ depth n
 carried-depth =
     by-halves (λ n s. carriedCount n 1 ≡ depth n) (carried-leaf 1 (omega arith) ∙ sym depth-one)
     (λ n k big is below left right. omega (arith, carried-first n k big is, depth-halves n k big is))
+
+-- So many are then held: the most that the tree and the limit allow.
+pub held-reached : HeldReached
+held-reached =
+    (first, λ n big few. first n (omega (arith, pow-pos (pred maxHeld))) ∙ depth-is n maxHeld (omega (arith, limit .1)) (omega (arith, pow-succ' 2 (pred maxHeld))), limit .0)
+  where
+    first : (n : ℕ) → 1 < n → heldCount n 1 ≡ depth n
+    first n big = omega (arith, held-next n 0 (omega arith), held-zero n, carried-depth n (omega arith))
 
 -- A later one carries as many as the largest subtree that starts with its block is deep.
 pub carried-later : (n i l m : ℕ) → 0 < i → i < n → Low i l → m ≡ min l (n - i) → carriedCount n (i + 1) ≡ depth m

@@ -3,9 +3,9 @@ use mathlib.Core.Path.{_≡_, refl, sym, ap, ap₂, _∙_}
 use mathlib.Core.Logic.{⊎-elim}
 use mathlib.Core.Bool.{Bool, true, false, cond}
 use mathlib.Core.List.{List, [], _∷_, _++_, map, map-append, head-eq-of-cons-eq, tail-eq-of-cons-eq}
-use Prim.Native.Nat.{ℕ, suc, _+_, _-_, _*_, _^_, max, _≤_, _<_}
+use Prim.Native.Nat.{ℕ, suc, _+_, _-_, _*_, max, _≤_, _<_}
 use native.Mathlib.Omega.{arith}
-use lib.Dec.{ltb, lit≤}
+use lib.Dec.{ltb}
 use lib.ListN.{length, take, drop, length-drop, take-append-drop}
 use lib.Seq.{take-all, length-take-le}
 use Rattle.merkle.specs.Limits.{maxBlocks, maxHeld, hashLength}
@@ -15,6 +15,7 @@ use Rattle.merkle.specs.Path.{pathSiblings, leafDepth, way, besideInput,
 use Rattle.merkle.specs.Held.{hashesIn}
 use Rattle.merkle.specs.Claims.{LeafDepths}
 use Rattle.merkle.proofs.ShapeLaws.{lt-or-le, depth-known, shape-leaf, halves, size-left, size-shape}
+use Rattle.merkle.proofs.CountLaws.{limit}
 use Rattle.merkle.proofs.HeldLaws.{length-hashesIn, hashesIn-append}
 use Rattle.merkle.proofs.PathLaws.{down-left, down-right, length-last, length-way, path-node}
 
@@ -74,10 +75,7 @@ leaf-depths = (
 
 -- So there are at most as many as hashes are held.
 pub depth-few : (n i : ℕ) → 0 < n → n ≤ maxBlocks → leafDepth n i ≤ maxHeld
-depth-few n i pos h = omega (arith, leaf-depths .2 n i pos, depth-known n .1 maxHeld (omega (arith, limit)))
-  where
-    limit : maxBlocks ≤ 2 ^ maxHeld
-    limit = lit≤ tt
+depth-few n i pos h = omega (arith, leaf-depths .2 n i pos, depth-known n .1 maxHeld (omega (arith, limit .1)))
 
 -- The siblings by halves: those in the half that has the block, and the other half.
 module _ (o n i k : ℕ) (big : 1 < n) (is : k ≡ split n) where

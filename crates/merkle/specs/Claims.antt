@@ -2,8 +2,8 @@
 use mathlib.Core.Path.{_≡_}
 use mathlib.Core.Logic.{_⊎_, _↔_, _≢_}
 use mathlib.Core.List.{List, [], _∷_, _++_, List·Memᴰ}
-use Prim.Native.Nat.{ℕ, suc, _+_, _-_, _*_, _^_, max, _≤_, _<_}
-use lib.ListN.{length}
+use Prim.Native.Nat.{ℕ, suc, pred, _+_, _-_, _*_, _^_, max, _≤_, _<_}
+use lib.ListN.{length, drop}
 use Rattle.merkle.specs.Limits.{maxBlocks, hashLength, maxHeld, heldBytes}
 use Rattle.merkle.specs.Blocks.{blockCount}
 use Rattle.merkle.specs.Shape.{Shape, leaf, node, size, height, depth, split, shape, Place, places}
@@ -110,9 +110,21 @@ Table3 = largest 0 (shape 8) 6 ≡ (6, node leaf leaf)
 abbrev pub RootAlone : Type 0
 RootAlone = ((o : ℕ) (s : Shape) → frontier o s 0 ≡ (o, s) ∷ []) × ((n : ℕ) (root : List ℕ) → length root ≡ hashLength → heldIn n 0 (begun root) ≡ root ∷ [])
 
--- "Up to 12 labels are held": never more than the tree's depth, or one at depth 0
+-- "never more labels were held than the tree's depth, or one at depth 0" (demand 3), and up to the limit "At most 11 labels are then held" (02, change 6)
 abbrev pub HeldAtMost : Type 0
 HeldAtMost = (n i : ℕ) → 0 < n → (heldCount n i ≤ max 1 (depth n)) × (n ≤ maxBlocks → heldCount n i ≤ maxHeld)
+
+-- Both are reached after the first block: the depth by every tree of more blocks than one, the 11 by those of more than 2 to the power 10, which the limit allows.
+abbrev pub HeldReached : Type 0
+HeldReached =
+    ((n : ℕ) → 1 < n → heldCount n 1 ≡ depth n) × ((n : ℕ) → 2 ^ pred maxHeld < n → n ≤ maxBlocks → heldCount n 1 ≡ maxHeld) × (2 ^ pred maxHeld < maxBlocks)
+
+-- The hashes held are the last of the array, and what stands before them is free: behind any further bytes, as in an array that has more places in front, the
+-- same ones are the last.
+abbrev pub HeldLast : Type 0
+HeldLast =
+    (n i : ℕ) (front array : List ℕ) → 0 < n → n ≤ maxBlocks → length array ≡ heldBytes
+    → heldIn n i array ≡ hashesIn (heldCount n i) (drop (length (front ++ array) - hashLength * heldCount n i) (front ++ array))
 
 -- Change 1 of 02: "The old block with these siblings must give the held root": a block and its tree's own siblings lead to the tree's hash.
 abbrev pub PathLeads : Type 0

@@ -1,4 +1,4 @@
--- Cases worked out by hand: document 01's, and one for change 2 of 02.
+-- Cases worked out by hand: document 01's, with the limit of change 6 of 02, and one for change 2.
 use mathlib.Core.Path.{_≡_}
 use mathlib.Core.Logic.{_≢_}
 use mathlib.Core.List.{List, [], _∷_, _++_}
@@ -31,7 +31,7 @@ pub record Answers (these : ℕ → Type 0) (x : Image) : Type 0 where
   pub path : (model serial i : ℕ) (signature out : List ℕ) → these (sentNumber (sendPath (job x model serial) i signature out .answer))
 
 -- "Counts worked out by hand. Marked * for proof": messages are counted from 1, held hashes after 0, 1, .. blocks; eight blocks of 256 bytes are 2,048 bytes.
--- "T = 1,048,576 passes; 1,048,577 is refused 5": every image of that length.
+-- 02, change 6: "T = 393,216 with L = 256 passes and 393,217 is refused 5": every image of that length.
 abbrev pub Starred : Type 0
 Starred =
     (values 1 1 (carriedCount 1) ≡ 0 ∷ [])
@@ -43,8 +43,8 @@ Starred =
     × (values 4 0 (heldCount 3) ≡ 1 ∷ 2 ∷ 1 ∷ 0 ∷ [])
     × (blockCount 256 256 ≡ 1)
     × (blockCount 256 257 ≡ 2)
-    × ((image : List ℕ) → length image ≡ 1048576 → Answers (λ number. number ≢ 5) (inBlocks image 256))
-    × ((image : List ℕ) → length image ≡ 1048577 → Answers (λ number. number ≡ 5) (inBlocks image 256))
+    × ((image : List ℕ) → length image ≡ 393216 → Answers (λ number. number ≢ 5) (inBlocks image 256))
+    × ((image : List ℕ) → length image ≡ 393217 → Answers (λ number. number ≡ 5) (inBlocks image 256))
     × (blockCount 256 2048 ≡ 8)
     × (dueLength 256 2048 1 ≡ 355)
     × (dueLength 256 2048 2 ≡ 259)

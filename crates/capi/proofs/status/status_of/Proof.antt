@@ -2,8 +2,8 @@ use mathlib.Core.Path.{_∙_}
 use Rattle.machine.specs.Device.{serialOf, nextOf}
 use Rattle.capi.specs.State.{stageNumber}
 use Rattle.capi.specs.Status.{unlessIdle, statusOf}
+use Rattle.machine.proofs.RefusalLaws.{loading}
 use Rattle.machine.proofs.SenseLaws.{complete-size}
-use Rattle.capi.proofs.StatusLaws.{loading}
 use borrow.Author.Needs.{needs}
 use Rattle.capi.proofs.status.status_of.Statement.{statement}
 use Rattle.capi.proofs.status.status_of.Tie as tie

@@ -1,20 +1,16 @@
-use mathlib.Core.Path.{refl}
 use native.Mathlib.Omega.{arith}
 use Rattle.sha256.specs.Sha256.{digest}
 use Rattle.wire.specs.Geometry.{countOf}
 use Rattle.wire.proofs.SizeLaws.{sized}
 use Rattle.wire.proofs.MessageLaws.{Due, due}
-use Rattle.machine.specs.Device.{nextOf}
-use Rattle.machine.specs.Refusals.{notLoading}
-use Rattle.machine.proofs.RefusalLaws.{Awaits, awaits}
+use Rattle.machine.proofs.RefusalLaws.{Awaits, loading}
 use Rattle.device.proofs.ConditionLaws.{held-array, measured, rest-long, mismatch-found}
 use borrow.Author.Needs.{needs}
 use Rattle.device.proofs.conditions.mismatch.Statement.{statement}
 use Rattle.device.proofs.conditions.mismatch.Tie as tie
 
 awaited : (c : tie.Start) → Awaits (c .args .device) (c .args .next)
-unfolding notLoading nextOf
-awaited c = awaits _ (c .pre .0) (rw (c .pre .1) refl) (rw (c .pre .1) refl)
+awaited c = loading _ (c .pre .0) (c .pre .1)
 
 is-due : (c : tie.Start) → Due (c .args .device .manifest .«block_len») (c .args .device .manifest .«image_len») (c .args .next) (c .args .message .now)
 is-due c = due _ _ _ _ (measured _ _ _ (c .pre .2))
