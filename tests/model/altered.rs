@@ -83,13 +83,13 @@ pub fn flipped(pair: &Pair, at: usize) -> Pair {
 }
 
 /// The pair after somebody else wrote this to its state.
-fn with_state(pair: &Pair, at: usize, bytes: &[u8]) -> Pair {
+pub fn with_state(pair: &Pair, at: usize, bytes: &[u8]) -> Pair {
     let mut other = pair.clone();
     other.put_state(spliced(&pair.state, at, bytes));
     other
 }
 
-fn expect_boot(what: &str, pair: &Pair, due: u32) -> Compared<()> {
+pub fn expect_boot(what: &str, pair: &Pair, due: u32) -> Compared<()> {
     expect(&format!("boot check, {what}"), pair.intact()?, due)
 }
 

@@ -10,7 +10,7 @@ use crate::craft::Image;
 use crate::damage::damage_byte;
 use crate::lengths::image_length;
 use crate::loader::{FLASH_LENGTH, LARGEST_BUNDLE, output};
-use crate::manifest::{BLOCK_LENGTHS, Manifest};
+use crate::manifest::{BLOCK_LENGTHS, MOST_BLOCKS, Manifest};
 use crate::rng::Rng;
 use crate::sender::program_message;
 use crate::signer::Signer;
@@ -59,14 +59,21 @@ impl Bundles {
         self.expect(rng, signer, [image, &padded], blocks, end)
     }
 
-    /// Images as long as the loader's flash and a byte longer; their blocks are missing.
+    /// Images as long as the loader's flash and a byte longer; of the most blocks, which it has no
+    /// room for, and a byte longer. Their blocks are missing.
     pub fn longest_images(
         &self,
         rng: &mut Rng,
         signer: &Signer,
         block_length: usize,
     ) -> Compared<()> {
-        for (length, end) in [(FLASH_LENGTH, "block 2"), (FLASH_LENGTH + 1, "slip 8")] {
+        let most = MOST_BLOCKS * block_length;
+        for (length, end) in [
+            (FLASH_LENGTH, "block 2"),
+            (FLASH_LENGTH + 1, "slip 8"),
+            (most, "slip 8"),
+            (most + 1, "slip 5"),
+        ] {
             let image = Image::random(rng, block_length, length);
             self.expect(rng, signer, [&image; 2], Vec::new(), end)?;
         }

@@ -1,10 +1,13 @@
 //! How often each answer was given, by row (a kind of message, or a function), each sort of path
-//! update accepted, each case of the image's end, of a flash that others have touched and of Intel
-//! HEX texts; and which of these must have occurred at least once.
+//! update accepted, each number of hashes held, each case of the limit's edge, of the image's end,
+//! of a flash that others have touched and of Intel HEX texts; and which of these must have
+//! occurred at least once.
 
+use crate::edge::{COUNTS, EDGES, Edge};
 use crate::ends::{ENDS, End};
 use crate::hexcases;
 use crate::ihex::{BROKEN, Broken};
+use crate::layout::MOST_HASHES;
 use crate::lengths::{LASTS, shape};
 use crate::manifest::BLOCK_LENGTHS;
 use crate::regions::REGIONS;
@@ -12,7 +15,8 @@ use crate::tree::path;
 
 struct Row {
     name: &'static str,
-    /// The columns that must have occurred: answers, depths, kinds, regions, shapes or faults.
+    /// The columns that must have occurred: answers, depths, numbers of hashes or blocks, kinds,
+    /// regions, shapes or faults.
     due: Vec<usize>,
     counts: Vec<u64>,
 }
@@ -20,6 +24,8 @@ struct Row {
 pub struct Coverage {
     answers: Vec<Row>,
     paths: Vec<Row>,
+    held: [Row; 1],
+    edges: [Row; EDGES.len()],
     ends: Vec<Row>,
     /// Refused ones, and accepted ones.
     touched: [Vec<Row>; 2],
@@ -200,6 +206,8 @@ impl Coverage {
         Coverage {
             answers: answer_rows(&ANSWERS),
             paths: rows(&PATHS),
+            held: [row("while loading", 1..=MOST_HASHES)],
+            edges: EDGES.map(|name| row(name, 0..COUNTS.len())),
             ends: ENDS.iter().map(end).collect(),
             touched: TOUCHED.map(|from| rows(&from)),
             instead: INSTEAD.map(|from| answer_rows(&from)),
@@ -223,6 +231,20 @@ impl Coverage {
         let even = n.is_power_of_two();
         for (row, holds) in self.paths.iter_mut().zip([i == 1, i == n, even, !even]) {
             row.counts[path(n, i).len()] += holds as u64;
+        }
+    }
+
+    /// A device was left loading, with so many hashes held.
+    pub fn held(&mut self, hashes: usize) {
+        self.held[0].counts[hashes] += 1;
+    }
+
+    /// Something of n blocks was judged. It counts if it was let pass with the most, or refused
+    /// with one more.
+    pub fn edge(&mut self, edge: Edge, n: usize, refused: bool) {
+        let column = COUNTS.iter().position(|count| *count == n);
+        if let Some(column) = column.filter(|column| refused == (*column == 1)) {
+            self.edges[edge as usize].counts[column] += 1;
         }
     }
 
@@ -283,6 +305,8 @@ impl Coverage {
         let shapes = ["1", "2", "3", "n"].map(|n| LASTS.map(|last| format!("{n}:{last}")));
         let missing = table("answers", answers(), &self.answers)
             + table("paths, by depth", numbers(16), &self.paths)
+            + table("hashes held", numbers(MOST_HASHES + 1), &self.held)
+            + table("blocks", COUNTS.iter().map(usize::to_string), &self.edges)
             + table("ends, by kind", numbers(5), &self.ends)
             + table("touched, refused", regions(), &self.touched[0])
             + table("touched, accepted", regions(), &self.touched[1])

@@ -4,7 +4,7 @@ use std::ops::Range;
 
 use crate::craft::wrong_block_length;
 use crate::device::Device;
-use crate::layout::{HASHES_AT, MANIFEST_AT, NEXT_AT, STAGE_AT, STATE_LENGTH};
+use crate::layout::{HASHES_AT, MANIFEST_AT, MOST_HASHES, NEXT_AT, STAGE_AT, STATE_LENGTH};
 use crate::lms::{Parameters, number};
 use crate::manifest::{MOST_BLOCKS, Manifest};
 use crate::rng::Rng;
@@ -157,7 +157,9 @@ pub fn damage_state(rng: &mut Rng, state: &mut Vec<u8>) {
     let any = rng.u32();
     match rng.below(16) {
         0 => {
-            let other = rng.pick(&[0, 1, 60, 112, 495, 497, 528, any as usize % 600]);
+            let (less, more) = (STATE_LENGTH - 1, STATE_LENGTH + 1);
+            let (hash_more, any) = (STATE_LENGTH + 32, any as usize % 600);
+            let other = rng.pick(&[0, 1, STAGE_AT, HASHES_AT, less, more, hash_more, any]);
             state.resize(other, 0);
         }
         1 => *state = rng.bytes(STATE_LENGTH),
@@ -178,7 +180,7 @@ pub fn damage_state(rng: &mut Rng, state: &mut Vec<u8>) {
         }
         13 => damage_byte(rng, state, 0..STAGE_AT),
         _ => {
-            let at = HASHES_AT + 32 * rng.below(12);
+            let at = HASHES_AT + 32 * rng.below(MOST_HASHES);
             damage_byte(rng, state, at..at + 32);
         }
     }

@@ -1,5 +1,5 @@
-//! Document 01 and changes 1, 2 and 5, the drive (here: the device): its state, and its refusals in
-//! the order of each kind.
+//! Document 01 and changes 1, 2, 5 and 6, the drive (here: the device): its state, and its refusals
+//! in the order of each kind.
 
 use crate::lms::{hashes, number, verify};
 use crate::manifest::*;

@@ -6,10 +6,11 @@ use crate::compare::{Compared, same, same_answer};
 use crate::coverage::{Coverage, ROOM, ROOM_BYTE_SHORT, SENDER, VERIFY};
 use crate::craft::wrong_block_length;
 use crate::damage::{damage_byte, signature_fields};
+use crate::edge::{self, Edge};
 use crate::lengths;
 use crate::lent::Lent;
 use crate::lms;
-use crate::manifest::{AREA, BLOCK_LENGTHS, MOST_BLOCKS, Outcome, UNSIGNED};
+use crate::manifest::{AREA, BLOCK_LENGTHS, MOST_BLOCKS, Outcome, SIZE, UNSIGNED};
 use crate::rng::Rng;
 use crate::sender::{Order, deliver};
 use crate::sha256::sha256;
@@ -85,6 +86,9 @@ pub fn sender_call(rng: &mut Rng, coverage: &mut Coverage) -> Compared<()> {
     let answer = compare_sender(rng, &order, what, message, room)
         .map_err(|e| format!("kind {kind}, L {block_length}, T {length}, number {number}: {e}"))?;
     coverage.count(SENDER + kind, answer);
+    if let Some(n) = edge::blocks(length, block_length) {
+        coverage.edge(Edge::Sender, n, answer == SIZE);
+    }
     if kind >= 2 && number == n && answer == 0 && room == due {
         coverage.shape(ROOM + kind - 2, length, block_length as usize);
     }

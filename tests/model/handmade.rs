@@ -7,7 +7,9 @@ use crate::compare::Compared;
 use crate::coverage::Coverage;
 use crate::craft::Image;
 use crate::functions::{compare_sender, sent};
-use crate::manifest::{AREA, BLOCK_LENGTHS, LENGTH, MISMATCH, Manifest, UNLIKE, UNSIGNED};
+use crate::manifest::{
+    AREA, BLOCK_LENGTHS, LENGTH, MISMATCH, MOST_BLOCKS, Manifest, SIZE, UNLIKE, UNSIGNED,
+};
 use crate::pair::Pair;
 use crate::rng::Rng;
 use crate::sender::{Change, Order, program_message, update_message};
@@ -36,6 +38,15 @@ pub fn expect<T: PartialEq + std::fmt::Debug>(what: &str, got: T, due: T) -> Com
         return Ok(());
     }
     Err(format!("{what}: {got:?}, due is {due:?}"))
+}
+
+fn order(image: &Image, serial: u32) -> Order<'_> {
+    Order {
+        image: &image.bytes,
+        block_length: image.block_length as u32,
+        model: MODEL,
+        serial,
+    }
 }
 
 pub struct Case<'a> {
@@ -96,16 +107,16 @@ impl<'a> Case<'a> {
         self.give("flash of T - 1 bytes", &mut short, message, AREA)
     }
 
+    /// What the sender answers, given so much room.
+    pub fn order(&mut self, what: Send, room: usize) -> Compared<u32> {
+        let order = order(&self.image, self.serial);
+        compare_sender(&mut self.rng, &order, what, sent(&order, what), room)
+    }
+
     /// The sender's message, into room for just its bytes or for more; a byte less is refused.
-    fn sent(&mut self, what: Send) -> Compared<Vec<u8>> {
-        let image = self.image.bytes.clone();
-        let order = Order {
-            image: &image,
-            block_length: self.image.block_length as u32,
-            model: MODEL,
-            serial: self.serial,
-        };
-        let message = sent(&order, what).expect("an order that is right");
+    pub fn sent(&mut self, what: Send) -> Compared<Vec<u8>> {
+        let order = order(&self.image, self.serial);
+        let message = sent(&order, what).map_err(|refusal| format!("model's sender: {refusal}"))?;
         let length = message.len();
         for (room, due) in [
             (length - 1, AREA),
@@ -118,7 +129,7 @@ impl<'a> Case<'a> {
         Ok(message)
     }
 
-    fn signature(&mut self) -> Compared<Vec<u8>> {
+    pub fn signature(&mut self) -> Compared<Vec<u8>> {
         let manifest = self.sent(Send::Manifest)?;
         Ok(self.signer.sign(&mut self.rng, &manifest))
     }
@@ -165,7 +176,7 @@ impl<'a> Case<'a> {
     }
 
     /// Kind 3 or 4 of block i; first as it must be refused.
-    fn update(&mut self, pair: &mut Pair, kind: u8, i: usize) -> Compared<()> {
+    pub fn update(&mut self, pair: &mut Pair, kind: u8, i: usize) -> Compared<()> {
         let behind = pair.flash[self.image.bytes.len()..].to_vec();
         self.image.bytes[(i - 1) * self.image.block_length] ^= 1;
         self.serial += 1;
@@ -191,14 +202,17 @@ impl<'a> Case<'a> {
         self.expect_flash(pair, &behind)
     }
 
-    /// To an image that is a byte longer, be it in as many blocks.
+    /// To an image that is a byte longer, be it in as many blocks. Where these are then too many,
+    /// that comes first.
     fn longer_update(&mut self, pair: &mut Pair, kind: u8, i: usize) -> Compared<()> {
         let mut longer = self.image.clone();
         longer.bytes.push(0xff);
         let manifest = longer.manifest(MODEL, self.serial, &longer);
         let change = Change::new(kind, &longer.bytes, longer.block_length, i);
         let message = self.signed_update(&manifest, &change);
-        self.give("update to a longer image", pair, &message, UNLIKE)
+        let over = longer.blocks() > MOST_BLOCKS;
+        let due = if over { SIZE } else { UNLIKE };
+        self.give("update to a longer image", pair, &message, due)
     }
 
     /// The last block is sent padded, or was hashed padded, or both.

@@ -1,4 +1,4 @@
-//! The state's 496 bytes, as the C header describes them, around the model's device.
+//! The state's 464 bytes, as the C header describes them, around the model's device.
 //!
 //! The header says of every byte what becomes of it, with one exception: it does not say what a
 //! fresh state has where the bytes mean nothing (manifest and hashes). The tests take those from
@@ -8,11 +8,13 @@ use crate::device::{Device, Stage, held_count};
 use crate::lms::{hashes, number};
 use crate::manifest::{Manifest, Outcome, STATE};
 
-pub const STATE_LENGTH: usize = 496;
 pub const STAGE_AT: usize = 60;
 pub const NEXT_AT: usize = 62;
 pub const MANIFEST_AT: usize = 64;
 pub const HASHES_AT: usize = 112;
+/// "At most 11 labels are then held."
+pub const MOST_HASHES: usize = 11;
+pub const STATE_LENGTH: usize = HASHES_AT + 32 * MOST_HASHES;
 
 pub fn fresh(model: u32, key: &[u8]) -> Vec<u8> {
     let mut state = model.to_be_bytes().to_vec();

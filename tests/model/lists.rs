@@ -62,8 +62,10 @@ impl<'a> List<'a> {
             .call(&message, coverage)
             .map_err(|what| format!("kind {kind}, {} bytes: {what}", message.len()))?;
         coverage.count(if kind <= 4 { kind } else { 0 }, answer);
-        if let Stage::Complete { manifest } = &self.pair.device().stage {
-            coverage.completed(manifest.blocks());
+        match &self.pair.device().stage {
+            Stage::Idle => {}
+            Stage::Loading { held, .. } => coverage.held(held.len()),
+            Stage::Complete { manifest } => coverage.completed(manifest.blocks()),
         }
         if kind == 4 && answer == 0 {
             let n = Manifest::read(&message[1..49]).blocks();

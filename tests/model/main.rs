@@ -1,7 +1,7 @@
-//! The C library and the loader against a model written from the papers alone: the image's end,
-//! flashes that others have touched and Intel HEX by hand, and random lists of messages, between
-//! which others touch the flash, what is read off each state, the boot check, sender calls,
-//! digests, verdicts, Intel HEX texts and bundles.
+//! The C library and the loader against a model written from the papers alone: the image's end, the
+//! limit of its blocks, stored states of an older form, flashes that others have touched and Intel
+//! HEX by hand, and random lists of messages, between which others touch the flash, what is read
+//! off each state, the boot check, sender calls, digests, verdicts, Intel HEX texts and bundles.
 //!
 //! `model [CALLS [SEED]]`: CALLS messages to devices (200,000 if not given), and of the other calls
 //! a share of it.
@@ -14,8 +14,10 @@ mod coverage;
 mod craft;
 mod damage;
 mod device;
+mod edge;
 mod ends;
 mod functions;
+mod handed;
 mod handmade;
 mod hexcall;
 mod hexcases;
@@ -26,6 +28,7 @@ mod ihex;
 mod layout;
 mod lengths;
 mod lent;
+mod limit;
 mod lists;
 mod lms;
 mod loader;
@@ -41,6 +44,7 @@ mod selftest;
 mod sender;
 mod sha256;
 mod signer;
+mod stored;
 mod touch;
 mod tree;
 
@@ -60,7 +64,7 @@ use rng::Rng;
 use signer::Signer;
 
 /// One list in so many has a large image.
-const LARGE: u64 = 300;
+const LARGE: u64 = 100;
 
 /// All comparisons so far, for a call that never comes back.
 static COMPARED: AtomicU64 = AtomicU64::new(0);
@@ -144,6 +148,32 @@ impl Test<'_> {
             let result = Case::new(case_rng, signer, image).run();
             self.record("device by hand", 0, index, result.map_err(named));
         }
+    }
+
+    /// The limit, and stored states of an older form.
+    fn limit_by_hand(&mut self) {
+        let signer = &self.signers[0][0];
+        let mut rng = Rng::new(self.seed, u64::MAX - 6);
+        for (index, length) in BLOCK_LENGTHS.into_iter().enumerate() {
+            for case in [limit::sizes, handed::counts, handed::next_numbers] {
+                let result = case(&mut rng, signer, length as usize);
+                let named = |what| format!("L {length}: {what}");
+                self.record("limit by hand", 0, index, result.map_err(named));
+            }
+        }
+        for (index, case) in [limit::carried, limit::longest_messages].iter().enumerate() {
+            let result = case(&mut rng, signer);
+            self.record("messages at the limit", 0, index, result);
+        }
+        for (index, length) in limit::DOWNLOADS.into_iter().enumerate() {
+            let result = limit::download(&mut rng, signer, length);
+            self.record("download at the limit", 0, index, result);
+        }
+        let mut index = 0;
+        stored::run(&mut rng, |result| {
+            self.record("stored states", 0, index, result);
+            index += 1;
+        });
     }
 
     fn touched_by_hand(&mut self) {
@@ -277,6 +307,8 @@ fn main() {
     test.self_test();
     println!("the image's end");
     test.by_hand();
+    println!("the limit");
+    test.limit_by_hand();
     println!("flashes that others have touched");
     test.touched_by_hand();
     test.lists(calls);

@@ -1,5 +1,5 @@
 //! Document 01, the slip of 48 bytes (here: the manifest), and the refusals that follow from it
-//! alone: 4 and 5.
+//! alone: 4, and 5 with change 6's limit.
 
 use std::ops::Range;
 
@@ -7,7 +7,8 @@ use crate::lms::number;
 use crate::sha256::Hash;
 
 pub const BLOCK_LENGTHS: [u32; 5] = [64, 128, 256, 512, 1024];
-pub const MOST_BLOCKS: usize = 4096;
+/// "in slips and in states handed in", and in the sender's images
+pub const MOST_BLOCKS: usize = 1536;
 
 /// The numbers of document 01's table, and of the changes.
 pub const STATE: u32 = 1;

@@ -6,6 +6,7 @@ use crate::compare::{Compared, same, same_answer};
 use crate::coverage::{Coverage, INTACT};
 use crate::damage::damage_state;
 use crate::device::Device;
+use crate::edge;
 use crate::ends::{Call, subject};
 use crate::layout::{self, MANIFEST_AT, STATE_LENGTH};
 use crate::lent::Lent;
@@ -57,6 +58,9 @@ impl Pair {
         same_answer(library, answer)?;
         coverage.count(INTACT, self.intact()?);
         readers::compare(&self.state, coverage)?;
+        if let Some(device) = &before {
+            edge::count(device, message, answer, coverage);
+        }
         if let (Some(device), true) = (&before, answer != STATE) {
             let call = Call {
                 device,

@@ -59,12 +59,13 @@ impl Plan {
         }
     }
 
-    /// Long enough to run through an image of up to 4,096 blocks, and little longer, for its
+    /// Long enough to run through an image of up to 1,536 blocks, and little longer, for its
     /// updates are slow.
     pub fn large(rng: &mut Rng) -> Plan {
         let any = rng.range(41, MOST_BLOCKS);
-        let near = rng.pick(&[1024, 2047, 2048, 2049, 4095]);
-        let n = rng.pick(&[any, near, MOST_BLOCKS]);
+        // Behind 1,024 blocks the tree is a level deeper.
+        let near = rng.pick(&[1023, 1024, 1025, MOST_BLOCKS - 1]);
+        let n = rng.pick(&[any, near, MOST_BLOCKS, MOST_BLOCKS]);
         let block_length = rng.pick(&[64, 64, 64, 128, 1024]);
         Plan {
             calls: n + n / 50 + 10,

@@ -24,7 +24,7 @@ fn model<T>(state: &[u8], read: impl Fn(&Device) -> Outcome<T>) -> Outcome<T> {
     layout::read(state).and_then(|device| read(&device))
 }
 
-fn status(state: &[u8]) -> Compared<u32> {
+pub fn status(state: &[u8]) -> Compared<u32> {
     let (mut out, mut library_out) = ([BEFORE; 9], [BEFORE; 9]);
     let answer = match model(state, Device::status) {
         Ok(numbers) => {
@@ -40,7 +40,7 @@ fn status(state: &[u8]) -> Compared<u32> {
     Ok(answer)
 }
 
-fn due(state: &[u8]) -> Compared<u32> {
+pub fn due(state: &[u8]) -> Compared<u32> {
     let (mut length, mut library_length) = (BEFORE as usize, BEFORE as usize);
     let answer = match model(state, Device::due_length) {
         Ok(due) => {

@@ -1,16 +1,17 @@
 //! The model against values known from outside, before it judges anything: FIPS 180-4's examples,
 //! two signatures of RFC 8554's appendix F, a well-known Intel HEX text, and the counts and lengths
-//! that document 01 works out by hand. And paths and the last block, against the tree.
+//! that documents 01 and 02 work out by hand. And paths and the last block, against the tree.
 
 use crate::ihex::Reading;
+use crate::layout::MOST_HASHES;
 use crate::lms::verify;
-use crate::manifest::check_size;
+use crate::manifest::{MOST_BLOCKS, check_size};
 use crate::rfc8554::CASES;
 use crate::sender::block_message;
 use crate::sha256::sha256;
 use crate::tree::{block, cover, parent, path, root, root_by_path, siblings};
 
-fn unhex(text: &str) -> Vec<u8> {
+pub fn unhex(text: &str) -> Vec<u8> {
     let digits: Vec<u8> = text
         .chars()
         .filter_map(|c| c.to_digit(16))
@@ -64,6 +65,14 @@ fn counts() -> bool {
         && held(3) == [1, 2, 1, 0]
 }
 
+/// "At most 11 labels are then held": whatever the image, and whichever block is next.
+fn most_held() -> bool {
+    let most = |n: usize| (1..=n).map(|next| cover(n, next).len()).max();
+    most(1024) == Some(10)
+        && most(1025) == Some(11)
+        && (1..=MOST_BLOCKS).all(|n| most(n) <= Some(MOST_HASHES))
+}
+
 /// Of the block messages with L = 256; and the limits of T.
 fn lengths() -> bool {
     let of = |length: usize| -> Vec<usize> {
@@ -77,8 +86,8 @@ fn lengths() -> bool {
         && of(2048)[..2] == [355, 259]
         && of(2048).iter().sum::<usize>() == 2296
         && of(2047)[7] == 258
-        && check_size(1_048_576, 256).is_ok()
-        && check_size(1_048_577, 256).is_err()
+        && check_size(393_216, 256).is_ok()
+        && check_size(393_217, 256).is_err()
 }
 
 /// It has the bytes that are left, and its label is over those.
@@ -126,11 +135,12 @@ fn hex_text() -> bool {
     reading.fault.is_none() && named == Some(unhex(image))
 }
 
-pub fn run() -> [(&'static str, bool); 7] {
+pub fn run() -> [(&'static str, bool); 8] {
     [
         ("digests", digests()),
         ("signatures", signatures()),
         ("counts", counts()),
+        ("most hashes held", most_held()),
         ("lengths", lengths()),
         ("last block", last_block()),
         ("paths", paths()),

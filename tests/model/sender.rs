@@ -1,4 +1,4 @@
-//! Document 01 and changes 1 and 2, the sender: the bare manifest and the messages of each kind.
+//! Document 01 and changes 1, 2 and 6, the sender: the bare manifest and the messages of each kind.
 //! It refuses 5, 11, 8 in this order.
 
 use crate::manifest::{AREA, Manifest, Outcome, TURN, check_size, refuse_if};

@@ -8,7 +8,7 @@
 use crate::sha256::{Hash, sha256};
 
 /// A subtree: its first block and its number of blocks.
-#[derive(Clone, Copy, PartialEq, Debug)]
+#[derive(Clone, Copy, PartialEq, Eq, Hash, Debug)]
 pub struct Subtree {
     pub first: usize,
     pub count: usize,
@@ -16,7 +16,7 @@ pub struct Subtree {
 
 impl Subtree {
     /// "split at k, the largest power of two below n"
-    fn halves(self) -> (Subtree, Subtree) {
+    pub fn halves(self) -> (Subtree, Subtree) {
         let mut k = 1;
         while 2 * k < self.count {
             k *= 2;
