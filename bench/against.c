@@ -14,6 +14,7 @@ static void measure(const job *other, const job *own) {
     fflush(stdout);
 }
 
+/* Of a length that both builds take. */
 static void measure_image(size_t length, uint32_t block_length) {
     other_build.load(length, block_length);
     this_build.load(length, block_length);
@@ -30,8 +31,8 @@ int main(int count, char **words) {
     printf("%-28s %14s %14s %10s\n", "microseconds", "other", "this", "ratio");
     for (int i = 0; i < JOBS; i++)
         measure(&other_build.jobs[i], &this_build.jobs[i]);
-    measure_image(1 << 20, 1024);
-    measure_image(1 << 20, 256);
-    measure_image(1 << 18, 64);
+    measure_image(1536 << 10, 1024);
+    measure_image(384 << 10, 256);
+    measure_image(96 << 10, 64);
     return 0;
 }

@@ -10,7 +10,10 @@ size_t compressions_of(size_t length);
 /* Of the tree over n blocks: each block once, and each of the n - 1 inner nodes. */
 size_t tree_compressions(size_t n, size_t block_length);
 
-/* The depth of the tree over n blocks; where n is a power of two, that of every leaf. */
+/* Of all block messages of n blocks, with no hash kept between two: each hash that one carries is worked out from its blocks. */
+size_t messages_compressions(size_t n, size_t block_length);
+
+/* The depth of the tree over n blocks: that of its deepest leaves. */
 size_t tree_depth(size_t n);
 
 /* Of a path update of a leaf at this depth: the old block and the new one, and the inner nodes above each. */

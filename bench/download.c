@@ -61,12 +61,12 @@ static void measure(const char *name, void (*run)(const void *), const message *
     printf(" %12.1f %12zu %12.2f\n", rest * 1e6, beside, ratio(rest, beside, best[2]));
 }
 
-static void measure_all(size_t length, uint32_t block_length) {
-    make_messages(length, block_length, &made);
+static void measure_all(size_t n, uint32_t block_length) {
+    make_messages(n * block_length, block_length, &made);
     const size_t *of_verdict = made.key.compressions;
     size_t tree = tree_compressions(made.n, block_length);
     measure("download", download, &made.program, of_verdict[0], 2 * tree);
-    if (memcmp(device.flash, made.image, length) != 0) {
+    if (memcmp(device.flash, made.image, made.length) != 0) {
         puts("the flash does not begin with the image");
         exit(1);
     }
@@ -81,10 +81,10 @@ int main(void) {
     printf("%84s %s\n", "", "beside the verdict");
     printf("%-12s %10s %8s %8s %12s %12s %12s %12s %12s %12s\n", "", "image", "L", "n", "milliseconds", "compressions", "ratio", "microseconds",
            "compressions", "ratio");
-    measure_all(1 << 16, 1024);
-    measure_all(1 << 18, 1024);
-    measure_all(1 << 20, 1024);
-    measure_all(1 << 20, 256);
-    measure_all(1 << 18, 64);
+    measure_all(64, 1024);
+    measure_all(256, 1024);
+    measure_all(LERTXUNO_MAX_BLOCKS, 1024);
+    measure_all(LERTXUNO_MAX_BLOCKS, 256);
+    measure_all(LERTXUNO_MAX_BLOCKS, 64);
     return 0;
 }

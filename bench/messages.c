@@ -53,7 +53,7 @@ void make_messages(size_t length, uint32_t block_length, messages *m) {
     m->length = length;
     m->block_length = block_length;
     m->n = (uint32_t)((length + block_length - 1) / block_length);
-    m->updated = m->n / 2 + 1;
+    m->updated = m->n / 2 + 1; /* as deep in the tree as any, for every n */
     m->used = 0;
     make_key(m);
     make_program(m);

@@ -3,7 +3,7 @@
 #define MESSAGES_H
 #include "key.h"
 
-enum { MODEL = 7, OLD_SERIAL = 1, NEW_SERIAL = 2, MOST_BLOCKS = 4096, LONGEST_IMAGE = 1 << 20 };
+enum { MODEL = 7, OLD_SERIAL = 1, NEW_SERIAL = 2, LONGEST_IMAGE = LERTXUNO_MAX_BLOCKS * LERTXUNO_MAX_BLOCK_LENGTH };
 
 typedef struct {
     const uint8_t *bytes;
@@ -18,7 +18,7 @@ typedef struct {
     size_t length;
     uint32_t block_length, n, updated; /* the last: the number of the block that an update changes */
     key_pair key;
-    message program, blocks[MOST_BLOCKS], update, path_update;
+    message program, blocks[LERTXUNO_MAX_BLOCKS], update, path_update;
     /* The bytes of all messages, one behind the other. */
     uint8_t room[2 * LONGEST_IMAGE];
     size_t used;

@@ -1,12 +1,12 @@
-/* The sender: the time of all block messages of an image, and of a path update of its first block, each as a multiple of the time of its manifest, which takes
-   each block's digest once. */
+/* The sender: the time of all block messages of an image, and of a path update of its first block, each as a multiple of the time of its manifest, which works
+   out the tree once; and which multiple of the tree's compressions the messages take. */
 #include "accepted.h"
 #include "compressions.h"
 #include "input.h"
 
 enum { ROUNDS = 30, MODEL = 7, SERIAL = 1 };
 
-static uint8_t image[1 << 20], out[2048];
+static uint8_t image[LERTXUNO_MAX_BLOCKS * LERTXUNO_MAX_BLOCK_LENGTH], out[2048];
 
 typedef struct {
     size_t length;
@@ -32,20 +32,21 @@ static void send_path_update(const void *with) {
     accepted(lertxuno_path_update(image, s->length, s->block_length, MODEL, SERIAL, 1, image, 0, out, sizeof out, &written));
 }
 
-static void measure(uint32_t block_length, size_t length) {
-    const size s = {length, block_length, (uint32_t)((length + block_length - 1) / block_length)};
+/* An image of the most blocks. */
+static void measure(uint32_t block_length) {
+    const size s = {(size_t)LERTXUNO_MAX_BLOCKS * block_length, block_length, LERTXUNO_MAX_BLOCKS};
     const side sides[] = {{send_manifest, &s, 1}, {send_blocks, &s, 1}, {send_path_update, &s, 1}};
     double best[3];
     turns(ROUNDS, 3, sides, best);
-    printf("%10zu %8u %8u %12.2f %12.2f %12.2f %12.2f %12.2f %12.2f\n", length, block_length, s.n, best[0] * 1e3, best[1] * 1e3, best[1] / best[0],
-           (double)tree_depth(s.n) / 2, best[2] * 1e3, best[2] / best[0]);
+    printf("%10zu %8u %8u %12.2f %12.2f %12.2f %12.2f %12.2f %12.2f\n", s.length, block_length, s.n, best[0] * 1e3, best[1] * 1e3, best[1] / best[0],
+           (double)messages_compressions(s.n, block_length) / tree_compressions(s.n, block_length), best[2] * 1e3, best[2] / best[0]);
 }
 
 int main(void) {
     fill(image, sizeof image);
-    printf("%10s %8s %8s %12s %12s %12s %12s %12s %12s\n", "image", "L", "n", "manifest, ms", "messages, ms", "ratio", "log2(n) / 2", "path, ms", "ratio");
-    measure(1024, 1 << 20);
-    measure(256, 1 << 20);
-    measure(64, 1 << 18);
+    printf("%10s %8s %8s %12s %12s %12s %12s %12s %12s\n", "image", "L", "n", "manifest, ms", "messages, ms", "ratio", "compressions", "path, ms", "ratio");
+    measure(1024);
+    measure(256);
+    measure(64);
     return 0;
 }

@@ -1,5 +1,5 @@
-/* The stack that a call uses: it runs on a painted one, and what is not painted any more was used, less the same for an empty call. 4,096 blocks, where the
-   tree is deepest, and the longest image of Intel HEX. A part that a function reserves below its deepest write is not seen. */
+/* The stack that a call uses: it runs on a painted one, and what is not painted any more was used, less the same for an empty call. The most blocks,
+   where the tree is deepest, and the longest image of Intel HEX. A part that a function reserves below its deepest write is not seen. */
 #include "device.h"
 #include "ihex_text.h"
 #include <string.h>
@@ -85,7 +85,7 @@ static size_t used_by(void (*call)(void)) {
 static void measure(const char *name, void (*call)(void)) { printf("%-34s %8zu\n", name, used_by(call) - used_by(nothing)); }
 
 int main(void) {
-    make_messages((size_t)MOST_BLOCKS * BLOCK_LENGTH, BLOCK_LENGTH, &made);
+    make_messages(LERTXUNO_MAX_BLOCKS * BLOCK_LENGTH, BLOCK_LENGTH, &made);
     text_length = ihex_text(made.image, LERTXUNO_MAX_IHEX_LENGTH, 16, "\r\n", text);
     printf("%-34s %8s\n", "stack", "bytes");
     measure("device, fresh", make_fresh);
