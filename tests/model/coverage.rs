@@ -218,6 +218,25 @@ impl Coverage {
         }
     }
 
+    fn counts(&mut self) -> impl Iterator<Item = &mut u64> {
+        let arrays = self.held.iter_mut().chain(&mut self.edges);
+        let arrays = arrays.chain(&mut self.broken);
+        let lists = [&mut self.answers, &mut self.paths, &mut self.ends];
+        let lists = lists.into_iter().chain([&mut self.texts]);
+        let lists = lists.chain(&mut self.touched).chain(&mut self.instead);
+        let rows = arrays.chain(lists.flatten());
+        let shapes = self.shapes.as_flattened_mut().as_flattened_mut();
+        rows.flat_map(|row| &mut row.counts).chain(shapes)
+    }
+
+    /// What occurred in another thread.
+    pub fn add(&mut self, mut other: Coverage) {
+        for (count, more) in self.counts().zip(other.counts()) {
+            *count += *more;
+        }
+        self.completed(other.largest);
+    }
+
     pub fn count(&mut self, row: usize, answer: u32) {
         self.answers[row].counts[column(&COLUMNS, answer)] += 1;
     }

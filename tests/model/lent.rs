@@ -2,6 +2,8 @@
 //! write of even one byte too many is a fault; what stands before it on its own pages is looked at
 //! after the call.
 
+use std::cell::RefCell;
+use std::collections::HashMap;
 use std::ptr;
 use std::slice;
 
@@ -16,13 +18,39 @@ unsafe extern "C" {
     fn mmap(at: *mut u8, length: usize, access: i32, flags: i32, file: i32, offset: i64)
     -> *mut u8;
     fn mprotect(at: *mut u8, length: usize, access: i32) -> i32;
-    fn munmap(at: *mut u8, length: usize) -> i32;
     fn signal(number: i32, handler: extern "C" fn(i32)) -> usize;
 }
 
 /// What stands before the lent bytes, at least so often.
 const GUARD: u8 = 0xa5;
 const GUARDS: usize = 64;
+
+thread_local! {
+    /// Pages that are lent no more, by their open bytes: mapping new ones for each call is slow,
+    /// above all in two threads at once.
+    static FREE: RefCell<HashMap<usize, Vec<*mut u8>>> = RefCell::default();
+}
+
+/// New pages with so many open bytes, and a closed one behind them.
+fn map(open: usize) -> *mut u8 {
+    // SAFETY: nobody knows the pages before the last is closed.
+    unsafe {
+        let pages = mmap(
+            ptr::null_mut(),
+            open + PAGE,
+            READ_WRITE,
+            PRIVATE_ANONYMOUS,
+            -1,
+            0,
+        );
+        assert!(pages as isize != -1, "no memory");
+        assert!(
+            mprotect(pages.add(open), PAGE, CLOSED) == 0,
+            "no page closed"
+        );
+        pages
+    }
+}
 
 pub struct Lent {
     /// The open pages; one closed page is behind them.
@@ -35,23 +63,8 @@ pub struct Lent {
 impl Lent {
     pub fn new(bytes: &[u8]) -> Lent {
         let open = (GUARDS + bytes.len()).next_multiple_of(PAGE);
-        // SAFETY: new pages, of which the last is closed before anybody knows them.
-        let pages = unsafe {
-            let pages = mmap(
-                ptr::null_mut(),
-                open + PAGE,
-                READ_WRITE,
-                PRIVATE_ANONYMOUS,
-                -1,
-                0,
-            );
-            assert!(pages as isize != -1, "no memory");
-            assert!(
-                mprotect(pages.add(open), PAGE, CLOSED) == 0,
-                "no page closed"
-            );
-            pages
-        };
+        let free = FREE.with_borrow_mut(|free| free.get_mut(&open).and_then(Vec::pop));
+        let pages = free.unwrap_or_else(|| map(open));
         let length = bytes.len();
         let mut lent = Lent {
             pages,
@@ -102,7 +115,7 @@ impl Clone for Lent {
 
 impl Drop for Lent {
     fn drop(&mut self) {
-        unsafe { munmap(self.pages, self.open + PAGE) };
+        FREE.with_borrow_mut(|free| free.entry(self.open).or_default().push(self.pages));
     }
 }
 

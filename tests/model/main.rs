@@ -50,6 +50,7 @@ mod tree;
 
 use std::collections::BTreeMap;
 use std::sync::atomic::{AtomicU64, Ordering};
+use std::thread;
 use std::time::{SystemTime, UNIX_EPOCH};
 
 use altered::Altered;
@@ -63,8 +64,11 @@ use manifest::BLOCK_LENGTHS;
 use rng::Rng;
 use signer::Signer;
 
-/// One list in so many has a large image.
-const LARGE: u64 = 100;
+/// Of the lists each thread takes every so-manieth.
+const THREADS: u64 = 2;
+
+/// One list in so many has a large image: an odd number, so that each thread has such lists.
+const LARGE: u64 = 101;
 
 /// All comparisons so far, for a call that never comes back.
 static COMPARED: AtomicU64 = AtomicU64::new(0);
@@ -79,6 +83,19 @@ struct Test<'a> {
     bundle_ends: BTreeMap<String, u64>,
     passed: u64,
     failed: u64,
+}
+
+impl<'a> Test<'a> {
+    fn new(seed: u64, signers: &'a [[Signer; 2]]) -> Test<'a> {
+        Test {
+            seed,
+            signers,
+            coverage: Coverage::new(),
+            bundle_ends: BTreeMap::new(),
+            passed: 0,
+            failed: 0,
+        }
+    }
 }
 
 /// Two keys for each pair of types.
@@ -218,20 +235,33 @@ impl Test<'_> {
         }
     }
 
-    fn lists(&mut self, calls: u64) {
-        let mut number = 0;
-        let begin = self.passed;
-        let end = begin + calls;
-        for quarter in 1..=4 {
-            while self.passed < begin + calls * quarter / 4 && self.failed < 100 {
-                number += 1;
-                self.list(number, end - self.passed);
-            }
-            println!(
-                "{number} lists, {} messages to devices",
-                self.passed - begin
-            );
+    /// This thread's lists, the first of which is this one, up to so many messages.
+    fn share(mut self, first: u64, calls: u64) -> Self {
+        let mut number = first;
+        while self.passed < calls && self.failed < 100 {
+            self.list(number, calls - self.passed);
+            number += THREADS;
         }
+        self
+    }
+
+    fn lists(&mut self, calls: u64) {
+        println!("lists of messages to devices");
+        let (seed, signers) = (self.seed, self.signers);
+        let part = |k| {
+            let share = calls * k / THREADS - calls * (k - 1) / THREADS;
+            Test::new(seed, signers).share(k, share)
+        };
+        thread::scope(|scope| {
+            let start = |k| scope.spawn(move || part(k));
+            let threads: Vec<_> = (1..=THREADS).map(start).collect();
+            for thread in threads {
+                let part = thread.join().expect("a thread that ends");
+                self.coverage.add(part.coverage);
+                self.passed += part.passed;
+                self.failed += part.failed;
+            }
+        });
     }
 
     fn functions(&mut self, calls: u64) {
@@ -295,14 +325,7 @@ fn main() {
         .unwrap_or(clock.expect("a clock past 1970").as_nanos() as u64);
     println!("seed {seed}");
     let signers = signers(seed);
-    let mut test = Test {
-        seed,
-        signers: &signers,
-        coverage: Coverage::new(),
-        bundle_ends: BTreeMap::new(),
-        passed: 0,
-        failed: 0,
-    };
+    let mut test = Test::new(seed, &signers);
     lent::on_fault(fault);
     test.self_test();
     println!("the image's end");
