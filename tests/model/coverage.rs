@@ -218,6 +218,7 @@ impl Coverage {
         }
     }
 
+    /// Those of all tables.
     fn counts(&mut self) -> impl Iterator<Item = &mut u64> {
         let arrays = self.held.iter_mut().chain(&mut self.edges);
         let arrays = arrays.chain(&mut self.broken);

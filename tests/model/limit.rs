@@ -56,7 +56,7 @@ pub fn sizes(rng: &mut Rng, signer: &Signer, block_length: usize) -> Compared<()
 /// All five functions of the sender, with a number that may be wrong, and with room and without:
 /// the size comes first, the number next.
 fn orders(case: &mut Case, due: u32) -> Compared<()> {
-    let first_of = |answers: &[u32]| answers.iter().copied().find(|answer| *answer != ACCEPTED);
+    let first = |answers: [u32; 3]| answers.into_iter().find(|answer| *answer != ACCEPTED);
     let n = case.image.blocks() as u32;
     let signature = &[0; 100];
     for (number, turn) in [(1, ACCEPTED), (n, ACCEPTED), (0, TURN), (n + 1, TURN)] {
@@ -68,8 +68,8 @@ fn orders(case: &mut Case, due: u32) -> Compared<()> {
             (Send::Update(4, number, signature), turn),
         ] {
             for (room, area) in [(ROOM, ACCEPTED), (0, AREA)] {
-                let due = first_of(&[due, turn, area]).unwrap_or(ACCEPTED);
-                expect("sender", case.order(what, room)?, due)?;
+                let answer = first([due, turn, area]).unwrap_or(ACCEPTED);
+                expect("sender", case.order(what, room)?, answer)?;
             }
         }
     }

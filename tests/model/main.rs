@@ -64,7 +64,7 @@ use manifest::BLOCK_LENGTHS;
 use rng::Rng;
 use signer::Signer;
 
-/// Of the lists each thread takes every so-manieth.
+/// The lists are dealt out to so many threads, in turn.
 const THREADS: u64 = 2;
 
 /// One list in so many has a large image: an odd number, so that each thread has such lists.
