@@ -16,13 +16,13 @@ ghost use Rattle.merkle.specs.Held as spec;
 ghost use Rattle.merkle.specs.Held.{heldStart, begun, advanced};
 
 // Before the first block: the root alone.
-pub fn begin(root: &[u8]) -> [u8; HELD_LEN]
-    requires { ⌜ length (now root) ≡ hashLength ⌝ }
-    ensures { λ r. ⌜ r ≡ begun (now (root .entry)) ⌝ }
+pub fn begin(hashes: &mut [u8], root: &[u8])
+    requires { ⌜ (length (now hashes) ≡ heldBytes) × (length (now root) ≡ hashLength) ⌝ }
+    ensures { λ _. ⌜ now (hashes .exit) ≡ begun (now (root .entry)) ⌝ }
 {
-    let mut hashes = [0u8; HELD_LEN];
-    copy(&mut hashes, HELD_LEN - HASH_LEN, root);
-    hashes
+    let zeros = [0u8; HELD_LEN - HASH_LEN];
+    copy(hashes, 0, &zeros);
+    copy(hashes, HELD_LEN - HASH_LEN, root);
 }
 
 // Where the next hash needed stands. The next block's siblings have room up to its end.
@@ -46,12 +46,10 @@ pub fn fits(hashes: &[u8], n: usize, before: usize, block: &[u8], siblings: &[u8
 }
 
 // The siblings take the place of that one.
-pub fn advance(hashes: [u8; HELD_LEN], n: usize, before: usize, siblings: &[u8]) -> [u8; HELD_LEN]
-    requires { ⌜ (before < n) × (n ≤ maxBlocks) × (length (now siblings) ≡ hashLength * carriedCount n (before + 1)) ⌝ }
-    ensures { λ r. ⌜ r ≡ advanced n before hashes (now (siblings .entry)) ⌝ }
+pub fn advance(hashes: &mut [u8], n: usize, before: usize, siblings: &[u8])
+    requires { ⌜ (length (now hashes) ≡ heldBytes) × (before < n) × (n ≤ maxBlocks) × (length (now siblings) ≡ hashLength * carriedCount n (before + 1)) ⌝ }
+    ensures { λ _. ⌜ now (hashes .exit) ≡ advanced n before (now (hashes .entry)) (now (siblings .entry)) ⌝ }
 {
     let to = next_at(n, before) + HASH_LEN - siblings.len();
-    let mut next = hashes;
-    copy(&mut next, to, siblings);
-    next
+    copy(hashes, to, siblings);
 }

@@ -14,17 +14,17 @@ add-to c = search needs
 sub-to : tie.Need-sub-to
 sub-to c = search needs
 
-slice-aggregate-copy : tie.Need-slice-aggregate-copy
-slice-aggregate-copy c = search needs
-
 copy-requires : tie.Need-copy-requires
 copy-requires c κs = search needs
 
+same-length : tie.Need-same-length
+same-length c = search needs
+
 returns : tie.Need-returns
 returns c =
-    let found = c .before .before .before in
-    advanced-is _ _ (found .next-at .result) _ _ _ (found .next-at .ensures .0) (omega arith) (c .before .copy .ensures)
+    let found = c .before .before .before .before in
+    advanced-is _ _ (found .next-at .result) _ _ _ (found .next-at .ensures .0) (omega arith) (c .before .before .copy .ensures)
 
 pub advance-spec : {M : Type 1} → statement M
 advance-spec =
-    tie.close (tie.spec next-at-requires add-to sub-to slice-aggregate-copy copy-requires returns)
+    tie.close (tie.spec next-at-requires add-to sub-to copy-requires same-length returns)
