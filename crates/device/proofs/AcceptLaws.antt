@@ -1,7 +1,7 @@
 -- What the accepting functions do, and the step that follows.
 use mathlib.Core.Path.{_≡_, sym, ap, _∙_}
 use mathlib.Core.Bool.{Bool}
-use mathlib.Core.List.{List, []}
+use mathlib.Core.List.{List}
 use mathlib.Core.Option.{Option, none, some}
 use Prim.Native.Nat.{ℕ, _+_, _-_, _≤_, _<_}
 use native.Mathlib.Numerals.{add-one}
@@ -22,16 +22,12 @@ use Rattle.machine.specs.declared.state.Answer.the-variants.{Accepted, Refused}
 use Rattle.machine.specs.Device.{nextOf, Situation}
 use Rattle.machine.specs.Flash.{stored, updated}
 use Rattle.machine.specs.Refusals.{refusals}
-use Rattle.machine.specs.Step.{acceptProgram, stageAfter, acceptBlock, acceptUpdate, accept, answerOf, outcome, refusalOf, step}
+use Rattle.machine.specs.Step.{stageAfter, acceptBlock, acceptUpdate, accept, answerOf, outcome, refusalOf, step}
 use Rattle.device.proofs.ConditionLaws.{before-is}
 use Rattle.machine.proofs.RefusalLaws.{answer-none}
 
 module _ (d : Device) (flash m : List ℕ) where
-  -- the three accepted steps, as the code makes them
-  pub program-is : {r : Device} → r ≡ acceptProgram d [] m .device → acceptProgram d flash m ≡ record { device = r; flash = flash }
-  unfolding acceptProgram
-  program-is e = rw e
-
+  -- two accepted steps, as the code makes them
   pub block-is : {i n k : ℕ} {t : Stage} {b r hashes f : List ℕ} → i ≡ nextOf (d .stage) → n ≡ countOf (d .manifest)
       → k ≡ blockLength (d .manifest .«block_len») (d .manifest .«image_len») i → b ≡ blockIn k m → r ≡ hashesAfter k m → t ≡ stageAfter n i
       → hashes ≡ advanced n (i - 1) (d .hashes) r → f ≡ withBlock (d .manifest .«block_len») flash i b

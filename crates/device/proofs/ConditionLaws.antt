@@ -2,16 +2,16 @@
 use mathlib.Core.Path.{_≡_, refl, sym, ap, _∙_}
 use mathlib.Core.Logic.{_⊎_, inl, inr}
 use mathlib.Core.Bool.{Bool, false, not}
-use mathlib.Core.List.{List, map}
+use mathlib.Core.List.{List}
 use Prim.Native.Nat.{ℕ, zero, suc, pred, _+_, _-_, _*_, _≤_, _<_}
 use native.Mathlib.Nat.{zero-add}
 use native.Mathlib.Omega.{arith}
 use lib.Dec.{ltb, leb}
-use lib.ListN.{length, take, length-map}
+use lib.ListN.{length, take}
 use lib.Seq.{length-take-le}
 use borrow.Author.Tests.{eqb-true, eq-eqb, ne-eqb, not-false, ltb-false, lt-ltb, le-ltb, le-leb, lt-leb}
 use Rattle.octets.specs.Octets.{equal}
-use Rattle.merkle.specs.Limits.{hashLength, heldBytes}
+use Rattle.merkle.specs.Limits.{hashLength}
 use Rattle.merkle.specs.Blocks.{cut, overlay}
 use Rattle.merkle.specs.Shape.{shape}
 use Rattle.merkle.specs.Hash.{plain, rootOver}
@@ -26,15 +26,11 @@ use Rattle.wire.specs.Message.{blockIn, hashesAfter, dueLength}
 use Rattle.wire.proofs.SizeLaws.{sized}
 use Rattle.wire.proofs.GeometryLaws.{block-end, with-blocks}
 use Rattle.wire.proofs.MessageLaws.{Due}
+use Rattle.machine.specs.declared.state.Stage.the-variants.{Loading}
 use Rattle.machine.specs.declared.state.Device.{Device}
 use Rattle.machine.specs.Flash.{stored}
 use Rattle.machine.specs.Refusals.{tooSmall, wrongLength, mismatch, lacksRoot, lastAltered}
-use Rattle.machine.proofs.RefusalLaws.{Awaits}
 use Rattle.machine.proofs.HeldLaws.{mismatch-is}
-
--- the array of the held hashes has its length by its type
-pub held-array : (d : Device) → length (map (λ (v : ℕ). v) (d .hashes)) ≡ heldBytes → length (d .hashes) ≡ heldBytes
-held-array d e = sym (length-map (d .hashes) (λ (v : ℕ). v)) ∙ e
 
 -- the number of blocks before block i
 pub before-is : (i : ℕ) → i - 1 ≡ pred i
@@ -99,10 +95,10 @@ module _ (H : List ℕ → List ℕ) (s : Manifest) (i n : ℕ) (flash m : List 
   at-last k b t e ek eb et = rw (eq-eqb i (countOf s) (e ∙ en), et, eb, ek)
 
 -- 14 while loading, as the code tests it
-pub mismatch-found : (H : List ℕ → List ℕ) (d : Device) (i n k : ℕ) (m b r : List ℕ) (t : Bool) → Awaits d i → n ≡ countOf (d .manifest)
+pub mismatch-found : (H : List ℕ → List ℕ) (d : Device) (i n k : ℕ) (m b r : List ℕ) (t : Bool) → d .stage ≡ Loading i → 0 < i → i ≤ countOf (d .manifest) → n ≡ countOf (d .manifest)
     → k ≡ blockLength (d .manifest .«block_len») (d .manifest .«image_len») i → b ≡ blockIn k m → r ≡ hashesAfter k m → t ≡ fits (plain H) n (i - 1) (d .hashes) b r
     → not t ≡ mismatch H d i m
-mismatch-found H d zero n k m b r t w en ek eb er e = absurd (omega (arith, w .low))
-mismatch-found H d (suc j) n k m b r t w en ek eb er e =
+mismatch-found H d zero n k m b r t stage low high en ek eb er e = absurd (omega arith)
+mismatch-found H d (suc j) n k m b r t stage low high en ek eb er e =
     let z : suc j - 1 ≡ j = omega arith in
-    rw (e, eb, er, en, ek, z) (sym (mismatch-is H d j (w .stage) (w .high) m))
+    rw (e, eb, er, en, ek, z) (sym (mismatch-is H d j stage high m))

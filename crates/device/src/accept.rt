@@ -2,52 +2,62 @@
 use crate::conditions::count;
 use crate::conditions::next_of;
 use crate::conditions::own_len;
-use machine::Device;
 use machine::Stage;
 use wire::Kind;
+use wire::Manifest;
 ghost use mathlib.Core.Path.{_≡_};
-ghost use mathlib.Core.List.{[]};
-ghost use mathlib.Core.Option.{none};
-ghost use Prim.Native.Nat.{_+_, _-_, _*_, _≤_, _<_};
+ghost use mathlib.Core.List.{List};
+ghost use Prim.Native.Nat.{ℕ, _+_, _-_, _*_, _≤_, _<_};
 ghost use lib.ListN.{length};
-ghost use Rattle.sha256.specs.Sha256.{digest};
-ghost use Rattle.merkle.specs.Limits.{maxBlocks};
-ghost use Rattle.lms.specs.Lms.{valid};
+ghost use Rattle.merkle.specs.Limits.{maxBlocks, heldBytes};
 ghost use Rattle.wire.specs.declared.kind.Kind.the-variants as kinds;
+ghost use Rattle.wire.specs.declared.manifest.Manifest.{Manifest};
 ghost use Rattle.wire.specs.Geometry.{countOf, withBlock};
 ghost use Rattle.wire.specs.Message.{leastLength, manifestIn, updateNumber, leastUpdate};
 ghost use Rattle.wire.specs.Message as messages;
-ghost use Rattle.machine.specs.Step.{acceptProgram, stageAfter, acceptBlock, acceptUpdate, refusalOf};
+ghost use Rattle.machine.specs.declared.state.Device.{Device};
+ghost use Rattle.machine.specs.Step.{acceptProgram, stageAfter, acceptBlock, acceptUpdate};
 ghost use Rattle.machine.specs.Step as spec;
+ghost use Rattle.device.specs.Fields.{deviceOf, Unrefused};
 
-// Device and flash after an accepted message of this kind.
-pub fn accept(device: Device, kind: Kind, flash: &mut [u8], message: &[u8]) -> Device
-    requires { ⌜ (kind ≡ messages.kind (now message)) × (refusalOf digest valid device (now flash) (now message) ≡ none) ⌝ }
-    ensures { λ r. ⌜ spec.accept kind device (now (flash .entry)) (now (message .entry)) ≡ record { device = r; flash = now (flash .exit) } ⌝ }
+// Stage and manifest after an accepted message.
+pub struct Progress {
+    pub stage: Stage,
+    pub manifest: Manifest,
+}
+
+// What an accepted message of this kind makes of stage, manifest, hashes and flash; model and key stay.
+pub fn accept(
+    stage: Stage,
+    manifest: Manifest,
+    hashes: &mut [u8],
+    kind: Kind,
+    flash: &mut [u8],
+    message: &[u8],
+) -> Progress
+    requires { ⌜ (length (now hashes) ≡ heldBytes) × (kind ≡ messages.kind (now message)) × Unrefused stage manifest (now hashes) (now flash) (now message) ⌝ }
+    ensures { λ r. ⌜ ((model : ℕ) (key : List ℕ) → spec.accept kind (deviceOf model key stage manifest (now (hashes .entry))) (now (flash .entry)) (now (message .entry)) ≡ record { device = deviceOf model key (r .stage) (r .manifest) (now (hashes .exit)); flash = now (flash .exit) }) ⌝ }
 {
     match kind {
-        Kind::Program => accept_program(device, message),
-        Kind::Block => accept_block(device, flash, message),
-        Kind::Update | Kind::PathUpdate => accept_update(device, flash, message),
+        Kind::Program => accept_program(hashes, message),
+        Kind::Block => accept_block(stage, manifest, hashes, flash, message),
+        Kind::Update | Kind::PathUpdate => accept_update(stage, flash, message),
         // Never accepted; the definition has this arm too.
-        Kind::Unknown => device,
+        Kind::Unknown => Progress { stage, manifest },
     }
 }
 
 // Kind 1. It does not look at the flash.
-fn accept_program(device: Device, message: &[u8]) -> Device
-    requires { ⌜ leastLength kinds.Program ≤ length (now message) ⌝ }
-    ensures { λ r. ⌜ r ≡ acceptProgram device [] (now (message .entry)) .device ⌝ }
+fn accept_program(hashes: &mut [u8], message: &[u8]) -> Progress
+    requires { ⌜ (length (now hashes) ≡ heldBytes) × (leastLength kinds.Program ≤ length (now message)) ⌝ }
+    ensures { λ r. ⌜ ((d : Device) (flash : List ℕ) → acceptProgram d flash (now (message .entry)) ≡ record { device = deviceOf (d .model) (d .key) (r .stage) (r .manifest) (now (hashes .exit)); flash = flash }) ⌝ }
 {
     let manifest = wire::manifest_in(message);
     let root = manifest.root;
-    let key = device.key;
-    Device {
-        model: device.model,
-        key,
+    merkle::begin(hashes, &root);
+    Progress {
         stage: Stage::Loading(1),
         manifest,
-        hashes: merkle::begin(&root),
     }
 }
 
@@ -72,13 +82,17 @@ fn stage_after(n: usize, number: u16) -> Stage
 }
 
 // Kind 2.
-fn accept_block(device: Device, flash: &mut [u8], message: &[u8]) -> Device
-    requires { ⌜ (messages.kind (now message) ≡ kinds.Block) × (refusalOf digest valid device (now flash) (now message) ≡ none) ⌝ }
-    ensures { λ r. ⌜ acceptBlock device (now (flash .entry)) (now (message .entry)) ≡ record { device = r; flash = now (flash .exit) } ⌝ }
+fn accept_block(
+    stage: Stage,
+    manifest: Manifest,
+    hashes: &mut [u8],
+    flash: &mut [u8],
+    message: &[u8],
+) -> Progress
+    requires { ⌜ (length (now hashes) ≡ heldBytes) × (messages.kind (now message) ≡ kinds.Block) × Unrefused stage manifest (now hashes) (now flash) (now message) ⌝ }
+    ensures { λ r. ⌜ ((model : ℕ) (key : List ℕ) → acceptBlock (deviceOf model key stage manifest (now (hashes .entry))) (now (flash .entry)) (now (message .entry)) ≡ record { device = deviceOf model key (r .stage) (r .manifest) (now (hashes .exit)); flash = now (flash .exit) }) ⌝ }
 {
-    let stage = device.stage;
     let next = next_of(stage);
-    let manifest = device.manifest;
     let n = count(manifest);
     let len = own_len(manifest, next);
     write_block(
@@ -87,23 +101,23 @@ fn accept_block(device: Device, flash: &mut [u8], message: &[u8]) -> Device
         next,
         wire::block_in(message, len),
     );
-    let old = device.hashes;
-    let hashes = merkle::advance(old, n, next as usize - 1, wire::hashes_after(message, len));
-    let key = device.key;
-    Device {
-        model: device.model,
-        key,
+    merkle::advance(
+        hashes,
+        n,
+        next as usize - 1,
+        wire::hashes_after(message, len),
+    );
+    Progress {
         stage: stage_after(n, next),
         manifest,
-        hashes,
     }
 }
 
-// Kinds 3 and 4.
-fn accept_update(device: Device, flash: &mut [u8], message: &[u8]) -> Device
+// Kinds 3 and 4. The hashes stay.
+fn accept_update(stage: Stage, flash: &mut [u8], message: &[u8]) -> Progress
     requires { ⌜ (leastUpdate (manifestIn (now message) .«block_len») (manifestIn (now message) .«image_len») (updateNumber (now message)) ≤ length (now message))
         × (manifestIn (now message) .«image_len» ≤ length (now flash)) × (0 < updateNumber (now message)) × (updateNumber (now message) ≤ countOf (manifestIn (now message))) ⌝ }
-    ensures { λ r. ⌜ acceptUpdate device (now (flash .entry)) (now (message .entry)) ≡ record { device = r; flash = now (flash .exit) } ⌝ }
+    ensures { λ r. ⌜ ((model : ℕ) (key hashes : List ℕ) (held : Manifest) → acceptUpdate (deviceOf model key stage held hashes) (now (flash .entry)) (now (message .entry)) ≡ record { device = deviceOf model key (r .stage) (r .manifest) hashes; flash = now (flash .exit) }) ⌝ }
 {
     let manifest = wire::manifest_in(message);
     let number = wire::update_number(message);
@@ -114,7 +128,5 @@ fn accept_update(device: Device, flash: &mut [u8], message: &[u8]) -> Device
         number,
         wire::update_block(message, len),
     );
-    let mut next = device;
-    next.manifest = manifest;
-    next
+    Progress { stage, manifest }
 }

@@ -14,14 +14,14 @@ ghost use Rattle.machine.specs.BootCheck.{bootCheck};
 pub fn boot_check(device: Device, flash: &[u8]) -> Answer
     ensures { λ r. ⌜ r ≡ bootCheck digest device (now (flash .entry)) ⌝ }
 {
-    if senseless(device) {
+    let stage = device.stage;
+    let manifest = device.manifest;
+    if senseless(stage, manifest) {
         return Answer::Refused(Refusal::State);
     }
-    let stage = device.stage;
     if not_complete(stage) {
         return Answer::Refused(Refusal::Stage);
     }
-    let manifest = device.manifest;
     if too_small(manifest, flash) {
         return Answer::Refused(Refusal::Area);
     }

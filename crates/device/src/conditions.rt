@@ -1,25 +1,28 @@
 // When each refusal is given: a test for each, but for 2 and 3, which stand in `judge`.
-use machine::Device;
 use machine::Stage;
 use wire::Manifest;
 ghost use mathlib.Core.Path.{_≡_};
 ghost use mathlib.Core.Bool.{false, _||_};
-ghost use Prim.Native.Nat.{pred, _*_, _≤_, _<_};
+ghost use mathlib.Core.List.{List};
+ghost use Prim.Native.Nat.{ℕ, pred, _*_, _≤_, _<_};
 ghost use lib.Dec.{ltb};
 ghost use lib.ListN.{length};
 ghost use Rattle.sha256.specs.Sha256.{digest};
-ghost use Rattle.merkle.specs.Limits.{hashLength};
+ghost use Rattle.merkle.specs.Limits.{hashLength, heldBytes};
 ghost use Rattle.merkle.specs.Path.{leafDepth};
 ghost use Rattle.lms.specs.Lms.{valid};
 ghost use Rattle.wire.specs.declared.kind.Kind.the-variants as kinds;
+ghost use Rattle.wire.specs.declared.manifest.Manifest.{Manifest};
 ghost use Rattle.wire.specs.Size.{wrongSize};
 ghost use Rattle.wire.specs.Size as size;
 ghost use Rattle.wire.specs.Geometry.{countOf, blockLength, blocksOf, withBlock};
 ghost use Rattle.wire.specs.Message.{leastLength, leastUpdate, leastPath};
+ghost use Rattle.machine.specs.declared.state.Stage.{Stage};
 ghost use Rattle.machine.specs.declared.state.Stage.the-variants.{Loading};
 ghost use Rattle.machine.specs.Device.{serialOf, nextOf};
 ghost use Rattle.machine.specs.Refusals.{wrongVersion, otherModel, notNewer, tooSmall, notLoading, notComplete, notNext, wrongLength};
 ghost use Rattle.machine.specs.Refusals as spec;
+ghost use Rattle.device.specs.Fields.{deviceOf};
 
 // The block count (01: n) of a manifest that refusal 5 does not apply to.
 pub fn count(manifest: Manifest) -> usize
@@ -30,11 +33,9 @@ pub fn count(manifest: Manifest) -> usize
 }
 
 // 1.
-pub fn senseless(device: Device) -> bool
-    ensures { λ r. ⌜ r ≡ spec.senseless device ⌝ }
+pub fn senseless(stage: Stage, manifest: Manifest) -> bool
+    ensures { λ r. ⌜ ((model : ℕ) (key hashes : List ℕ) → r ≡ spec.senseless (deviceOf model key stage manifest hashes)) ⌝ }
 {
-    let stage = device.stage;
-    let manifest = device.manifest;
     match stage {
         Stage::Idle => false,
         Stage::Loading(next) => {
@@ -72,29 +73,28 @@ pub fn wrong_size(manifest: Manifest) -> bool
 }
 
 // 6.
-pub fn other_model(device: Device, manifest: Manifest) -> bool
-    ensures { λ r. ⌜ r ≡ otherModel device manifest ⌝ }
+pub fn other_model(model: u32, manifest: Manifest) -> bool
+    ensures { λ r. ⌜ ((key : List ℕ) (stage : Stage) (held : Manifest) (hashes : List ℕ) → r ≡ otherModel (deviceOf model key stage held hashes) manifest) ⌝ }
 {
-    manifest.model != device.model
+    manifest.model != model
 }
 
 // The serial that a new one must be above: 0 when idle.
-fn serial_of(device: Device) -> u32
-    ensures { λ r. ⌜ r ≡ serialOf device ⌝ }
+fn serial_of(stage: Stage, held: Manifest) -> u32
+    ensures { λ r. ⌜ ((model : ℕ) (key hashes : List ℕ) → r ≡ serialOf (deviceOf model key stage held hashes)) ⌝ }
 {
-    let stage = device.stage;
     match stage {
         Stage::Idle => 0,
-        Stage::Loading(_) => device.manifest.serial,
-        Stage::Complete => device.manifest.serial,
+        Stage::Loading(_) => held.serial,
+        Stage::Complete => held.serial,
     }
 }
 
 // 7.
-pub fn not_newer(device: Device, manifest: Manifest) -> bool
-    ensures { λ r. ⌜ r ≡ notNewer device manifest ⌝ }
+pub fn not_newer(stage: Stage, held: Manifest, manifest: Manifest) -> bool
+    ensures { λ r. ⌜ ((model : ℕ) (key hashes : List ℕ) → r ≡ notNewer (deviceOf model key stage held hashes) manifest) ⌝ }
 {
-    manifest.serial <= serial_of(device)
+    manifest.serial <= serial_of(stage, held)
 }
 
 // 8.
@@ -105,11 +105,10 @@ pub fn too_small(manifest: Manifest, flash: &[u8]) -> bool
 }
 
 // 9, for a manifest's bytes and the signature over them.
-pub fn unsigned(device: Device, manifest: &[u8], signature: &[u8]) -> bool
-    ensures { λ r. ⌜ r ≡ spec.unsigned valid device (now (manifest .entry)) (now (signature .entry)) ⌝ }
+pub fn unsigned(key: &[u8], manifest: &[u8], signature: &[u8]) -> bool
+    ensures { λ r. ⌜ ((model : ℕ) (stage : Stage) (held : Manifest) (hashes : List ℕ) → r ≡ spec.unsigned valid (deviceOf model (now (key .entry)) stage held hashes) (now (manifest .entry)) (now (signature .entry))) ⌝ }
 {
-    let key = device.key;
-    !lms::verify(&key, manifest, signature)
+    !lms::verify(key, manifest, signature)
 }
 
 // 10, kind 2.
@@ -223,15 +222,13 @@ pub fn unlike(manifest: Manifest, old: Manifest) -> bool
 }
 
 // 14, kind 2: the hash worked out from block and message is not the held one.
-pub fn mismatch(device: Device, next: u16, message: &[u8]) -> bool
-    requires { ⌜ (spec.senseless device ≡ false) × (device .stage ≡ Loading next) × (wrongLength (device .manifest) next (now message) ≡ false) ⌝ }
-    ensures { λ r. ⌜ r ≡ spec.mismatch digest device next (now (message .entry)) ⌝ }
+pub fn mismatch(manifest: Manifest, hashes: &[u8], next: u16, message: &[u8]) -> bool
+    requires { ⌜ (wrongSize (manifest .«block_len») (manifest .«image_len») ≡ false) × (length (now hashes) ≡ heldBytes) × (0 < next) × (next ≤ countOf manifest) × (wrongLength manifest next (now message) ≡ false) ⌝ }
+    ensures { λ r. ⌜ ((model : ℕ) (key : List ℕ) → r ≡ spec.mismatch digest (deviceOf model key (Loading next) manifest (now (hashes .entry))) next (now (message .entry))) ⌝ }
 {
-    let manifest = device.manifest;
-    let hashes = device.hashes;
     let len = own_len(manifest, next);
     !merkle::fits(
-        &hashes,
+        hashes,
         count(manifest),
         next as usize - 1,
         wire::block_in(message, len),

@@ -25,15 +25,17 @@ use crate::conditions::wrong_length;
 use crate::conditions::wrong_size;
 use crate::conditions::wrong_version;
 use machine::Answer;
-use machine::Device;
+use machine::Stage;
 use wire::Kind;
 use wire::Manifest;
 use wire::Refusal;
 ghost use mathlib.Core.Path.{_≡_};
 ghost use mathlib.Core.Bool.{false};
-ghost use Prim.Native.Nat.{_≤_};
+ghost use mathlib.Core.List.{List};
+ghost use Prim.Native.Nat.{ℕ, _≤_};
 ghost use lib.ListN.{length};
 ghost use Rattle.sha256.specs.Sha256.{digest};
+ghost use Rattle.merkle.specs.Limits.{heldBytes};
 ghost use Rattle.lms.specs.Lms.{valid};
 ghost use Rattle.wire.specs.declared.kind.Kind.the-variants as kinds;
 ghost use Rattle.wire.specs.Refusal.{firstThatApplies};
@@ -42,12 +44,23 @@ ghost use Rattle.machine.specs.Device.{nextOf};
 ghost use Rattle.machine.specs.Refusals.{ofManifest, ofProgram, ofBlock, ofSuccessor, ofUpdate, ofPathUpdate, refusals};
 ghost use Rattle.machine.specs.Refusals as spec;
 ghost use Rattle.machine.specs.Step.{answerOf};
+ghost use Rattle.device.specs.Fields.{deviceOf};
 
 // Always 1, 2, 3; then those of the kind. No message of an unknown kind is short, so 2 can wait for the match.
-pub fn judge(device: Device, kind: Kind, flash: &[u8], message: &[u8]) -> Answer
-    ensures { λ r. ⌜ r ≡ answerOf (firstThatApplies (refusals digest valid kind device (now (flash .entry)) (now (message .entry)))) ⌝ }
+pub fn judge(
+    model: u32,
+    key: &[u8],
+    stage: Stage,
+    held: Manifest,
+    hashes: &[u8],
+    kind: Kind,
+    flash: &[u8],
+    message: &[u8],
+) -> Answer
+    requires { ⌜ length (now hashes) ≡ heldBytes ⌝ }
+    ensures { λ r. ⌜ r ≡ answerOf (firstThatApplies (refusals digest valid kind (deviceOf model (now (key .entry)) stage held (now (hashes .entry))) (now (flash .entry)) (now (message .entry)))) ⌝ }
 {
-    if senseless(device) {
+    if senseless(stage, held) {
         return Answer::Refused(Refusal::State);
     }
     if wire::short(kind, message) {
@@ -55,16 +68,16 @@ pub fn judge(device: Device, kind: Kind, flash: &[u8], message: &[u8]) -> Answer
     }
     match kind {
         Kind::Unknown => Answer::Refused(Refusal::Kind),
-        Kind::Program => judge_program(device, flash, message),
-        Kind::Block => judge_block(device, flash, message),
-        Kind::Update => judge_update(device, flash, message),
-        Kind::PathUpdate => judge_path_update(device, flash, message),
+        Kind::Program => judge_program(model, key, stage, held, flash, message),
+        Kind::Block => judge_block(stage, held, hashes, flash, message),
+        Kind::Update => judge_update(model, key, stage, held, flash, message),
+        Kind::PathUpdate => judge_path_update(model, key, stage, held, flash, message),
     }
 }
 
 // A new manifest, in kind 1, 3 or 4: 4, 5, 6, 7.
-fn judge_manifest(device: Device, manifest: Manifest) -> Answer
-    ensures { λ r. ⌜ r ≡ answerOf (firstThatApplies (ofManifest device manifest)) ⌝ }
+fn judge_manifest(model: u32, stage: Stage, held: Manifest, manifest: Manifest) -> Answer
+    ensures { λ r. ⌜ ((key hashes : List ℕ) → r ≡ answerOf (firstThatApplies (ofManifest (deviceOf model key stage held hashes) manifest))) ⌝ }
 {
     if wrong_version(manifest) {
         return Answer::Refused(Refusal::Version);
@@ -72,22 +85,29 @@ fn judge_manifest(device: Device, manifest: Manifest) -> Answer
     if wrong_size(manifest) {
         return Answer::Refused(Refusal::Size);
     }
-    if other_model(device, manifest) {
+    if other_model(model, manifest) {
         return Answer::Refused(Refusal::Model);
     }
-    if not_newer(device, manifest) {
+    if not_newer(stage, held, manifest) {
         return Answer::Refused(Refusal::Serial);
     }
     Answer::Accepted
 }
 
 // Kind 1: 4, 5, 6, 7, 8, 9.
-fn judge_program(device: Device, flash: &[u8], message: &[u8]) -> Answer
+fn judge_program(
+    model: u32,
+    key: &[u8],
+    stage: Stage,
+    held: Manifest,
+    flash: &[u8],
+    message: &[u8],
+) -> Answer
     requires { ⌜ leastLength kinds.Program ≤ length (now message) ⌝ }
-    ensures { λ r. ⌜ r ≡ answerOf (firstThatApplies (ofProgram valid device (now (flash .entry)) (now (message .entry)) (manifestIn (now (message .entry))))) ⌝ }
+    ensures { λ r. ⌜ ((hashes : List ℕ) → r ≡ answerOf (firstThatApplies (ofProgram valid (deviceOf model (now (key .entry)) stage held hashes) (now (flash .entry)) (now (message .entry)) (manifestIn (now (message .entry)))))) ⌝ }
 {
     let manifest = wire::manifest_in(message);
-    let first = judge_manifest(device, manifest);
+    let first = judge_manifest(model, stage, held, manifest);
     let Answer::Accepted = first else {
         return first;
     };
@@ -95,7 +115,7 @@ fn judge_program(device: Device, flash: &[u8], message: &[u8]) -> Answer
         return Answer::Refused(Refusal::Area);
     }
     if unsigned(
-        device,
+        key,
         wire::manifest_bytes(message),
         wire::program_signature(message),
     ) {
@@ -105,16 +125,20 @@ fn judge_program(device: Device, flash: &[u8], message: &[u8]) -> Answer
 }
 
 // Kind 2: 10, 8, 11, 12, 14, 19. The last block's message walks the whole tree; a damaged one does not come so far.
-fn judge_block(device: Device, flash: &[u8], message: &[u8]) -> Answer
-    requires { ⌜ (spec.senseless device ≡ false) × (leastLength kinds.Block ≤ length (now message)) ⌝ }
-    ensures { λ r. ⌜ r ≡ answerOf (firstThatApplies (ofBlock digest device (now (flash .entry)) (now (message .entry)) (nextOf (device .stage)))) ⌝ }
+fn judge_block(
+    stage: Stage,
+    manifest: Manifest,
+    hashes: &[u8],
+    flash: &[u8],
+    message: &[u8],
+) -> Answer
+    requires { ⌜ ((model : ℕ) (key : List ℕ) → spec.senseless (deviceOf model key stage manifest (now hashes)) ≡ false) × (length (now hashes) ≡ heldBytes) × (leastLength kinds.Block ≤ length (now message)) ⌝ }
+    ensures { λ r. ⌜ ((model : ℕ) (key : List ℕ) → r ≡ answerOf (firstThatApplies (ofBlock digest (deviceOf model key stage manifest (now (hashes .entry))) (now (flash .entry)) (now (message .entry)) (nextOf stage)))) ⌝ }
 {
-    let stage = device.stage;
     if not_loading(stage) {
         return Answer::Refused(Refusal::Stage);
     }
     let next = next_of(stage);
-    let manifest = device.manifest;
     if too_small(manifest, flash) {
         return Answer::Refused(Refusal::Area);
     }
@@ -124,7 +148,7 @@ fn judge_block(device: Device, flash: &[u8], message: &[u8]) -> Answer
     if wrong_length(manifest, next, message) {
         return Answer::Refused(Refusal::Length);
     }
-    if mismatch(device, next, message) {
+    if mismatch(manifest, hashes, next, message) {
         return Answer::Refused(Refusal::Mismatch);
     }
     if last_altered(manifest, next, flash, message) {
@@ -134,19 +158,23 @@ fn judge_block(device: Device, flash: &[u8], message: &[u8]) -> Answer
 }
 
 // An update of either kind: 10, 4, 5, 6, 7, 13, 8.
-fn judge_successor(device: Device, flash: &[u8], manifest: Manifest) -> Answer
-    ensures { λ r. ⌜ r ≡ answerOf (firstThatApplies (ofSuccessor device (now (flash .entry)) manifest)) ⌝ }
+fn judge_successor(
+    model: u32,
+    stage: Stage,
+    held: Manifest,
+    flash: &[u8],
+    manifest: Manifest,
+) -> Answer
+    ensures { λ r. ⌜ ((key hashes : List ℕ) → r ≡ answerOf (firstThatApplies (ofSuccessor (deviceOf model key stage held hashes) (now (flash .entry)) manifest))) ⌝ }
 {
-    let stage = device.stage;
     if not_complete(stage) {
         return Answer::Refused(Refusal::Stage);
     }
-    let first = judge_manifest(device, manifest);
+    let first = judge_manifest(model, stage, held, manifest);
     let Answer::Accepted = first else {
         return first;
     };
-    let old = device.manifest;
-    if unlike(manifest, old) {
+    if unlike(manifest, held) {
         return Answer::Refused(Refusal::Unlike);
     }
     if too_small(manifest, flash) {
@@ -156,17 +184,23 @@ fn judge_successor(device: Device, flash: &[u8], manifest: Manifest) -> Answer
 }
 
 // Kind 3: those of `judge_successor`, then 19, 11, 12, 9, 14.
-fn judge_update(device: Device, flash: &[u8], message: &[u8]) -> Answer
+fn judge_update(
+    model: u32,
+    key: &[u8],
+    stage: Stage,
+    held: Manifest,
+    flash: &[u8],
+    message: &[u8],
+) -> Answer
     requires { ⌜ leastLength kinds.Update ≤ length (now message) ⌝ }
-    ensures { λ r. ⌜ r ≡ answerOf (firstThatApplies (ofUpdate digest valid device (now (flash .entry)) (now (message .entry)) (manifestIn (now (message .entry))) (updateNumber (now (message .entry))))) ⌝ }
+    ensures { λ r. ⌜ ((hashes : List ℕ) → r ≡ answerOf (firstThatApplies (ofUpdate digest valid (deviceOf model (now (key .entry)) stage held hashes) (now (flash .entry)) (now (message .entry)) (manifestIn (now (message .entry))) (updateNumber (now (message .entry)))))) ⌝ }
 {
     let manifest = wire::manifest_in(message);
     let number = wire::update_number(message);
-    let first = judge_successor(device, flash, manifest);
+    let first = judge_successor(model, stage, held, flash, manifest);
     let Answer::Accepted = first else {
         return first;
     };
-    let held = device.manifest;
     if lacks_root(held, flash) {
         return Answer::Refused(Refusal::Altered);
     }
@@ -178,7 +212,7 @@ fn judge_update(device: Device, flash: &[u8], message: &[u8]) -> Answer
     }
     let len = own_len(manifest, number);
     if unsigned(
-        device,
+        key,
         wire::manifest_bytes(message),
         wire::update_signature(message, len),
     ) {
@@ -191,13 +225,20 @@ fn judge_update(device: Device, flash: &[u8], message: &[u8]) -> Answer
 }
 
 // Kind 4: those of `judge_successor`, then 11, 12, 9, 15, 14; no 19.
-fn judge_path_update(device: Device, flash: &[u8], message: &[u8]) -> Answer
+fn judge_path_update(
+    model: u32,
+    key: &[u8],
+    stage: Stage,
+    held: Manifest,
+    flash: &[u8],
+    message: &[u8],
+) -> Answer
     requires { ⌜ leastLength kinds.PathUpdate ≤ length (now message) ⌝ }
-    ensures { λ r. ⌜ r ≡ answerOf (firstThatApplies (ofPathUpdate digest valid device (now (flash .entry)) (now (message .entry)) (manifestIn (now (message .entry))) (updateNumber (now (message .entry))))) ⌝ }
+    ensures { λ r. ⌜ ((hashes : List ℕ) → r ≡ answerOf (firstThatApplies (ofPathUpdate digest valid (deviceOf model (now (key .entry)) stage held hashes) (now (flash .entry)) (now (message .entry)) (manifestIn (now (message .entry))) (updateNumber (now (message .entry)))))) ⌝ }
 {
     let manifest = wire::manifest_in(message);
     let number = wire::update_number(message);
-    let first = judge_successor(device, flash, manifest);
+    let first = judge_successor(model, stage, held, flash, manifest);
     let Answer::Accepted = first else {
         return first;
     };
@@ -210,7 +251,7 @@ fn judge_path_update(device: Device, flash: &[u8], message: &[u8]) -> Answer
     let len = own_len(manifest, number);
     let depth = leaf_depth(manifest, number);
     if unsigned(
-        device,
+        key,
         wire::manifest_bytes(message),
         wire::path_signature(message, len, depth),
     ) {
@@ -218,8 +259,8 @@ fn judge_path_update(device: Device, flash: &[u8], message: &[u8]) -> Answer
     }
     let siblings = wire::path_in(message, len, depth);
     let old = old_block(manifest, flash, number);
-    let held = device.manifest.root;
-    if strays(manifest, number, old, siblings, &held) {
+    let old_root = held.root;
+    if strays(manifest, number, old, siblings, &old_root) {
         return Answer::Refused(Refusal::Path);
     }
     let new = wire::update_block(message, len);

@@ -15,10 +15,13 @@ pub use readers::accepted_blocks;
 pub use readers::answer_number;
 use wire::Manifest;
 ghost use mathlib.Core.Path.{_≡_};
+ghost use lib.ListN.{length};
 ghost use Rattle.sha256.specs.Sha256.{digest};
+ghost use Rattle.merkle.specs.Limits.{heldBytes};
 ghost use Rattle.lms.specs.Lms.{valid};
 ghost use Rattle.machine.specs.Device.{freshWith};
 ghost use Rattle.machine.specs.Step.{step};
+ghost use Rattle.device.specs.Fields.{deviceOf};
 
 // A fresh device: idle, with this model and key.
 pub fn fresh(model: u32, key: [u8; lms::KEY_LEN]) -> Device
@@ -41,24 +44,80 @@ pub fn fresh(model: u32, key: [u8; lms::KEY_LEN]) -> Device
     }
 }
 
+// The answer to a message, and what it makes of stage and manifest.
+pub struct Outcome {
+    pub answer: Answer,
+    pub stage: Stage,
+    pub manifest: Manifest,
+}
+
+// Answers a message; key and hashes stay where the caller keeps them. A refusal leaves state and flash as they were; nothing is written before the last test
+// has passed. Only our own crates call this: the array of the hashes has its length.
+pub fn receive_in_place(
+    model: u32,
+    key: &[u8],
+    stage: Stage,
+    manifest: Manifest,
+    hashes: &mut [u8],
+    flash: &mut [u8],
+    message: &[u8],
+) -> Outcome
+    requires { ⌜ length (now hashes) ≡ heldBytes ⌝ }
+    ensures { λ r. ⌜ step digest valid (deviceOf model (now (key .entry)) stage manifest (now (hashes .entry))) (now (flash .entry)) (now (message .entry)) ≡ record { answer = r .answer; device = deviceOf model (now (key .entry)) (r .stage) (r .manifest) (now (hashes .exit)); flash = now (flash .exit) } ⌝ }
+{
+    let kind = wire::kind_of(message);
+    let answer = judge::judge(model, key, stage, manifest, hashes, kind, flash, message);
+    let Answer::Accepted = answer else {
+        return Outcome {
+            answer,
+            stage,
+            manifest,
+        };
+    };
+    let next = accept::accept(stage, manifest, hashes, kind, flash, message);
+    let stage = next.stage;
+    let manifest = next.manifest;
+    Outcome {
+        answer,
+        stage,
+        manifest,
+    }
+}
+
 // The answer to a message, and the device after it.
 pub struct Reply {
     pub answer: Answer,
     pub device: Device,
 }
 
-// Answers a message. A refusal leaves device and flash as they were; nothing is written before the last test has passed.
+// The same for a device that is handed over whole.
 pub fn receive(device: Device, flash: &mut [u8], message: &[u8]) -> Reply
     ensures { λ r. ⌜ step digest valid device (now (flash .entry)) (now (message .entry)) ≡ record { answer = r .answer; device = r .device; flash = now (flash .exit) } ⌝ }
 {
-    let kind = wire::kind_of(message);
-    let answer = judge::judge(device, kind, flash, message);
-    let Answer::Accepted = answer else {
-        return Reply { answer, device };
-    };
-    let next = accept::accept(device, kind, flash, message);
+    let key = device.key;
+    let stage = device.stage;
+    let manifest = device.manifest;
+    let mut hashes = device.hashes;
+    let after = receive_in_place(
+        device.model,
+        &key,
+        stage,
+        manifest,
+        &mut hashes,
+        flash,
+        message,
+    );
+    let answer = after.answer;
+    let stage = after.stage;
+    let manifest = after.manifest;
     Reply {
         answer,
-        device: next,
+        device: Device {
+            model: device.model,
+            key,
+            stage,
+            manifest,
+            hashes,
+        },
     }
 }

@@ -12,10 +12,13 @@ slice-aggregate-begin c = search needs
 begin-requires : tie.Need-begin-requires
 begin-requires c κs = search needs
 
+same-length : tie.Need-same-length
+same-length c = search needs
+
 returns : tie.Need-returns
 unfolding acceptProgram
-returns c = rw (c .begin .ensures, c .before .before .before .before .manifest-in .ensures)
+returns c d flash = rw (c .before .before .begin .ensures, c .before .before .before .before .before .before .manifest-in .ensures)
 
 pub accept-program-spec : {M : Type 1} → statement M
 accept-program-spec =
-    tie.close (tie.spec manifest-in-requires slice-aggregate-begin begin-requires returns)
+    tie.close (tie.spec manifest-in-requires slice-aggregate-begin begin-requires same-length returns)

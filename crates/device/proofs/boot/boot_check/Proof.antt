@@ -14,24 +14,24 @@ use Rattle.device.proofs.boot.boot_check.Tie as tie
 abbrev Past : Refusal → tie.Start → Type 0
 Past r a = let es = ofBoot digest (a .args .device) (a .args .flash .now) in Passes es (behind r es)
 
-sense : (c : tie.Else1) → Past refusal.State (c .before .before .before)
+sense : (c : tie.Else1) → Past refusal.State (c .before .before .before .before)
 unfolding ofBoot behind
-sense c = start _ past (sym (c .before .senseless .ensures) ∙ c .if1 .left)
+sense c = start _ past (sym (c .before .senseless .ensures _ _ _) ∙ c .if1 .left)
 
-stage : (c : tie.Else2) → Past refusal.Stage (c .before .before .before .before .before)
+stage : (c : tie.Else2) → Past refusal.Stage (c .before .before .before .before .before .before)
 unfolding ofBoot behind
 stage c = sense (c .before .before) past (sym (c .before .not-complete .ensures) ∙ c .if2 .left)
 
 area : (c : tie.Else3) → Past refusal.Area (c .before .before .before .before .before .before .before .before)
 unfolding ofBoot behind
-area c = stage (c .before .before .before) past (sym (c .before .too-small .ensures) ∙ c .if3 .left)
+area c = stage (c .before .before) past (sym (c .before .too-small .ensures) ∙ c .if3 .left)
 
 senseless-requires : tie.Need-senseless-requires
 senseless-requires c κs = search needs
 
 returns : tie.Need-returns
 unfolding bootCheck ofBoot
-returns c = refused (start _) (sym (c .before .senseless .ensures) ∙ c .if1 .taken)
+returns c = refused (start _) (sym (c .before .senseless .ensures _ _ _) ∙ c .if1 .taken)
 
 not-complete-requires : tie.Need-not-complete-requires
 not-complete-requires c κs = search needs
@@ -45,13 +45,13 @@ too-small-requires c κs = search needs
 
 returns-3 : tie.Need-returns-3
 unfolding bootCheck ofBoot behind
-returns-3 c = refused (stage (c .before .before .before)) (sym (c .before .too-small .ensures) ∙ c .if3 .taken)
+returns-3 c = refused (stage (c .before .before)) (sym (c .before .too-small .ensures) ∙ c .if3 .taken)
 
 lacks-root-requires : tie.Need-lacks-root-requires
 lacks-root-requires c κs =
-    let t = c .before .before .before in
+    let t = c .before .before in
     let e = t .before .before in
-    (complete-size _ (sym (e .before .senseless .ensures) ∙ e .if1 .left) (not-complete _ (sym (t .before .not-complete .ensures) ∙ t .if2 .left)), sym (c .before .too-small .ensures) ∙ c .if3 .left)
+    (complete-size (e .before .before .before .before .args .device) (sym (e .before .senseless .ensures _ _ _) ∙ e .if1 .left) (not-complete _ (sym (t .before .not-complete .ensures) ∙ t .if2 .left)), sym (c .before .too-small .ensures) ∙ c .if3 .left)
 
 returns-4 : tie.Need-returns-4
 unfolding bootCheck ofBoot behind

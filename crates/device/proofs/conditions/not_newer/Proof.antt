@@ -9,7 +9,7 @@ serial-of-requires c κs = search needs
 
 returns : tie.Need-returns
 unfolding notNewer
-returns c = rw (← c .before .serial-of .ensures) (not-above (c .before .before .args .manifest .serial) (c .before .serial-of .result))
+returns c model key hashes = rw (← c .before .serial-of .ensures model key hashes) (not-above (c .before .before .args .manifest .serial) (c .before .serial-of .result))
 
 pub not-newer-spec : {M : Type 1} → statement M
 not-newer-spec = tie.close (tie.spec serial-of-requires returns)

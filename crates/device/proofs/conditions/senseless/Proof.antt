@@ -16,10 +16,10 @@ broken-requires c κs = search needs
 
 returns : tie.Need-returns
 unfolding senseless
-returns c = rw (c .before .before .before .stage .given .1, sym (c .before .broken .ensures) ∙ c .if1 .taken)
+returns c model key hashes = rw (c .before .before .before .stage .given .1, sym (c .before .broken .ensures) ∙ c .if1 .taken)
 
 count-requires : tie.Need-count-requires
-count-requires c κs = or-false (wrongVersion (c .before .before .before .before .before .before .args .device .manifest)) _ (sym (c .before .broken .ensures) ∙ c .if1 .left) .1
+count-requires c κs = or-false (wrongVersion (c .before .before .before .before .before .args .manifest)) _ (sym (c .before .broken .ensures) ∙ c .if1 .left) .1
 
 cast-outside : tie.Need-cast-outside
 cast-outside c = search needs
@@ -35,17 +35,17 @@ broken-requires-2 c κs = search needs
 
 returns-2 : tie.Need-returns-2
 unfolding senseless
-returns-2 c = rw (c .enum-told .given .1)
+returns-2 c model key hashes = rw (c .enum-told .given .1)
 
 returns-3 : tie.Need-returns-3
 unfolding senseless
-returns-3 c =
+returns-3 c model key hashes =
     let b = c .before .before in
     rw (b .before .before .before .stage .given .1, sym (b .before .broken .ensures) ∙ b .if1 .left, ← c .before .count .ensures) (c .outside .ensures)
 
 returns-4 : tie.Need-returns-4
 unfolding senseless
-returns-4 c = rw (c .before .enum-told2 .given .1) (c .broken2 .ensures)
+returns-4 c model key hashes = rw (c .before .enum-told2 .given .1) (c .broken2 .ensures)
 
 pub senseless-spec : {M : Type 1} → statement M
 senseless-spec =

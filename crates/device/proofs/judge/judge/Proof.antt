@@ -7,29 +7,33 @@ use Rattle.wire.specs.declared.kind.Kind.{Kind}
 use Rattle.wire.specs.declared.kind.Kind.the-variants as kinds
 use Rattle.wire.specs.declared.refusal.Refusal.the-variants as refusal
 use Rattle.wire.specs.Message.{short}
+use Rattle.machine.specs.declared.state.Device.{Device}
 use Rattle.machine.specs.Refusals.{noKind, always, ofKind, refusals}
 use Rattle.machine.proofs.RefusalLaws.{behind, Passes, start, _past_}
+use Rattle.device.specs.Fields.{deviceOf}
 use Rattle.device.proofs.JudgeLaws.{onward, refused, known-short}
 use borrow.Author.Needs.{needs}
 use Rattle.device.proofs.judge.judge.Statement.{statement}
 use Rattle.device.proofs.judge.judge.Tie as tie
 
+abbrev device : tie.Start → Device
+device a = deviceOf (a .args .model) (a .args .key .now) (a .args .stage) (a .args .held) (a .args .hashes .now)
+
 -- the state makes sense
-sensible : (c : tie.Else1) (k : Kind)
-    → let es = refusals digest valid k (c .before .before .before .before .args .device) (c .before .before .before .before .args .flash .now) (c .before .before .before .before .args .message .now) in Passes es (behind refusal.State es)
+sensible : (c : tie.Else1) (k : Kind) → let a = c .before .before .before .before .before .before in let es = refusals digest valid k (device a) (a .args .flash .now) (a .args .message .now) in Passes es (behind refusal.State es)
 unfolding refusals always behind
-sensible c k = start _ past (sym (c .before .senseless .ensures) ∙ c .if1 .left)
+sensible c k = start _ past (sym (c .before .senseless .ensures _ _ _) ∙ c .if1 .left)
 
 -- the message is long enough
-enough : (c : tie.Else2) {k : Kind} → c .before .before .before .before .before .before .args .kind ≡ k → short k (c .before .before .before .before .before .before .args .message .now) ≡ false
-enough c e = subst (λ k. short k (c .before .before .before .before .before .before .args .message .now) ≡ false) e (sym (c .before .short .ensures) ∙ c .if2 .left)
+enough : (c : tie.Else2) {k : Kind} → c .before .before .before .before .before .before .before .before .args .kind ≡ k → short k (c .before .before .before .before .before .before .before .before .args .message .now) ≡ false
+enough c e = subst (λ k. short k (c .before .before .before .before .before .before .before .before .args .message .now) ≡ false) e (sym (c .before .short .ensures) ∙ c .if2 .left)
 
 senseless-requires : tie.Need-senseless-requires
 senseless-requires c κs = search needs
 
 returns : tie.Need-returns
 unfolding refusals always
-returns c = refused (start _) (sym (c .before .senseless .ensures) ∙ c .if1 .taken)
+returns c = refused (start _) (sym (c .before .senseless .ensures _ _ _) ∙ c .if1 .taken)
 
 short-requires : tie.Need-short-requires
 short-requires c κs = search needs
@@ -38,7 +42,7 @@ returns-2 : tie.Need-returns-2
 unfolding refusals always behind
 returns-2 c =
     let e = sym (c .before .short .ensures) ∙ c .if2 .taken in
-    refused (sensible (c .before .before) (c .before .before .before .before .before .before .args .kind) past known-short _ (c .before .before .before .before .before .before .args .message .now) e) e
+    refused (sensible (c .before .before) (c .before .before .before .before .before .before .before .before .args .kind) past known-short _ (c .before .before .before .before .before .before .before .before .args .message .now) e) e
 
 enum-told : tie.Need-enum-told
 enum-told c = search needs
@@ -57,7 +61,7 @@ judge-block-requires : tie.Need-judge-block-requires
 unfolding short
 judge-block-requires c κs =
     let e1 = c .before .before .before .before in
-    (sym (e1 .before .senseless .ensures) ∙ e1 .if1 .left, ltb-false _ _ (enough (c .before .before) (c .enum-told3 .given .1)))
+    (λ model key. sym (e1 .before .senseless .ensures model key _) ∙ e1 .if1 .left, e1 .before .before .before .before .before .before .pre, ltb-false _ _ (enough (c .before .before) (c .enum-told3 .given .1)))
 
 enum-told-4 : tie.Need-enum-told-4
 enum-told-4 c = search needs
@@ -81,25 +85,25 @@ returns-4 : tie.Need-returns-4
 unfolding noKind ofKind refusals always behind
 returns-4 c =
     let e = c .before .enum-told2 .given .1 in
-    rw e (onward (sensible (c .before .before .before .before .before) kinds.Program past refl past enough (c .before .before .before) e) (c .judge-program .ensures))
+    rw e (onward (sensible (c .before .before .before .before .before) kinds.Program past refl past enough (c .before .before .before) e) (c .judge-program .ensures _))
 
 returns-5 : tie.Need-returns-5
 unfolding noKind ofKind refusals always behind
 returns-5 c =
     let e = c .before .enum-told3 .given .1 in
-    rw e (onward (sensible (c .before .before .before .before .before) kinds.Block past refl past enough (c .before .before .before) e) (c .judge-block .ensures))
+    rw e (onward (sensible (c .before .before .before .before .before) kinds.Block past refl past enough (c .before .before .before) e) (c .judge-block .ensures _ _))
 
 returns-6 : tie.Need-returns-6
 unfolding noKind ofKind refusals always behind
 returns-6 c =
     let e = c .before .enum-told4 .given .1 in
-    rw e (onward (sensible (c .before .before .before .before .before) kinds.Update past refl past enough (c .before .before .before) e) (c .judge-update .ensures))
+    rw e (onward (sensible (c .before .before .before .before .before) kinds.Update past refl past enough (c .before .before .before) e) (c .judge-update .ensures _))
 
 returns-7 : tie.Need-returns-7
 unfolding noKind ofKind refusals always behind
 returns-7 c =
     let e = c .before .enum-told5 .given .1 in
-    rw e (onward (sensible (c .before .before .before .before .before) kinds.PathUpdate past refl past enough (c .before .before .before) e) (c .judge-path-update .ensures))
+    rw e (onward (sensible (c .before .before .before .before .before) kinds.PathUpdate past refl past enough (c .before .before .before) e) (c .judge-path-update .ensures _))
 
 pub judge-spec : {M : Type 1} → statement M
 judge-spec =

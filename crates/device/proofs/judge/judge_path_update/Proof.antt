@@ -1,6 +1,6 @@
 use mathlib.Core.Path.{_≡_, sym, ap, ap₂, _∙_}
 use mathlib.Core.Bool.{Bool, false}
-use mathlib.Core.List.{List}
+use mathlib.Core.List.{List, []}
 use Prim.Native.Nat.{ℕ, pred, _+_, _*_, _≤_}
 use native.Mathlib.Omega.{arith}
 use lib.ListN.{length}
@@ -18,15 +18,17 @@ use Rattle.wire.specs.Geometry.{countOf, blockLength, blocksOf}
 use Rattle.wire.specs.Message.{leastLength, manifestBytes, manifestIn, updateNumber, updateBlock, pathIn, pathSignature, leastUpdate, leastPath}
 use Rattle.wire.proofs.SizeLaws.{inside}
 use Rattle.wire.proofs.MessageLaws.{length-path-in}
+use Rattle.machine.specs.declared.state.Device.{Device}
 use Rattle.machine.specs.Refusals.{strays, unsigned, ofManifest, ofSuccessor, ofPathUpdate}
 use Rattle.machine.proofs.RefusalLaws.{behind, Passes, _past_}
+use Rattle.device.specs.Fields.{deviceOf}
 use Rattle.device.proofs.JudgeLaws.{retold, refused, accepted, refused-in, past-all, Known, successor-known}
 use borrow.Author.Needs.{needs}
 use Rattle.device.proofs.judge.judge_path_update.Statement.{statement}
 use Rattle.device.proofs.judge.judge_path_update.Tie as tie
 
 abbrev start-of : tie.After-judge-successor → tie.Start
-start-of j = j .before .before .before .before .before
+start-of j = j .before .before .before .before .before .before
 
 abbrev message : tie.After-judge-successor → List ℕ
 message j = start-of j .args .message .now
@@ -38,16 +40,20 @@ manifest j = j .before .before .manifest-in .result
 abbrev number : tie.After-judge-successor → ℕ
 number j = j .before .update-number .result
 
-abbrev tests : tie.After-judge-successor → Manifest → ℕ → List (Refusal × Bool)
-tests j s i = ofPathUpdate digest valid (start-of j .args .device) (start-of j .args .flash .now) (message j) s i
+-- the device with these hashes, which no test here looks at
+abbrev device : tie.After-judge-successor → (hashes : List ℕ) → Device
+device j hashes = let a = start-of j .args in deviceOf (a .model) (a .key .now) (a .stage) (a .held) hashes
+
+abbrev tests : tie.After-judge-successor → (hashes : List ℕ) → Manifest → ℕ → List (Refusal × Bool)
+tests j hashes s i = ofPathUpdate digest valid (device j hashes) (start-of j .args .flash .now) (message j) s i
 
 -- no test up to that of this refusal applies
-abbrev Past : Refusal → tie.After-judge-successor → Type 0
-Past r j = Passes (tests j (manifestIn (message j)) (updateNumber (message j))) (behind r (tests j (manifest j) (number j)))
+abbrev Past : Refusal → tie.After-judge-successor → (hashes : List ℕ) → Type 0
+Past r j hashes = Passes (tests j hashes (manifestIn (message j)) (updateNumber (message j))) (behind r (tests j hashes (manifest j) (number j)))
 
 -- the tests, by what was read
-told : (j : tie.After-judge-successor) → Passes (tests j (manifestIn (message j)) (updateNumber (message j))) (tests j (manifest j) (number j))
-told j = retold (ap₂ (tests j) (j .before .before .manifest-in .ensures) (j .before .update-number .ensures))
+told : (j : tie.After-judge-successor) (hashes : List ℕ) → Passes (tests j hashes (manifestIn (message j)) (updateNumber (message j))) (tests j hashes (manifest j) (number j))
+told j hashes = retold (ap₂ (tests j hashes) (j .before .before .manifest-in .ensures) (j .before .update-number .ensures))
 
 -- length of the new block, depth of its leaf, and the siblings in the message
 abbrev size : tie.After-judge-successor → ℕ
@@ -60,19 +66,19 @@ abbrev siblings : tie.After-judge-successor → List ℕ
 siblings j = pathIn (size j) (depth j) (message j)
 
 -- the first tests do not apply
-area : (c : tie.After-enum-told) → Past refusal.Area (c .before .before)
+area : (c : tie.After-enum-told) (hashes : List ℕ) → Past refusal.Area (c .before .before) hashes
 unfolding ofPathUpdate ofSuccessor ofManifest behind
-area c =
+area c hashes =
     let j = c .before .before in
-    past-all (ofSuccessor (start-of j .args .device) (start-of j .args .flash .now) (manifest j)) _ (told j) (sym (c .enum-told .given .1) ∙ j .judge-successor .ensures)
+    past-all (ofSuccessor (device j hashes) (start-of j .args .flash .now) (manifest j)) _ (told j hashes) (sym (c .enum-told .given .1) ∙ j .judge-successor .ensures _ _)
 
-turn : (c : tie.Else1) → Past refusal.Turn (c .before .before .before .before)
+turn : (c : tie.Else1) (hashes : List ℕ) → Past refusal.Turn (c .before .before .before .before) hashes
 unfolding ofPathUpdate ofSuccessor ofManifest behind
-turn c = area (c .before .before) past (sym (c .before .outside .ensures) ∙ c .if1 .left)
+turn c hashes = area (c .before .before) hashes past (sym (c .before .outside .ensures) ∙ c .if1 .left)
 
-long : (c : tie.Else2) → Past refusal.Length (c .before .before .before .before .before .before)
+long : (c : tie.Else2) (hashes : List ℕ) → Past refusal.Length (c .before .before .before .before .before .before) hashes
 unfolding ofPathUpdate ofSuccessor ofManifest behind
-long c = turn (c .before .before) past (sym (c .before .cut-path .ensures) ∙ c .if2 .left)
+long c hashes = turn (c .before .before) hashes past (sym (c .before .cut-path .ensures) ∙ c .if2 .left)
 
 -- the message has the block and its siblings whole
 enough : (c : tie.After-leaf-depth) → leastLength Update + c .before .own-len .result + hashLength * c .leaf-depth .result ≤ length (message (c .before .before .before .before .before .before .before .before))
@@ -80,26 +86,26 @@ unfolding leastUpdate leastPath countOf
 enough c = rw (c .before .own-len .ensures, c .leaf-depth .ensures) (ltb-false _ _ (sym (c .before .before .before .cut-path .ensures) ∙ c .before .before .if2 .left))
 
 -- the verdict on manifest and signature, as they stand in the message
-verdict : (c : tie.After-unsigned) → let j = c .before .before .before .before .before .before .before .before .before .before .before in c .unsigned .result ≡ unsigned valid (start-of j .args .device) (manifestBytes (message j)) (pathSignature (size j) (depth j) (message j))
-verdict c =
+verdict : (c : tie.After-unsigned) (hashes : List ℕ) → let j = c .before .before .before .before .before .before .before .before .before .before .before in c .unsigned .result ≡ unsigned valid (device j hashes) (manifestBytes (message j)) (pathSignature (size j) (depth j) (message j))
+verdict c hashes =
     let j = c .before .before .before .before .before .before .before .before .before .before .before in
     let d = c .before .before .before in
-    c .unsigned .ensures ∙ ap₂ (unsigned valid _) (c .before .before .manifest-bytes .ensures) (c .before .path-signature .ensures ∙ ap₂ (λ k d. pathSignature k d (message j)) (d .before .own-len .ensures) (d .leaf-depth .ensures))
+    c .unsigned .ensures _ _ _ _ ∙ ap₂ (unsigned valid _) (c .before .before .manifest-bytes .ensures) (c .before .path-signature .ensures ∙ ap₂ (λ k d. pathSignature k d (message j)) (d .before .own-len .ensures) (d .leaf-depth .ensures))
 
-signed : (c : tie.Else3) → Past refusal.Unsigned (c .before .before .before .before .before .before .before .before .before .before .before .before)
+signed : (c : tie.Else3) (hashes : List ℕ) → Past refusal.Unsigned (c .before .before .before .before .before .before .before .before .before .before .before .before) hashes
 unfolding ofPathUpdate ofSuccessor ofManifest behind
-signed c = long (c .before .before .before .before .before .before) past (sym (verdict (c .before)) ∙ c .if3 .left)
+signed c hashes = long (c .before .before .before .before .before .before) hashes past (sym (verdict (c .before) hashes) ∙ c .if3 .left)
 
 siblings-are : (c : tie.After-path-in) → c .path-in .result .now ≡ siblings (c .before .before .before .before .before .before .before .before .before .before .before .before .before)
 siblings-are c = let d = c .before .before .before .before .before in c .path-in .ensures ∙ ap₂ (λ k d. pathIn k d (message (c .before .before .before .before .before .before .before .before .before .before .before .before .before))) (d .before .own-len .ensures) (d .leaf-depth .ensures)
 
 -- the old block and the new one, each with the siblings
-from : (c : tie.After-strays) → let j = c .before .before .before .before .before .before .before .before .before .before .before .before .before .before .before .before .before in c .strays .result ≡ strays digest (manifest j) (number j) (blocksOf (manifest j) (start-of j .args .flash .now) (pred (number j))) (siblings j) (start-of j .args .device .manifest .root)
-from c = let j = c .before .before .before .before .before .before .before .before .before .before .before .before .before .before .before .before .before in c .strays .ensures ∙ ap₂ (λ b y. strays digest (manifest j) (number j) b y (start-of j .args .device .manifest .root)) (c .before .before .before .old-block .ensures) (siblings-are (c .before .before .before .before))
+from : (c : tie.After-strays) → let j = c .before .before .before .before .before .before .before .before .before .before .before .before .before .before .before .before .before in c .strays .result ≡ strays digest (manifest j) (number j) (blocksOf (manifest j) (start-of j .args .flash .now) (pred (number j))) (siblings j) (start-of j .args .held .root)
+from c = let j = c .before .before .before .before .before .before .before .before .before .before .before .before .before .before .before .before .before in c .strays .ensures ∙ ap₂ (λ b y. strays digest (manifest j) (number j) b y (start-of j .args .held .root)) (c .before .before .before .old-block .ensures) (siblings-are (c .before .before .before .before))
 
-rooted : (c : tie.Else4) → Past refusal.Path (c .before .before .before .before .before .before .before .before .before .before .before .before .before .before .before .before .before .before)
+rooted : (c : tie.Else4) (hashes : List ℕ) → Past refusal.Path (c .before .before .before .before .before .before .before .before .before .before .before .before .before .before .before .before .before .before) hashes
 unfolding ofPathUpdate ofSuccessor ofManifest behind
-rooted c = signed (c .before .before .before .before .before .before) past (sym (from (c .before)) ∙ c .if4 .left)
+rooted c hashes = signed (c .before .before .before .before .before .before) hashes past (sym (from (c .before)) ∙ c .if4 .left)
 
 to : (c : tie.After-strays2) → let j = c .before .before .before .before .before .before .before .before .before .before .before .before .before .before .before .before .before .before .before .before .before .before in c .strays2 .result ≡ strays digest (manifest j) (number j) (updateBlock (size j) (message j)) (siblings j) (manifest j .root)
 to c =
@@ -108,7 +114,7 @@ to c =
 
 -- what the tests have shown
 known : (c : tie.After-enum-told) → let j = c .before .before in Known (manifest j) (start-of j .args .flash .now)
-known c = successor-known _ _ _ (c .before .before .judge-successor .ensures) (c .enum-told .given .1)
+known c = successor-known (device (c .before .before) []) _ _ (c .before .before .judge-successor .ensures _ _) (c .enum-told .given .1)
 
 within : (c : tie.Else1) → let j = c .before .before .before .before in outside (countOf (manifest j)) (number j) ≡ false
 within c = sym (c .before .outside .ensures) ∙ c .if1 .left
@@ -136,24 +142,24 @@ enum-told-2 c = search needs
 
 returns : tie.Need-returns
 unfolding ofPathUpdate
-returns c =
+returns c hashes =
     let j = c .before .before in
     let e = c .enum-told2 .given .1 in
-    e ∙ refused-in (ofSuccessor (start-of j .args .device) (start-of j .args .flash .now) (manifest j)) _ (told j) (sym e ∙ j .judge-successor .ensures)
+    e ∙ refused-in (ofSuccessor (device j hashes) (start-of j .args .flash .now) (manifest j)) _ (told j hashes) (sym e ∙ j .judge-successor .ensures _ _)
 
 outside-requires : tie.Need-outside-requires
 outside-requires c κs = known c .0
 
 returns-2 : tie.Need-returns-2
 unfolding ofPathUpdate ofSuccessor ofManifest behind
-returns-2 c = refused (area (c .before .before)) (sym (c .before .outside .ensures) ∙ c .if1 .taken)
+returns-2 c hashes = refused (area (c .before .before) hashes) (sym (c .before .outside .ensures) ∙ c .if1 .taken)
 
 cut-path-requires : tie.Need-cut-path-requires
 cut-path-requires c κs = (known (c .before .before) .0, within c)
 
 returns-3 : tie.Need-returns-3
 unfolding ofPathUpdate ofSuccessor ofManifest behind
-returns-3 c = refused (turn (c .before .before)) (sym (c .before .cut-path .ensures) ∙ c .if2 .taken)
+returns-3 c hashes = refused (turn (c .before .before) hashes) (sym (c .before .cut-path .ensures) ∙ c .if2 .taken)
 
 own-len-requires : tie.Need-own-len-requires
 own-len-requires c κs = inside _ _ (within (c .before .before))
@@ -172,7 +178,7 @@ unsigned-requires c κs = search needs
 
 returns-4 : tie.Need-returns-4
 unfolding ofPathUpdate ofSuccessor ofManifest behind
-returns-4 c = refused (long (c .before .before .before .before .before .before)) (sym (verdict (c .before)) ∙ c .if3 .taken)
+returns-4 c hashes = refused (long (c .before .before .before .before .before .before) hashes) (sym (verdict (c .before) hashes) ∙ c .if3 .taken)
 
 path-in-requires : tie.Need-path-in-requires
 path-in-requires c κs = enough (c .before .before .before .before)
@@ -185,7 +191,7 @@ strays-requires c κs = strays-needs (c .before .before .before)
 
 returns-5 : tie.Need-returns-5
 unfolding ofPathUpdate ofSuccessor ofManifest behind
-returns-5 c = refused (signed (c .before .before .before .before .before .before)) (sym (from (c .before)) ∙ c .if4 .taken)
+returns-5 c hashes = refused (signed (c .before .before .before .before .before .before) hashes) (sym (from (c .before)) ∙ c .if4 .taken)
 
 update-block-requires : tie.Need-update-block-requires
 update-block-requires c κs = omega (arith, enough (c .before .before .before .before .before .before .before .before .before .before))
@@ -195,11 +201,11 @@ strays-requires-2 c κs = strays-needs (c .before .before .before .before .befor
 
 returns-6 : tie.Need-returns-6
 unfolding ofPathUpdate ofSuccessor ofManifest behind
-returns-6 c = refused (rooted (c .before .before .before .before .before)) (sym (to (c .before)) ∙ c .if5 .taken)
+returns-6 c hashes = refused (rooted (c .before .before .before .before .before) hashes) (sym (to (c .before)) ∙ c .if5 .taken)
 
 returns-7 : tie.Need-returns-7
 unfolding ofPathUpdate ofSuccessor ofManifest behind
-returns-7 c = accepted (rooted (c .before .before .before .before .before) past (sym (to (c .before)) ∙ c .if5 .left))
+returns-7 c hashes = accepted (rooted (c .before .before .before .before .before) hashes past (sym (to (c .before)) ∙ c .if5 .left))
 
 pub judge-path-update-spec : {M : Type 1} → statement M
 judge-path-update-spec =
