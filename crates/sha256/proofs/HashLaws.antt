@@ -70,6 +70,11 @@ pub digest-pending : {h r : List ℕ} {t : ℕ} {m : List ℕ} → Pending h r t
 unfolding digest pad
 digest-pending {h = h} {m = m} p x e = ap concatenated (hash-grown p (padding (8 * length m)) ∙ ap (λ (y : List ℕ). hashValue h (length y / 64) y) (sym e))
 
+-- or from that after the message and its padding
+pub finished : {h r : List ℕ} {t : ℕ} (m s : List ℕ) → s ≡ padding (8 * length m) → Pending h r t (m ++ s) → concatenated h ≡ digest m
+unfolding digest pad
+finished m s e p = ap concatenated (p .compressed ∙ ap (λ (x : List ℕ). hashValue H0 (length (m ++ x) / 64) (m ++ x)) e)
+
 -- a turn over the whole blocks of s
 pub hash-more : (H s : List ℕ) (i : ℕ) {g r : List ℕ} → i % 64 ≡ 0 → g ≡ hashValue H (i / 64) s → r ≡ compress g (take (i + 64 - i) (drop i s))
     → r ≡ hashValue H ((i + 64) / 64) s

@@ -2,7 +2,9 @@
 use crate::compress::H0;
 use crate::compress::compress;
 use crate::compress::compress_all;
-use crate::padding::last;
+use crate::padding::concatenated;
+use crate::padding::padding;
+use crate::padding::padding_len;
 ghost use mathlib.Core.Path.{_≡_};
 ghost use mathlib.Core.List.{List, _++_};
 ghost use Prim.Native.Nat.{ℕ, _+_, _≤_};
@@ -64,13 +66,14 @@ impl Context {
         self
     }
 
-    // The digest of the message.
+    // The digest of the message, which the padding ends as a last piece.
     pub fn finish(self) -> [u8; 32]
         ensures { λ r. ⌜ ((m : List ℕ) → Absorbed self m → r ≡ spec.digest m) ⌝ }
     {
-        let used = (self.length % 64) as usize;
-        let H = self.H;
-        let b = self.buffer;
-        last(H, &b[..used], self.length)
+        let p = padding(self.length);
+        let n = padding_len(self.length);
+        let c = self.update(&p[..n]);
+        let H = c.H;
+        concatenated(H)
     }
 }

@@ -1,8 +1,13 @@
-use mathlib.Core.Path.{_≡_, _∙_}
-use mathlib.Core.List.{_∷_, _++_}
-use Prim.Native.Nat.{_-_}
-use lib.ListN.{length, replicate, set}
-use Rattle.sha256.proofs.PaddingLaws.{marked, digest-one, digest-two}
+use mathlib.Core.Path.{_≡_, sym, ap, _∙_}
+use mathlib.Core.List.{List, _∷_, _++_}
+use mathlib.Core.Logic.{⊎-elim}
+use Prim.Native.Nat.{ℕ, _*_, _-_}
+use native.Mathlib.Omega.{arith}
+use lib.ListN.{length, take, replicate, set}
+use Rattle.octets.specs.Octets.{bytes}
+use Rattle.sha256.specs.Sha256.{compress, concatenated, digest}
+use Rattle.sha256.specs.Context.{Pending}
+use Rattle.sha256.proofs.PaddingLaws.{marked, closed, digest-one, digest-two}
 use borrow.Author.Needs.{needs}
 use Rattle.sha256.proofs.padding.last.Statement.{statement}
 use Rattle.sha256.proofs.padding.last.Tie as tie
@@ -11,6 +16,18 @@ use Rattle.sha256.proofs.padding.last.Tie as tie
 first : (c : tie.After-b2)
     → set (c .before .copy .last .0) (length (c .before .before .before .before .args .rest .now)) 0x80 ≡ c .before .before .before .before .args .rest .now ++ (0x80 ∷ replicate (63 - length (c .before .before .before .before .args .rest .now)) 0)
 first c = rw (c .before .copy .ensures) (marked (c .before .before .before .before .args .rest .now) (c .before .before .before .before .pre))
+
+-- the last block, before its length is written, and the digest once it is
+full : (c : tie.Joined1) → length (c .if1 .b) ≡ 64
+full c = ⊎-elim (λ w. ap length (w .5)) (λ w. ap length (w .2) ∙ search needs) (c .if1 .came)
+
+ended : (c : tie.Joined1) (m : List ℕ) → Pending (c .before .before .before .before .before .args .before) (c .before .before .before .before .before .args .rest .now) (c .before .before .before .before .before .args .total) m
+    → concatenated (compress (c .if1 .H) (take 56 (c .if1 .b) ++ bytes 8 (8 * c .before .before .before .before .before .args .total))) ≡ digest m
+ended c m p =
+    ⊎-elim
+    (λ w. rw (w .4, w .5, w .3 .ensures) (digest-two p (w .0 .taken) (c .before .before .before .before .before .pre) _ (first (c .before))))
+    (λ w. rw (w .1, w .2) (digest-one p (w .0 .left) _ (first (c .before))))
+    (c .if1 .came)
 
 slice-aggregate-copy : tie.Need-slice-aggregate-copy
 slice-aggregate-copy c = search needs
@@ -21,23 +38,42 @@ copy-requires c κs = search needs
 array-write-b : tie.Need-array-write-b
 array-write-b c = search needs
 
-close-requires : tie.Need-close-requires
-close-requires c κs = search needs
-
-returns : tie.Need-returns
-returns c = λ m p. c .close .ensures ∙ digest-one p (c .before .if1 .taken) _ (first (c .before .before))
-
 slice-aggregate-compress : tie.Need-slice-aggregate-compress
 slice-aggregate-compress c = search needs
 
 compress-requires : tie.Need-compress-requires
 compress-requires c κs = search needs
 
-close-requires-2 : tie.Need-close-requires-2
-close-requires-2 c κs = search needs
+be64-requires : tie.Need-be64-requires
+be64-requires c κs = search needs
 
-returns-2 : tie.Need-returns-2
-returns-2 c = λ m p. c .close2 .ensures ∙ rw (c .before .compress .ensures) (digest-two p (c .before .before .before .before .if1 .left) (c .before .before .before .before .before .before .before .before .before .pre) _ (first (c .before .before .before .before .before)))
+slice-aggregate-copy-2 : tie.Need-slice-aggregate-copy-2
+slice-aggregate-copy-2 c = sym (full (c .before .before))
+
+slice-aggregate-copy-3 : tie.Need-slice-aggregate-copy-3
+slice-aggregate-copy-3 c = search needs
+
+copy-requires-2 : tie.Need-copy-requires-2
+copy-requires-2 c κs = omega (arith, full (c .before .before .before))
+
+slice-aggregate-compress-2 : tie.Need-slice-aggregate-compress-2
+slice-aggregate-compress-2 c = search needs
+
+compress-requires-2 : tie.Need-compress-requires-2
+compress-requires-2 c κs = search needs
+
+concatenated-requires : tie.Need-concatenated-requires
+concatenated-requires c κs = search needs
+
+returns : tie.Need-returns
+returns c =
+    let k = c .before .before .before .before .before in
+    let d = k .before .before .before in
+    let j = d .before in
+    let a = j .before .before .before .before .before .args in
+    λ m p. c .concatenated .ensures
+    ∙ ap concatenated (c .before .compress2 .ensures ∙ ap (compress (j .if1 .H)) (k .copy2 .ensures ∙ closed (j .if1 .b) (d .be64 .result) (a .total) (full j) (d .be64 .ensures)))
+    ∙ ended j m p
 
 pub last-spec : {M : Type 1} → statement M
 last-spec =
@@ -46,9 +82,13 @@ last-spec =
     slice-aggregate-copy
     copy-requires
     array-write-b
-    close-requires
-    returns
     slice-aggregate-compress
     compress-requires
-    close-requires-2
-    returns-2)
+    be64-requires
+    slice-aggregate-copy-2
+    slice-aggregate-copy-3
+    copy-requires-2
+    slice-aggregate-compress-2
+    compress-requires-2
+    concatenated-requires
+    returns)

@@ -1,21 +1,45 @@
+use mathlib.Core.Path.{_∙_}
 use native.Mathlib.Omega.{arith}
 use lib.ListN.{length-take}
-use Rattle.sha256.proofs.ContextLaws.{buffer-length}
+use Rattle.sha256.proofs.HashLaws.{finished}
+use Rattle.sha256.proofs.PaddingLaws.{length-padding, padding-mod}
 use borrow.Author.Needs.{needs}
 use Rattle.sha256.proofs.context.Context.finish.Statement.{statement}
 use Rattle.sha256.proofs.context.Context.finish.Tie as tie
 
-array-share-prefix-b : tie.Need-array-share-prefix-b
-array-share-prefix-b c = let s = c .before .before .before in omega (arith, buffer-length (s .args .self) (s .good .0 .1 .1 .1 .0 .1 .0 .1))
+padding-requires : tie.Need-padding-requires
+padding-requires c κs = search needs
 
-slice-aggregate-last : tie.Need-slice-aggregate-last
-slice-aggregate-last c = let s = c .before .before .before .before in simp length-take (omega (arith, buffer-length (s .args .self) (s .good .0 .1 .1 .1 .0 .1 .0 .1)))
+padding-len-requires : tie.Need-padding-len-requires
+padding-len-requires c κs = search needs
 
-last-requires : tie.Need-last-requires
-last-requires c κs = simp length-take (omega arith)
+array-share-prefix-p : tie.Need-array-share-prefix-p
+array-share-prefix-p c = omega (arith, length-padding (c .before .before .args .self .length))
+
+slice-aggregate-update : tie.Need-slice-aggregate-update
+slice-aggregate-update c = simp length-take (omega (arith, length-padding (c .before .before .before .args .self .length)))
+
+update-requires : tie.Need-update-requires
+update-requires c κs = search needs
+
+concatenated-requires : tie.Need-concatenated-requires
+concatenated-requires c κs = search needs
 
 returns : tie.Need-returns
-returns c = search needs
+returns c =
+    let u = c .before .before in
+    let n = u .before .before in
+    let e = rw (← n .padding-len .ensures) at (n .before .padding .ensures) in
+    λ m p. c .concatenated .ensures ∙ finished m _ (e ∙ padding-mod _ _ (p .counted)) (u .update .ensures m p)
 
 pub finish-spec : {M : Type 1} → statement M
-finish-spec = tie.close (tie.spec array-share-prefix-b slice-aggregate-last last-requires returns)
+finish-spec =
+    tie.close
+    (tie.spec
+    padding-requires
+    padding-len-requires
+    array-share-prefix-p
+    slice-aggregate-update
+    update-requires
+    concatenated-requires
+    returns)
