@@ -1,6 +1,7 @@
 pub mod ChainLaws
 pub mod DigitLaws
 pub mod Examples
+pub mod HashLaws
 pub mod LengthLaws
 pub mod TableLaws
 pub mod TreeLaws

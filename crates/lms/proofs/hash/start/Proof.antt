@@ -1,12 +1,11 @@
-use mathlib.Core.Path.{_≡_, refl, ap, ap₂, _∙_}
+use mathlib.Core.Path.{ap, ap₂, _∙_}
 use mathlib.Core.List.{List, _++_}
 use Prim.Native.Nat.{ℕ}
 use native.Mathlib.Omega.{arith}
-use lib.ListN.{length, replicate, length-append}
-use lib.Seq.{paste}
+use lib.ListN.{length}
 use borrow.Author.Needs.{needs}
 use Rattle.octets.proofs.NumberLaws.{length-bytes}
-use Rattle.octets.proofs.BufferLaws.{begun, more, whole}
+use Rattle.lms.proofs.HashLaws.{filled}
 use Rattle.lms.proofs.hash.start.Statement.{statement}
 use Rattle.lms.proofs.hash.start.Tie as tie
 
@@ -40,14 +39,6 @@ slice-aggregate-copy-5 c = search needs
 copy-requires-3 : tie.Need-copy-requires-3
 copy-requires-3 c κs = search needs
 
-filled : (id n m : List ℕ) {r s t : List ℕ} → length id ≡ 16 → length n ≡ 4 → length m ≡ 2
-    → r ≡ paste (replicate 22 0) 0 id (length id) → s ≡ paste r 16 n (length n) → t ≡ paste s 20 m (length m) → t ≡ id ++ n ++ m
-filled id n m i four two e f g =
-    let j : length (id ++ n) ≡ 20 = length-append id n ∙ omega arith in
-    whole
-    (more (more (more (begun refl) refl id (omega arith) e) i n (omega arith) f) j m (omega arith) g)
-    (length-append (id ++ n) m ∙ omega arith)
-
 returns : tie.Need-returns
 returns c =
     let k = c .before in
@@ -57,7 +48,7 @@ returns c =
     let a = n .before .before .before in
     let four = ap length (n .before .be32 .ensures) ∙ length-bytes 4 (a .args .number) in
     let two = ap length (n .be16 .ensures) ∙ length-bytes 2 (a .args .mark) in
-    filled (a .args .id .now) (n .before .be32 .result) (n .be16 .result) (a .pre) four two (m .copy .ensures) (l .copy2 .ensures) (k .copy3 .ensures)
+    filled 22 16 20 (a .args .id .now) (n .before .be32 .result) (n .be16 .result) (a .pre) (omega arith) (omega arith) (m .copy .ensures) (l .copy2 .ensures) (k .copy3 .ensures)
     ∙ ap₂ (λ (x y : List ℕ). a .args .id .now ++ x ++ y) (n .before .be32 .ensures) (n .be16 .ensures)
 
 pub start-spec : {M : Type 1} → statement M
