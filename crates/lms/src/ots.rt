@@ -70,20 +70,24 @@ fn message_hash(id: &[u8], q: u32, c: &[u8], message: &[u8]) -> [u8; 32]
     Context::new().update(&s).update(c).update(message).finish()
 }
 
-// Chain i from its digit a up to the largest, on y. One block holds each step's hash input: only j and tmp change in it.
+// Chain i from its digit a up to the largest, on y. One padded block holds each step's hash input: only j and tmp change in it.
 fn chain(id: &[u8], q: u32, i: u16, a: usize, top: usize, y: &[u8]) -> [u8; 32]
     requires { ⌜ (length (now id) ≡ 16) × (top ≤ 255) × (a ≤ top) × (length (now y) ≡ 32) ⌝ }
     ensures { λ r. ⌜ r ≡ spec.chain (now (id .entry)) q i a (now (y .entry)) (top - a) ⌝ }
 {
     let s = start(id, q, i);
-    let mut block = [0u8; 55];
+    let mut block = [0u8; 64];
+    // The padding of a message of 55 bytes: the bit 1, and the length in bits, 0x01b8.
+    block[55] = 0x80;
+    block[62] = 0x01;
+    block[63] = 0xb8;
     octets::copy(&mut block, 0, &s);
     let mut tmp = octets::bytes32_at(y, 0);
     let mut j = a;
     while j < top {
         block[22] = j as u8;
         octets::copy(&mut block, 23, &tmp);
-        let next = sha256::digest(&block);
+        let next = sha256::digest_padded(&block);
         tmp = next;
         j += 1;
     }

@@ -75,6 +75,11 @@ pub finished : {h r : List ℕ} {t : ℕ} (m s : List ℕ) → s ≡ padding (8 
 unfolding digest pad
 finished m s e p = ap concatenated (p .compressed ∙ ap (λ (x : List ℕ). hashValue H0 (length (m ++ x) / 64) (m ++ x)) e)
 
+-- or from one block, the padded message
+pub digest-block : (m x : List ℕ) → pad m ≡ x → length x ≡ 64 → concatenated (compress H0 x) ≡ digest m
+unfolding digest
+digest-block m x e l = ap concatenated (sym (hash-one H0 x l) ∙ ap (λ (y : List ℕ). hashValue H0 (length y / 64) y) (sym e))
+
 -- a turn over the whole blocks of s
 pub hash-more : (H s : List ℕ) (i : ℕ) {g r : List ℕ} → i % 64 ≡ 0 → g ≡ hashValue H (i / 64) s → r ≡ compress g (take (i + 64 - i) (drop i s))
     → r ≡ hashValue H ((i + 64) / 64) s

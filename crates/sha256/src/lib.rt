@@ -8,10 +8,15 @@ mod rounds;
 mod schedule;
 
 use compress::H0;
+use compress::compress;
 use compress::compress_all;
 pub use context::Context;
+use padding::concatenated;
 use padding::last;
 ghost use mathlib.Core.Path.{_≡_};
+ghost use mathlib.Core.List.{List};
+ghost use Prim.Native.Nat.{ℕ};
+ghost use lib.ListN.{length};
 ghost use Rattle.sha256.specs.Sha256 as spec;
 
 // The digest of a message. Its whole blocks are compressed where they lie.
@@ -22,4 +27,14 @@ pub fn digest(message: &[u8]) -> [u8; 32]
     compress_all(&mut H, message);
     let whole = message.len() / 64 * 64;
     last(H, &message[whole..], message.len() as u64)
+}
+
+// The digest of a message that fits one block, which is handed in padded (5.1.1): for callers that hash many messages of one length.
+pub fn digest_padded(block: &[u8]) -> [u8; 32]
+    requires { ⌜ length (now block) ≡ 64 ⌝ }
+    ensures { λ r. ⌜ ((m : List ℕ) → spec.pad m ≡ now (block .entry) → r ≡ spec.digest m) ⌝ }
+{
+    let mut H = H0;
+    compress(&mut H, block);
+    concatenated(H)
 }
