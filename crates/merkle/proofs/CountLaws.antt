@@ -118,8 +118,11 @@ held-depth n (suc i) pos = unfold heldCount in omega (arith, frontier-height 0 (
 pub limit : (2 ^ pred maxHeld < maxBlocks) × (maxBlocks ≤ 2 ^ maxHeld)
 limit = (lit≤ tt, lit≤ tt)
 
+pub depth-most : (n : ℕ) → n ≤ maxBlocks → depth n ≤ maxHeld
+depth-most n h = depth-least n maxHeld (omega (arith, limit .1))
+
 held-most : (n i : ℕ) → 0 < n → n ≤ maxBlocks → heldCount n i ≤ maxHeld
-held-most n i pos h = omega (arith, held-depth n i pos, depth-least n maxHeld (omega (arith, limit .1)))
+held-most n i pos h = omega (arith, held-depth n i pos, depth-most n h)
 
 pub held-at-most : HeldAtMost
 held-at-most n i pos = (held-depth n i pos, held-most n i pos)

@@ -15,7 +15,7 @@ use Rattle.merkle.specs.Path.{pathSiblings, leafDepth, way, besideInput,
 use Rattle.merkle.specs.Held.{hashesIn}
 use Rattle.merkle.specs.Claims.{LeafDepths}
 use Rattle.merkle.proofs.ShapeLaws.{lt-or-le, depth-known, shape-leaf, halves, size-left, size-shape}
-use Rattle.merkle.proofs.CountLaws.{limit}
+use Rattle.merkle.proofs.CountLaws.{depth-most}
 use Rattle.merkle.proofs.HeldLaws.{length-hashesIn, hashesIn-append}
 use Rattle.merkle.proofs.PathLaws.{down-left, down-right, length-last, length-way, path-node}
 
@@ -75,7 +75,7 @@ leaf-depths = (
 
 -- So there are at most as many as hashes are held.
 pub depth-few : (n i : ℕ) → 0 < n → n ≤ maxBlocks → leafDepth n i ≤ maxHeld
-depth-few n i pos h = omega (arith, leaf-depths .2 n i pos, depth-known n .1 maxHeld (omega (arith, limit .1)))
+depth-few n i pos h = omega (arith, leaf-depths .2 n i pos, depth-most n h)
 
 -- The siblings by halves: those in the half that has the block, and the other half.
 module _ (o n i k : ℕ) (big : 1 < n) (is : k ≡ split n) where
