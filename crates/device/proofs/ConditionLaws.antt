@@ -11,7 +11,7 @@ use lib.ListN.{length, take}
 use lib.Seq.{length-take-le}
 use borrow.Author.Tests.{eqb-true, eq-eqb, ne-eqb, not-false, ltb-false, lt-ltb, le-ltb, le-leb, lt-leb}
 use Rattle.octets.specs.Octets.{equal}
-use Rattle.merkle.specs.Limits.{hashLength}
+use Rattle.merkle.specs.Limits.{maxBlocks, hashLength}
 use Rattle.merkle.specs.Blocks.{cut, overlay}
 use Rattle.merkle.specs.Shape.{shape}
 use Rattle.merkle.specs.Hash.{plain, rootOver}
@@ -46,13 +46,13 @@ not-above a b = go (lt-or-le b a)
     go (inr p) = rw (le-leb a b p, le-ltb b a p)
 
 module _ (s : Manifest) (flash : List ℕ) where
-  -- so many blocks but one fit into the program's bytes
+  -- there are no more blocks than the limit, and so many but one fit into the program's bytes
   pub rest-fits : (n : ℕ) → wrongSize (s .«block_len») (s .«image_len») ≡ false → tooSmall s flash ≡ false → n ≡ countOf s
-      → (0 < n) × ((n - 1) * s .«block_len» ≤ length (take (s .«image_len») flash))
+      → (0 < n) × (n ≤ maxBlocks) × ((n - 1) * s .«block_len» ≤ length (take (s .«image_len») flash))
   unfolding tooSmall countOf
   rest-fits n e t en =
       let z = sized _ _ e in
-      rw en (z .first, omega (arith, z .below, length-take-le (s .«image_len») flash (ltb-false _ _ t)))
+      rw en (z .first, z .count, omega (arith, z .below, length-take-le (s .«image_len») flash (ltb-false _ _ t)))
 
   -- block i has room in the flash
   pub room : (i : ℕ) → s .«image_len» ≤ length flash → 0 < i → i ≤ countOf s → (i - 1) * s .«block_len» + blockLength (s .«block_len») (s .«image_len») i ≤ length flash

@@ -19,7 +19,8 @@ root-requires c κs =
     let z = size c in
     let a = c .before .before .args in
     let n = blockCount (a .len) (length (a .image .now)) in
-    (omega (arith, z .first, c .block-count .ensures), left-fits (a .len) _ n _ (omega (arith, z .first, c .block-count .ensures)) (omega (arith, z .below)))
+    let e = c .block-count .ensures in
+    (omega (arith, z .first), omega (arith, z .count), left-fits (a .len) _ n _ (omega (arith, z .first)) (omega (arith, z .below)))
 
 cast-t9 : tie.Need-cast-t9
 cast-t9 c = omega (arith, size (c .before) .most)
