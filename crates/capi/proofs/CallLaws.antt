@@ -4,11 +4,10 @@ use mathlib.Core.Bool.{Bool, true, false, cond}
 use mathlib.Core.List.{List}
 use mathlib.Core.Option.{Option, none, some}
 use Prim.Native.Nat.{ℕ}
+use native.Mathlib.Omega.{arith}
 use lib.Dec.{eqb}
 use lib.ListN.{length}
-use lib.Seq.{paste}
 use borrow.Author.Tests.{eqb-true}
-use Rattle.octets.proofs.CopyLaws.{paste-whole}
 use Rattle.sha256.specs.Sha256.{digest}
 use Rattle.lms.specs.Lms.{valid}
 use Rattle.machine.specs.declared.state.Stage.{Stage}
@@ -16,9 +15,9 @@ use Rattle.machine.specs.declared.state.Device.{Device}
 use Rattle.machine.specs.declared.state.Answer.{Answer}
 use Rattle.machine.specs.declared.state.Answer.the-variants.{Accepted, Refused}
 use Rattle.wire.specs.declared.refusal.Refusal.{Refusal}
-use Rattle.machine.specs.Device.{Outcome}
+use Rattle.machine.specs.Device.{Situation, Outcome}
 use Rattle.machine.specs.Readers.{numberOf}
-use Rattle.machine.specs.Step.{step}
+use Rattle.machine.specs.Step.{outcome, refusalOf, step}
 use Rattle.machine.specs.BootCheck.{bootCheck}
 use Rattle.capi.specs.declared.state.Found.{Found}
 use Rattle.capi.specs.declared.state.Found.the-variants.{At, Nothing}
@@ -47,6 +46,11 @@ pub found-length : (b : List ℕ) {t : Stage} → stageIn b ≡ some t → lengt
 unfolding stageIn
 found-length b e = eqb-true _ _ (chosen (eqb (length b) stateLength) _ e)
 
+keeps : (r : Option Refusal) (d : Device) (flash : List ℕ) (then : Situation) {x : Refusal} → outcome r d flash then .answer ≡ Refused x → outcome r d flash then .device ≡ d
+unfolding outcome
+keeps none d flash then e = absurd (let z : _≡_ {A = ℕ} 0 1 = cc in omega arith)
+keeps (some y) d flash then e = refl
+
 -- What the code found in the bytes b of a state.
 module _ (b : List ℕ) {f : Found} (e : f ≡ found (stageIn b)) where
   pub length-found : {t : Stage} → f ≡ At t → length b ≡ stateLength
@@ -74,14 +78,18 @@ module _ (b : List ℕ) {f : Found} (e : f ≡ found (stageIn b)) where
       unfolding receive
       taken = rw (decode-some b (found-some (stageIn b) (sym e ∙ g)), receive) (ap (λ (x : Device). called (step digest valid x flash m) b) (sym de) ∙ ap (λ (x : Outcome). called x b) se)
 
-      pub refused : {x : Refusal} {n : ℕ} → o .answer ≡ Refused x → n ≡ numberOf (o .answer) → receive b flash m ≡ record { answer = n; state = b; flash = o .flash }
-      unfolding called stateAfter
-      refused z en = taken ∙ rw (en, z)
+      -- a refusal leaves the device as it was
+      pub unchanged : {x : Refusal} → o .answer ≡ Refused x → o .device ≡ d
+      unfolding step
+      unchanged z = sym (ap (λ (y : Outcome). y .device) se) ∙ keeps (refusalOf digest valid d flash m) d flash _ (ap (λ (y : Outcome). y .answer) se ∙ z)
 
-      pub accepted : {s b′ : List ℕ} → o .answer ≡ Accepted → s ≡ encode (o .device) → length s ≡ stateLength → b′ ≡ paste b 0 s (length s)
-          → receive b flash m ≡ record { answer = 0; state = b′; flash = o .flash }
+      pub refused : {x : Refusal} {n : ℕ} {b′ : List ℕ} → o .answer ≡ Refused x → n ≡ numberOf (o .answer) → b′ ≡ b → receive b flash m ≡ record { answer = n; state = b′; flash = o .flash }
       unfolding called stateAfter
-      accepted {s} z es ls eb = taken ∙ rw (z, eb, paste-whole b s (length-found g ∙ sym ls), es)
+      refused z en eb = taken ∙ rw (en, z, eb)
+
+      pub accepted : {b′ : List ℕ} → o .answer ≡ Accepted → b′ ≡ encode (o .device) → receive b flash m ≡ record { answer = 0; state = b′; flash = o .flash }
+      unfolding called stateAfter
+      accepted z eb = taken ∙ rw (z, eb)
 
 pub receive-encode : IsStep
 unfolding receive

@@ -1,14 +1,16 @@
 -- A state's bytes, written and read back.
-use mathlib.Core.Path.{_≡_, refl, sym, ap, _∙_}
-use mathlib.Core.List.{List, [], _∷_, map}
+use mathlib.Core.Path.{_≡_, refl, sym, ap, ap₂, _∙_}
+use mathlib.Core.List.{List, [], _∷_, _++_, map, append-nil}
 use mathlib.Core.Option.{none, some}
-use Prim.Native.Nat.{ℕ, _^_, _<_}
+use Prim.Native.Nat.{ℕ, _+_, _-_, _^_, _≤_, _<_}
 use native.Mathlib.Omega.{arith}
-use lib.ListN.{length, take, getD}
+use lib.ListN.{length, take, drop, getD, length-append, length-drop, drop-of-length-le, take-append-drop}
+use lib.Seq.{paste, take-at, drop-at, length-take-le}
 use borrow.Author.Tests.{ne-eqb}
-use Rattle.octets.specs.Octets.{bytes, number, part}
+use Rattle.octets.specs.Octets.{bytes, number, part, joined}
 use Rattle.merkle.specs.Limits.{heldBytes}
-use Rattle.octets.proofs.JoinedLaws.{total, joined-length, stands}
+use Rattle.octets.proofs.CopyLaws.{paste-end}
+use Rattle.octets.proofs.JoinedLaws.{joined-last, total, joined-length, stands}
 use Rattle.octets.proofs.NumberLaws.{length-bytes, number-back}
 use Rattle.lms.specs.Lms.{keyLength}
 use Rattle.wire.specs.Manifest.{manifestLength, written, read}
@@ -18,6 +20,7 @@ use Rattle.machine.specs.declared.state.Stage.the-variants.{Idle, Loading, Comp
 use Rattle.machine.specs.declared.state.Device.{Device}
 use Rattle.machine.specs.Device.{nextOf}
 use Rattle.capi.specs.State.{stageAt, nextAt, stateLength, stageNumber, encode, stageFrom, stageIn, deviceIn, decode}
+use Rattle.capi.specs.Head.{headOf}
 use Rattle.capi.specs.Claims.{Fits, GivesBack}
 
 -- what `stageIn` says of bytes by their length
@@ -49,9 +52,40 @@ small Idle = omega arith
 small (Loading i) = omega arith
 small Complete = omega arith
 
--- the lengths of the fields
-abbrev pub lengths : List ℕ
-lengths = 4 ∷ keyLength ∷ 2 ∷ 2 ∷ manifestLength ∷ heldBytes ∷ []
+-- the lengths of the fields, and of those before the hashes
+abbrev pub headLengths : List ℕ
+headLengths = 4 ∷ keyLength ∷ 2 ∷ 2 ∷ manifestLength ∷ []
+
+abbrev lengths : List ℕ
+lengths = headLengths ++ (heldBytes ∷ [])
+
+-- A state's bytes b with others from index at on: as many before them; there they are; and where they are the same, so is the state.
+module _ (b : List ℕ) (at : ℕ) (l : at ≤ length b) where
+  pub front-room : (z : List ℕ) → at ≤ length (take at b ++ z)
+  front-room z = rw (length-append (take at b) z) (omega (arith, length-take-le at b l))
+
+  pub front-long : (z : List ℕ) → length (take at (take at b ++ z)) ≡ at
+  front-long z = let k = length-take-le at b l in ap length (take-at (take at b) z at k) ∙ k
+
+  pub end-put : (ys : List ℕ) → drop at (take at b ++ (ys ++ drop (length b - at) (drop at b))) ≡ ys
+  end-put ys =
+      drop-at (take at b) _ at (length-take-le at b l)
+      ∙ ap (λ (x : List ℕ). ys ++ x) (drop-of-length-le (drop at b) {i = length b - at} (rw (length-drop at b) (omega arith)))
+      ∙ append-nil ys
+
+  pub end-same : {ys : List ℕ} → ys ≡ take (length b - at) (drop at b) → take at b ++ (ys ++ drop (length b - at) (drop at b)) ≡ b
+  end-same e =
+      ap (λ (x : List ℕ). take at b ++ x) (ap (λ (y : List ℕ). y ++ drop (length b - at) (drop at b)) e ∙ take-append-drop (length b - at) (drop at b))
+      ∙ take-append-drop at b
+
+-- the hashes copied to the end of a buffer
+pub hashes-behind : (d hashes : List ℕ) (at : ℕ) {r : List ℕ} → at + length hashes ≡ length d → r ≡ paste d at hashes (length hashes) → drop at r ≡ hashes
+hashes-behind d hashes at e er = ap (drop at) (er ∙ paste-end d hashes at e) ∙ drop-at (take at d) hashes at (length-take-le at d (omega arith))
+
+-- head and hashes are the state
+pub encode-is : (d : Device) {head hashes : List ℕ} → head ≡ joined (headOf (d .model) (d .key) (d .stage) (d .manifest)) → hashes ≡ d .hashes → head ++ hashes ≡ encode d
+unfolding encode
+encode-is d eh es = ap₂ {C = List ℕ} (λ x y. x ++ y) eh es ∙ sym (joined-last (headOf (d .model) (d .key) (d .stage) (d .manifest)) (d .hashes))
 
 module _ (d : Device) (f : Fits d) where
   abbrev fields : List (List ℕ)

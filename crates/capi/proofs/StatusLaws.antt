@@ -6,6 +6,11 @@ use mathlib.Core.Option.{Option, none, some}
 use Prim.Native.Nat.{ℕ}
 use native.Mathlib.Omega.{arith}
 use lib.ListN.{length}
+use Rattle.octets.specs.Octets.{number, part}
+use Rattle.merkle.specs.Limits.{heldBytes}
+use Rattle.lms.specs.Lms.{keyLength}
+use Rattle.wire.specs.declared.manifest.Manifest.{Manifest}
+use Rattle.wire.specs.Manifest.{manifestLength, read}
 use Rattle.wire.specs.Message.{dueLength}
 use Rattle.machine.specs.declared.state.Stage.{Stage}
 use Rattle.machine.specs.declared.state.Stage.the-variants.{Idle, Loading, Complete}
@@ -14,7 +19,8 @@ use Rattle.machine.specs.Refusals.{senseless}
 use Rattle.capi.specs.declared.state.Found.{Found}
 use Rattle.capi.specs.declared.state.Found.the-variants.{At, Nothing}
 use Rattle.capi.specs.Found.{found, foundIn}
-use Rattle.capi.specs.State.{stateLength, stageIn, deviceIn, decode}
+use Rattle.device.specs.Fields.{deviceOf}
+use Rattle.capi.specs.State.{keyAt, manifestAt, hashesAt, stateLength, stageIn, deviceIn, decode}
 use Rattle.capi.specs.Status.{sensible, statusOf, status, dueOf, blockMessageLength}
 use Rattle.capi.proofs.StateLaws.{decode-none, decode-some}
 use Rattle.capi.proofs.CallLaws.{found-some, found-length}
@@ -68,10 +74,11 @@ module _ (b : List ℕ) where
                 record { long = found-length b q; device = rw same at s; sense = rw same at r }
 
   -- what it found where it has the stage and has tested the device
-  pub tested : {f : Found} {t : Stage} {d : Device} {x : Bool} → f ≡ found (stageIn b) → f ≡ At t → d ≡ deviceIn b t → x ≡ senseless d
+  pub tested : {f : Found} {t : Stage} {s : Manifest} {x : Bool} → f ≡ found (stageIn b) → f ≡ At t → s ≡ read (part manifestAt manifestLength b)
+      → x ≡ senseless (deviceOf (number (part 0 4 b)) (part keyAt keyLength b) t s (part hashesAt heldBytes b))
       → cond x Nothing (At t) ≡ foundIn (sensible b)
   unfolding foundIn deviceIn
-  tested {t = t} e g de x = rw (sensible-some (found-some (stageIn b) (sym e ∙ g)), x, de) (go (senseless (deviceIn b t)))
+  tested {t = t} e g es x = rw (sensible-some (found-some (stageIn b) (sym e ∙ g)), x, es) (go (senseless (deviceIn b t)))
     where
       go : (y : Bool) → cond y Nothing (At t) ≡ foundIn (cond y none (some (deviceIn b t)))
       go true = refl

@@ -5,3 +5,4 @@ pub mod Run
 pub mod Claims
 pub mod FromC
 pub mod Found
+pub mod Head

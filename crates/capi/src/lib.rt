@@ -8,6 +8,7 @@ use machine::Answer;
 use machine::Stage;
 use sender::Sent;
 use state::Found;
+use state::HASHES_AT;
 use state::STATE_LEN;
 use status::STATUS_LEN;
 ghost use mathlib.Core.Path.{_≡_};
@@ -176,7 +177,7 @@ pub extern "C" fn lertxuno_fresh(model: u32, key: &[u8; lms::KEY_LEN], state: &m
     *state = bytes;
 }
 
-// The device takes a message.
+// The device takes a message. The hashes stay in the state's bytes: a copy of them would be most of the stack.
 #[no_mangle]
 pub extern "C" fn lertxuno_receive(state: &mut [u8], flash: &mut [u8], message: &[u8]) -> u32
     ensures { λ r. ⌜ receive (now (state .entry)) (now (flash .entry)) (now (message .entry)) ≡ record { answer = r; state = now (state .exit); flash = now (flash .exit) } ⌝ }
@@ -184,13 +185,25 @@ pub extern "C" fn lertxuno_receive(state: &mut [u8], flash: &mut [u8], message: 
     let Found::At(stage) = state::stage_in(state) else {
         return 1;
     };
-    let reply = device::receive(state::device_in(state, stage), flash, message);
-    let answer = reply.answer;
+    let model = octets::u32_at(state, 0);
+    let key = state::key_in(state);
+    let manifest = state::manifest_in(state);
+    let after = device::receive_in_place(
+        model,
+        &key,
+        stage,
+        manifest,
+        &mut state[HASHES_AT..],
+        flash,
+        message,
+    );
+    let answer = after.answer;
     let Answer::Accepted = answer else {
         return wide(device::answer_number(answer));
     };
-    let bytes = state::to_bytes(reply.device);
-    octets::copy(state, 0, &bytes);
+    let stage = after.stage;
+    let manifest = after.manifest;
+    state::put_head(&mut state[..HASHES_AT], model, &key, stage, manifest);
     0
 }
 

@@ -62,8 +62,11 @@ module _ (ks : List ℕ) (xs : List (List ℕ)) (lengths : map length xs ≡ ks)
   pub stands : (i : ℕ) → part (total (take i ks)) (getD ks i 0) (joined xs) ≡ getD xs i []
   stands i = rw (← lengths) (stand xs i)
 
+  pub copied-over : {d r : List ℕ} → length d ≡ total ks → Copies 0 d xs ks r → r ≡ joined xs
+  copied-over e c = copied-from c lengths (zero-add (total ks) ∙ sym e)
+
   pub copied : {r : List ℕ} → Copies 0 (replicate (total ks) 0) xs ks r → r ≡ joined xs
-  copied c = copied-from c lengths (zero-add (total ks) ∙ sym (length-replicate {A = ℕ} (total ks) 0))
+  copied = copied-over (length-replicate {A = ℕ} (total ks) 0)
 
 -- The pieces of the lengths ks that stand in a string from index at on.
 abbrev pub partsFrom : ℕ → List ℕ → List ℕ → List (List ℕ)

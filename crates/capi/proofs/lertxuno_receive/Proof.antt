@@ -1,9 +1,49 @@
-use mathlib.Core.Path.{_∙_}
+use mathlib.Core.Path.{_≡_, sym, ap, _∙_}
+use mathlib.Core.List.{List}
+use Prim.Native.Nat.{ℕ, _-_, _≤_}
 use native.Mathlib.Omega.{arith}
-use Rattle.capi.proofs.CallLaws.{unknown, length-found, refused, accepted}
+use lib.ListN.{length, take, drop, length-drop}
+use lib.Seq.{length-take-le}
+use Rattle.octets.proofs.CopyLaws.{length-part}
+use Rattle.merkle.specs.Limits.{heldBytes}
+use Rattle.lms.specs.Lms.{keyLength}
+use Rattle.machine.specs.declared.state.Device.{Device}
+use Rattle.device.specs.Fields.{deviceOf}
+use Rattle.capi.specs.State.{keyAt, hashesAt, stateLength, deviceIn}
+use Rattle.capi.proofs.StateLaws.{front-room, front-long, end-put, end-same, encode-is}
+use Rattle.capi.proofs.CallLaws.{length-found, unknown, unchanged, refused, accepted}
 use borrow.Author.Needs.{needs}
 use Rattle.capi.proofs.lertxuno_receive.Statement.{statement}
 use Rattle.capi.proofs.lertxuno_receive.Tie as tie
+
+-- the bytes that came in have a state's length
+long : (c : tie.After-known-told) → length (c .before .before .before .before .before .before .before .before .args .state .now) ≡ stateLength
+long c = length-found _ (c .before .before .before .stage-in .ensures) (c .before .stage .given .1)
+
+abbrev bytes : tie.After-receive-in-place → List ℕ
+bytes c = c .before .before .before .before .before .before .before .before .before .before .before .before .before .before .before .before .before .before .args .state .now
+
+enough : (c : tie.After-receive-in-place) → hashesAt ≤ length (bytes c)
+enough c = let l = long (c .before .before .before .before .before .before .before .before .before .before) in omega arith
+
+held-long : (b : List ℕ) → length b ≡ stateLength → length (take (length b - hashesAt) (drop hashesAt b)) ≡ heldBytes
+held-long b l = length-take-le (length b - hashesAt) (drop hashesAt b) (rw (length-drop hashesAt b) (omega arith)) ∙ omega arith
+
+-- what was handed on is the device that they encode
+is-device : (c : tie.After-receive-in-place)
+    → deviceOf (c .before .before .before .before .before .before .before .before .u32-at .result) (c .before .before .before .before .before .before .key-in .result) (c .before .before .before .before .before .before .before .before .before .before .before .stage .given .0 .0) (c .before .before .before .before .manifest-in .result) (take (length (bytes c) - hashesAt) (drop hashesAt (bytes c))) ≡ deviceIn (bytes c) (c .before .before .before .before .before .before .before .before .before .before .before .stage .given .0 .0)
+unfolding deviceIn
+is-device c =
+    let l = long (c .before .before .before .before .before .before .before .before .before .before) in
+    let k : length (bytes c) - hashesAt ≡ heldBytes = omega arith in
+    λ i.
+    record {
+      model = c .before .before .before .before .before .before .before .before .u32-at .ensures i;
+      key = c .before .before .before .before .before .before .key-in .ensures i;
+      stage = c .before .before .before .before .before .before .before .before .before .before .before .stage .given .0 .0;
+      manifest = c .before .before .before .before .manifest-in .ensures i;
+      hashes = take (k i) (drop hashesAt (bytes c));
+    }
 
 stage-in-requires : tie.Need-stage-in-requires
 stage-in-requires c κs = search needs
@@ -20,11 +60,29 @@ same-length c = search needs
 returns : tie.Need-returns
 returns c = unknown _ (c .before .before .stage-in .ensures) _ _ (c .enum-told .given .1)
 
-device-in-requires : tie.Need-device-in-requires
-device-in-requires c κs = length-found _ (c .before .before .before .before .stage-in .ensures) (c .before .before .stage .given .1)
+u32-at-requires : tie.Need-u32-at-requires
+u32-at-requires c κs = let l = long (c .before) in omega arith
 
-receive-requires : tie.Need-receive-requires
-receive-requires c κs = search needs
+key-in-requires : tie.Need-key-in-requires
+key-in-requires c κs = long (c .before .before .before)
+
+manifest-in-requires : tie.Need-manifest-in-requires
+manifest-in-requires c κs = long (c .before .before .before .before .before)
+
+slice-aggregate-receive-in-place : tie.Need-slice-aggregate-receive-in-place
+slice-aggregate-receive-in-place c = search needs
+
+sub-receive-in-place : tie.Need-sub-receive-in-place
+sub-receive-in-place c = let l = long (c .before .before .before .before .before .before .before) in omega arith
+
+part-receive-in-place-start : tie.Need-part-receive-in-place-start
+part-receive-in-place-start c = let l = long (c .before .before .before .before .before .before .before) in omega arith
+
+part-receive-in-place-end : tie.Need-part-receive-in-place-end
+part-receive-in-place-end c = search needs
+
+receive-in-place-requires : tie.Need-receive-in-place-requires
+receive-in-place-requires c κs = held-long (c .before .before .before .before .before .before .before .before .before .before .before .before .before .before .before .before .before .args .state .now) (long (c .before .before .before .before .before .before .before .before .before))
 
 enum-told-2 : tie.Need-enum-told-2
 enum-told-2 c = search needs
@@ -46,23 +104,22 @@ same-length-3 c = search needs
 
 returns-2 : tie.Need-returns-2
 returns-2 c =
-    let r = c .before .before .before .before .before .before in
-    let s = r .before .before .before .before .before in
-    refused _ (s .before .before .stage-in .ensures) _ _ (s .stage .given .1) (r .before .before .device-in .ensures) (r .receive .ensures)
-    (c .before .before .enum-told3 .given .1) (c .wide .ensures ∙ c .before .answer-number .ensures)
+    let r = c .before .before .before .before .before .before .before .before in
+    let z = c .before .before .enum-told3 .given .1 in
+    refused _ (r .before .before .before .before .before .before .before .before .before .before .before .before .before .stage-in .ensures) _ _ (r .before .before .before .before .before .before .before .before .before .before .before .stage .given .1) (is-device r) (r .receive-in-place .ensures) z (c .wide .ensures ∙ c .before .answer-number .ensures)
+    (end-same (bytes r) hashesAt (enough r) (ap (λ (d : Device). d .hashes) (unchanged _ (r .before .before .before .before .before .before .before .before .before .before .before .before .before .stage-in .ensures) _ _ (r .before .before .before .before .before .before .before .before .before .before .before .stage .given .1) (is-device r) (r .receive-in-place .ensures) z)))
 
-to-bytes-requires : tie.Need-to-bytes-requires
-to-bytes-requires c κs = search needs
+slice-relend-prefix-put-head : tie.Need-slice-relend-prefix-put-head
+slice-relend-prefix-put-head c = let r = c .before .before .before .before .before .before .before in front-room (bytes r) hashesAt (enough r) _
 
-slice-aggregate-copy : tie.Need-slice-aggregate-copy
-slice-aggregate-copy c = search needs
+slice-aggregate-put-head : tie.Need-slice-aggregate-put-head
+slice-aggregate-put-head c = let r = c .before .before .before .before .before .before .before .before in sym (front-long (bytes r) hashesAt (enough r) _)
 
-copy-requires : tie.Need-copy-requires
-copy-requires c κs =
-    let r = c .before .before .before .before .before .before .before in
-    let s = r .before .before .before .before .before in
-    let l = length-found _ (s .before .before .stage-in .ensures) (s .stage .given .1) in
-    omega arith
+slice-aggregate-put-head-2 : tie.Need-slice-aggregate-put-head-2
+slice-aggregate-put-head-2 c = search needs
+
+put-head-requires : tie.Need-put-head-requires
+put-head-requires c κs = let r = c .before .before .before .before .before .before .before .before .before in (front-long (bytes r) hashesAt (enough r) _, ap length (r .before .before .before .before .before .before .key-in .ensures) ∙ length-part (bytes r) keyAt keyLength (let l = long (r .before .before .before .before .before .before .before .before .before .before) in omega arith))
 
 same-length-4 : tie.Need-same-length-4
 same-length-4 c = search needs
@@ -72,11 +129,9 @@ same-length-5 c = search needs
 
 returns-3 : tie.Need-returns-3
 returns-3 c =
-    let b = c .before .before .before .before .before in
-    let r = b .before .before .before .before .before in
-    let s = r .before .before .before .before .before in
-    accepted _ (s .before .before .stage-in .ensures) _ _ (s .stage .given .1) (r .before .before .device-in .ensures) (r .receive .ensures)
-    (b .before .enum-told2 .given .1) (b .to-bytes .ensures) (omega arith) (c .before .before .copy .ensures)
+    let r = c .before .before .before .before .before .before .before .before .before .before .before .before in
+    accepted _ (r .before .before .before .before .before .before .before .before .before .before .before .before .before .stage-in .ensures) _ _ (r .before .before .before .before .before .before .before .before .before .before .before .stage .given .1) (is-device r) (r .receive-in-place .ensures) (c .before .before .before .before .before .before .enum-told2 .given .1)
+    (encode-is _ (c .before .before .put-head .ensures) (end-put (bytes r) hashesAt (enough r) _))
 
 pub lertxuno-receive-spec : {M : Type 1} → statement M
 lertxuno-receive-spec =
@@ -87,8 +142,14 @@ lertxuno-receive-spec =
     enum-told
     same-length
     returns
-    device-in-requires
-    receive-requires
+    u32-at-requires
+    key-in-requires
+    manifest-in-requires
+    slice-aggregate-receive-in-place
+    sub-receive-in-place
+    part-receive-in-place-start
+    part-receive-in-place-end
+    receive-in-place-requires
     enum-told-2
     enum-told-3
     answer-number-requires
@@ -96,9 +157,10 @@ lertxuno-receive-spec =
     same-length-2
     same-length-3
     returns-2
-    to-bytes-requires
-    slice-aggregate-copy
-    copy-requires
+    slice-relend-prefix-put-head
+    slice-aggregate-put-head
+    slice-aggregate-put-head-2
+    put-head-requires
     same-length-4
     same-length-5
     returns-3)

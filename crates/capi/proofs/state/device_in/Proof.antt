@@ -2,10 +2,9 @@ use mathlib.Core.Path.{sym, _∙_}
 use native.Mathlib.Omega.{arith}
 use lib.ListN.{replicate}
 use Rattle.octets.specs.Octets.{part}
-use Rattle.merkle.specs.Limits.{heldBytes}
-use Rattle.lms.specs.Lms.{keyLength}
 use Rattle.octets.proofs.CopyLaws.{length-part, paste-whole}
-use Rattle.capi.specs.State.{keyAt, hashesAt, deviceIn}
+use Rattle.merkle.specs.Limits.{heldBytes}
+use Rattle.capi.specs.State.{hashesAt, deviceIn}
 use borrow.Author.Needs.{needs}
 use Rattle.capi.proofs.state.device_in.Statement.{statement}
 use Rattle.capi.proofs.state.device_in.Tie as tie
@@ -25,44 +24,22 @@ part-copy-end c = search needs
 copy-requires : tie.Need-copy-requires
 copy-requires c κs = search needs
 
-slice-aggregate-copy-2 : tie.Need-slice-aggregate-copy-2
-slice-aggregate-copy-2 c = search needs
-
-sub-copy-2 : tie.Need-sub-copy-2
-sub-copy-2 c = search needs
-
-part-copy-start-2 : tie.Need-part-copy-start-2
-part-copy-start-2 c = search needs
-
-part-copy-end-2 : tie.Need-part-copy-end-2
-part-copy-end-2 c = search needs
-
-copy-requires-2 : tie.Need-copy-requires-2
-copy-requires-2 c κs = search needs
-
 u32-at-requires : tie.Need-u32-at-requires
 u32-at-requires c κs = search needs
 
-sub-read : tie.Need-sub-read
-sub-read c = search needs
+key-in-requires : tie.Need-key-in-requires
+key-in-requires c κs = search needs
 
-part-read-start : tie.Need-part-read-start
-part-read-start c = search needs
-
-part-read-end : tie.Need-part-read-end
-part-read-end c = search needs
-
-read-requires : tie.Need-read-requires
-read-requires c κs = search needs
+manifest-in-requires : tie.Need-manifest-in-requires
+manifest-in-requires c κs = search needs
 
 returns : tie.Need-returns
 unfolding deviceIn
 returns c =
-    let start = c .before .before .before .before .before .before .before .before .before .before .before .before in
-    let s = start .args .s .now in
-    let key = c .before .before .before .before .before .before .before .before .copy .ensures ∙ paste-whole (replicate keyLength 0) (part keyAt keyLength s) (sym (length-part s keyAt keyLength (omega arith))) in
-    let hashes = c .before .before .before .before .copy2 .ensures ∙ paste-whole (replicate heldBytes 0) (part hashesAt heldBytes s) (sym (length-part s hashesAt heldBytes (omega arith))) in
-    λ i. record { model = c .before .before .u32-at .ensures i; key = key i; stage = start .args .stage; manifest = c .read .ensures i; hashes = hashes i }
+    let a = c .before .before .before .before .before .before .before .before .args in
+    let s = a .s .now in
+    let hashes = c .before .before .before .before .copy .ensures ∙ paste-whole (replicate heldBytes 0) (part hashesAt heldBytes s) (sym (length-part s hashesAt heldBytes (omega arith))) in
+    λ i. record { model = c .before .before .u32-at .ensures i; key = c .before .key-in .ensures i; stage = a .stage; manifest = c .manifest-in .ensures i; hashes = hashes i }
 
 pub device-in-spec : {M : Type 1} → statement M
 device-in-spec =
@@ -73,14 +50,7 @@ device-in-spec =
     part-copy-start
     part-copy-end
     copy-requires
-    slice-aggregate-copy-2
-    sub-copy-2
-    part-copy-start-2
-    part-copy-end-2
-    copy-requires-2
     u32-at-requires
-    sub-read
-    part-read-start
-    part-read-end
-    read-requires
+    key-in-requires
+    manifest-in-requires
     returns)

@@ -19,17 +19,17 @@ returns : tie.Need-returns
 unfolding foundIn
 returns c = rw (sensible-none _ (found-none _ (sym (c .before .before .stage-in .ensures) ∙ c .enum-told .given .1)))
 
-device-in-requires : tie.Need-device-in-requires
-device-in-requires c κs = length-found _ (c .before .before .before .stage-in .ensures) (c .before .stage .given .1)
+manifest-in-requires : tie.Need-manifest-in-requires
+manifest-in-requires c κs = length-found _ (c .before .before .before .stage-in .ensures) (c .before .stage .given .1)
 
 senseless-requires : tie.Need-senseless-requires
 senseless-requires c κs = search needs
 
 returns-2 : tie.Need-returns-2
-returns-2 c = let k = c .before .before .before in rw (c .if1 .taken) at (tested _ (k .before .before .before .stage-in .ensures) (k .before .stage .given .1) (c .before .before .device-in .ensures) (c .before .senseless .ensures))
+returns-2 c = let k = c .before .before .before in rw (c .if1 .taken) at (tested _ (k .before .before .before .stage-in .ensures) (k .before .stage .given .1) (c .before .before .manifest-in .ensures) (c .before .senseless .ensures _ _ _))
 
 returns-3 : tie.Need-returns-3
-returns-3 c = let k = c .before .before .before in rw (c .if1 .left) at (tested _ (k .before .before .before .stage-in .ensures) (k .before .stage .given .1) (c .before .before .device-in .ensures) (c .before .senseless .ensures))
+returns-3 c = let k = c .before .before .before in rw (c .if1 .left) at (tested _ (k .before .before .before .stage-in .ensures) (k .before .stage .given .1) (c .before .before .manifest-in .ensures) (c .before .senseless .ensures _ _ _))
 
 pub sensible-in-spec : {M : Type 1} → statement M
 sensible-in-spec =
@@ -39,7 +39,7 @@ sensible-in-spec =
     enum-known-stage
     enum-told
     returns
-    device-in-requires
+    manifest-in-requires
     senseless-requires
     returns-2
     returns-3)
