@@ -1,11 +1,15 @@
 /* The stack that a call uses: it runs on a painted one, and what is not painted any more was used, less the same for an empty call. The most blocks,
-   where the tree is deepest, and the longest image of Intel HEX. A part that a function reserves below its deepest write is not seen. */
+   where the tree is deepest, and the longest image of Intel HEX. A part that a function reserves below its deepest write is not seen. A call that has a
+   goal and uses more is marked, and fails the run. */
 #include "device.h"
 #include "ihex_text.h"
 #include <string.h>
 #include <ucontext.h>
 
 enum { PAINT = 0xA5, BLOCK_LENGTH = 64 };
+
+/* The goals, in bytes. */
+enum { NONE = 0, PROGRAM_OR_BLOCK = 3584, UPDATE = 5120, SENDER = 4608 };
 
 static uint8_t stack[1 << 16];
 static messages made;
@@ -82,28 +86,37 @@ static size_t used_by(void (*call)(void)) {
     return sizeof stack - unused;
 }
 
-static void measure(const char *name, void (*call)(void)) { printf("%-34s %8zu\n", name, used_by(call) - used_by(nothing)); }
+static int missed = 0;
+
+static void measure(const char *name, void (*call)(void), size_t goal) {
+    size_t used = used_by(call) - used_by(nothing);
+    printf("%-34s %8zu", name, used);
+    if (goal != NONE)
+        printf(" %8zu%s", goal, used > goal ? "  MISSED" : "");
+    putchar('\n');
+    missed |= goal != NONE && used > goal;
+}
 
 int main(void) {
     make_messages(LERTXUNO_MAX_BLOCKS * BLOCK_LENGTH, BLOCK_LENGTH, &made);
     text_length = ihex_text(made.image, LERTXUNO_MAX_IHEX_LENGTH, 16, "\r\n", text);
-    printf("%-34s %8s\n", "stack", "bytes");
-    measure("device, fresh", make_fresh);
-    measure("device, program", take_program);
-    measure("device, status", read_status);
-    measure("device, block_message_length", read_length);
-    measure("device, all blocks but the last", take_most_blocks);
-    measure("device, last block", take_last_block);
-    measure("device, intact", check);
-    measure("device, update", take_update);
-    measure("device, path update", take_path_update);
-    measure("sender, manifest", send_manifest);
-    measure("sender, program", send_program);
-    measure("sender, all blocks", send_all_blocks);
-    measure("sender, update", send_update);
-    measure("sender, path update", send_path_update);
-    measure("ihex", read_ihex);
-    measure("verify", verify);
-    measure("digest", digest);
-    return 0;
+    printf("%-34s %8s %8s\n", "stack", "bytes", "goal");
+    measure("device, fresh", make_fresh, NONE);
+    measure("device, program", take_program, PROGRAM_OR_BLOCK);
+    measure("device, status", read_status, NONE);
+    measure("device, block_message_length", read_length, NONE);
+    measure("device, all blocks but the last", take_most_blocks, PROGRAM_OR_BLOCK);
+    measure("device, last block", take_last_block, PROGRAM_OR_BLOCK);
+    measure("device, intact", check, NONE);
+    measure("device, update", take_update, UPDATE);
+    measure("device, path update", take_path_update, UPDATE);
+    measure("sender, manifest", send_manifest, SENDER);
+    measure("sender, program", send_program, SENDER);
+    measure("sender, all blocks", send_all_blocks, SENDER);
+    measure("sender, update", send_update, SENDER);
+    measure("sender, path update", send_path_update, SENDER);
+    measure("ihex", read_ihex, NONE);
+    measure("verify", verify, NONE);
+    measure("digest", digest, NONE);
+    return missed;
 }

@@ -75,12 +75,12 @@ pub fn receive_in_place(
         };
     };
     let next = accept::accept(stage, manifest, hashes, kind, flash, message);
-    let stage = next.stage;
-    let manifest = next.manifest;
+    let next_stage = next.stage;
+    let next_manifest = next.manifest;
     Outcome {
         answer,
-        stage,
-        manifest,
+        stage: next_stage,
+        manifest: next_manifest,
     }
 }
 
