@@ -1,4 +1,4 @@
-// What an accepted message does. Only here is the flash written, and only `receive` calls this, where no refusal applies.
+// What an accepted message does. Only here are hashes and flash written, and only `receive_in_place` calls this, where no refusal applies.
 use crate::conditions::count;
 use crate::conditions::next_of;
 use crate::conditions::own_len;

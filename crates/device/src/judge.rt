@@ -1,5 +1,5 @@
-// The first refusal that applies, if any: the tests of each kind in the papers' order. Nothing is written here. What the
-// functions require their callers meet, which all stand here.
+// The first refusal that applies, if any: the tests of each kind in the papers' order. Nothing is written here. A function is handed the device's fields that
+// its tests look at. What the functions require their callers meet, which stand here, but for that of `judge`.
 use crate::conditions::cut_path;
 use crate::conditions::cut_update;
 use crate::conditions::lacks_root;
