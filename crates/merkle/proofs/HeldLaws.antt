@@ -21,7 +21,7 @@ unfolding hashesIn
 length-hashesIn zero bytes = refl
 length-hashesIn (suc c) bytes = ap suc (length-hashesIn c (drop hashLength bytes))
 
-pub hashesIn-append : (c m : ℕ) (x y : List ℕ) → length x ≡ hashLength * c → hashesIn (c + m) (x ++ y) ≡ hashesIn c x ++ hashesIn m y
+hashesIn-append : (c m : ℕ) (x y : List ℕ) → length x ≡ hashLength * c → hashesIn (c + m) (x ++ y) ≡ hashesIn c x ++ hashesIn m y
 unfolding hashesIn
 hashesIn-append zero m [] y e = let z : 0 + m ≡ m = omega arith in rw z
 hashesIn-append zero m (b ∷ x) y e = absurd (omega arith)

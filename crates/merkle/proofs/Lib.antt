@@ -18,5 +18,6 @@ pub mod TreeLaws
 pub mod ClimbLaws
 pub mod SiblingLaws
 pub mod WayLaws
+pub mod TurnLaws
 pub mod WritingLaws
 pub mod PathWritingLaws

@@ -4,5 +4,6 @@ pub mod Shape
 pub mod Hash
 pub mod Frontier
 pub mod Path
+pub mod Turns
 pub mod Held
 pub mod Claims

@@ -13,7 +13,8 @@ ghost use Rattle.merkle.specs.Limits.{maxBlocks, hashLength};
 ghost use Rattle.merkle.specs.Blocks.{cut};
 ghost use Rattle.merkle.specs.Shape.{shape};
 ghost use Rattle.merkle.specs.Hash.{plain};
-ghost use Rattle.merkle.specs.Path.{leafDepth, sentPath, pathHash};
+ghost use Rattle.merkle.specs.Path.{leafDepth, way, sentPath, pathHash};
+ghost use Rattle.merkle.specs.Turns.{turnsOf};
 ghost use Rattle.merkle.specs.Held.{hashesIn};
 
 // The depth of the leaf that has `before` of the n blocks before it.
@@ -37,23 +38,49 @@ pub fn leaf_depth(n: usize, before: usize) -> usize
     depth
 }
 
+// Which way the block goes at each node above it, a bit for each: 1 for right. The lowest node has the lowest bit, so that the way up reads them off in its order.
+fn turns(n: usize, before: usize) -> usize
+    requires { ⌜ before < n ⌝ }
+    ensures { λ r. ⌜ r ≡ turnsOf (way 0 (shape n) before) ⌝ }
+{
+    let mut m = n;
+    let mut i = before;
+    let mut turns: usize = 0;
+    while 1 < m {
+        let k = split(m);
+        if i < k {
+            m = k;
+            turns = 2 * turns;
+        } else {
+            m -= k;
+            i -= k;
+            turns = 2 * turns + 1;
+        }
+    }
+    turns
+}
+
 // The root over n blocks, worked out from the block that has `before` blocks before it and the siblings on its way up, lowest first.
 pub fn path_hash(n: usize, before: usize, block: &[u8], siblings: &[u8]) -> [u8; 32]
     requires { ⌜ (before < n) × (length (now siblings) ≡ hashLength * leafDepth n before) ⌝ }
     ensures { λ r. ⌜ r ≡ pathHash (plain sha.digest) 0 (shape n) before (now (block .entry)) (hashesIn (leafDepth n before) (now (siblings .entry))) ⌝ }
 {
-    if n == 1 {
-        return digest(block);
+    let mut turns = turns(n, before);
+    let mut x = digest(block);
+    let mut at: usize = 0;
+    while HASH_LEN <= siblings.len() - at {
+        let end = at + HASH_LEN;
+        let y = &siblings[at..end];
+        let z = if turns % 2 == 0 {
+            node(&x, y)
+        } else {
+            node(y, &x)
+        };
+        x = z;
+        turns /= 2;
+        at = end;
     }
-    let k = split(n);
-    let below = siblings.len() - HASH_LEN;
-    let highest = &siblings[below..];
-    if before < k {
-        let left = path_hash(k, before, block, &siblings[..below]);
-        return node(&left, highest);
-    }
-    let right = path_hash(n - k, before - k, block, &siblings[..below]);
-    node(highest, &right)
+    x
 }
 
 // Writes the siblings of the block after `before` of n, over the same blocks as `root`. The highest comes first, to its place at the end.
