@@ -177,7 +177,7 @@ pub extern "C" fn lertxuno_fresh(model: u32, key: &[u8; lms::KEY_LEN], state: &m
     *state = bytes;
 }
 
-// The device takes a message. The hashes stay in the state's bytes: a copy of them would be most of the stack.
+// The device takes a message. The hashes stay in the state's bytes: by value they would be copied on the stack.
 #[no_mangle]
 pub extern "C" fn lertxuno_receive(state: &mut [u8], flash: &mut [u8], message: &[u8]) -> u32
     ensures { λ r. ⌜ receive (now (state .entry)) (now (flash .entry)) (now (message .entry)) ≡ record { answer = r; state = now (state .exit); flash = now (flash .exit) } ⌝ }
@@ -201,9 +201,15 @@ pub extern "C" fn lertxuno_receive(state: &mut [u8], flash: &mut [u8], message: 
     let Answer::Accepted = answer else {
         return wide(device::answer_number(answer));
     };
-    let stage = after.stage;
-    let manifest = after.manifest;
-    state::put_head(&mut state[..HASHES_AT], model, &key, stage, manifest);
+    let next_stage = after.stage;
+    let next_manifest = after.manifest;
+    state::put_head(
+        &mut state[..HASHES_AT],
+        model,
+        &key,
+        next_stage,
+        next_manifest,
+    );
     0
 }
 

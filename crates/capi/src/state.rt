@@ -36,7 +36,7 @@ pub fn stage_number(stage: Stage) -> u16
     }
 }
 
-// Writes the head of a state, what stands before the hashes. Its key may be any bytes of the right length.
+// Writes the head of a state: what stands before the hashes.
 pub fn put_head(head: &mut [u8], model: u32, key: &[u8], stage: Stage, manifest: Manifest)
     requires { ⌜ (length (now head) ≡ hashesAt) × (length (now key) ≡ keyLength) ⌝ }
     ensures { λ _. ⌜ now (head .exit) ≡ joined (headOf model (now (key .entry)) stage manifest) ⌝ }

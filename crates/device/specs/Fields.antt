@@ -1,4 +1,4 @@
--- For the code alone: a device whose fields its functions are handed one by one, each where the caller keeps it.
+-- For the code alone: the device that has these fields, which its functions are handed one by one.
 use mathlib.Core.Path.{_≡_}
 use mathlib.Core.List.{List}
 use mathlib.Core.Option.{none}

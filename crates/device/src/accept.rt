@@ -21,7 +21,7 @@ ghost use Rattle.machine.specs.Step as spec;
 ghost use Rattle.device.specs.Fields.{deviceOf, Unrefused};
 
 // Stage and manifest after an accepted message.
-pub struct Progress {
+pub struct Next {
     pub stage: Stage,
     pub manifest: Manifest,
 }
@@ -34,7 +34,7 @@ pub fn accept(
     kind: Kind,
     flash: &mut [u8],
     message: &[u8],
-) -> Progress
+) -> Next
     requires { ⌜ (length (now hashes) ≡ heldBytes) × (kind ≡ messages.kind (now message)) × Unrefused stage manifest (now hashes) (now flash) (now message) ⌝ }
     ensures { λ r. ⌜ ((model : ℕ) (key : List ℕ) → spec.accept kind (deviceOf model key stage manifest (now (hashes .entry))) (now (flash .entry)) (now (message .entry)) ≡ record { device = deviceOf model key (r .stage) (r .manifest) (now (hashes .exit)); flash = now (flash .exit) }) ⌝ }
 {
@@ -43,19 +43,19 @@ pub fn accept(
         Kind::Block => accept_block(stage, manifest, hashes, flash, message),
         Kind::Update | Kind::PathUpdate => accept_update(stage, flash, message),
         // Never accepted; the definition has this arm too.
-        Kind::Unknown => Progress { stage, manifest },
+        Kind::Unknown => Next { stage, manifest },
     }
 }
 
 // Kind 1. It does not look at the flash.
-fn accept_program(hashes: &mut [u8], message: &[u8]) -> Progress
+fn accept_program(hashes: &mut [u8], message: &[u8]) -> Next
     requires { ⌜ (length (now hashes) ≡ heldBytes) × (leastLength kinds.Program ≤ length (now message)) ⌝ }
     ensures { λ r. ⌜ ((d : Device) (flash : List ℕ) → acceptProgram d flash (now (message .entry)) ≡ record { device = deviceOf (d .model) (d .key) (r .stage) (r .manifest) (now (hashes .exit)); flash = flash }) ⌝ }
 {
     let manifest = wire::manifest_in(message);
     let root = manifest.root;
     merkle::begin(hashes, &root);
-    Progress {
+    Next {
         stage: Stage::Loading(1),
         manifest,
     }
@@ -88,7 +88,7 @@ fn accept_block(
     hashes: &mut [u8],
     flash: &mut [u8],
     message: &[u8],
-) -> Progress
+) -> Next
     requires { ⌜ (length (now hashes) ≡ heldBytes) × (messages.kind (now message) ≡ kinds.Block) × Unrefused stage manifest (now hashes) (now flash) (now message) ⌝ }
     ensures { λ r. ⌜ ((model : ℕ) (key : List ℕ) → acceptBlock (deviceOf model key stage manifest (now (hashes .entry))) (now (flash .entry)) (now (message .entry)) ≡ record { device = deviceOf model key (r .stage) (r .manifest) (now (hashes .exit)); flash = now (flash .exit) }) ⌝ }
 {
@@ -107,14 +107,14 @@ fn accept_block(
         next as usize - 1,
         wire::hashes_after(message, len),
     );
-    Progress {
+    Next {
         stage: stage_after(n, next),
         manifest,
     }
 }
 
 // Kinds 3 and 4. The hashes stay.
-fn accept_update(stage: Stage, flash: &mut [u8], message: &[u8]) -> Progress
+fn accept_update(stage: Stage, flash: &mut [u8], message: &[u8]) -> Next
     requires { ⌜ (leastUpdate (manifestIn (now message) .«block_len») (manifestIn (now message) .«image_len») (updateNumber (now message)) ≤ length (now message))
         × (manifestIn (now message) .«image_len» ≤ length (now flash)) × (0 < updateNumber (now message)) × (updateNumber (now message) ≤ countOf (manifestIn (now message))) ⌝ }
     ensures { λ r. ⌜ ((model : ℕ) (key hashes : List ℕ) (held : Manifest) → acceptUpdate (deviceOf model key stage held hashes) (now (flash .entry)) (now (message .entry)) ≡ record { device = deviceOf model key (r .stage) (r .manifest) hashes; flash = now (flash .exit) }) ⌝ }
@@ -128,5 +128,5 @@ fn accept_update(stage: Stage, flash: &mut [u8], message: &[u8]) -> Progress
         number,
         wire::update_block(message, len),
     );
-    Progress { stage, manifest }
+    Next { stage, manifest }
 }

@@ -1,5 +1,5 @@
 // The first refusal that applies, if any: the tests of each kind in the papers' order. Nothing is written here. A function is handed the device's fields that
-// its tests look at. What the functions require their callers meet, which stand here, but for that of `judge`.
+// its tests look at. What one requires its callers meet: they stand here, but for that of `judge`, which is `receive_in_place`.
 use crate::conditions::cut_path;
 use crate::conditions::cut_update;
 use crate::conditions::lacks_root;
@@ -31,17 +31,22 @@ use wire::Manifest;
 use wire::Refusal;
 ghost use mathlib.Core.Path.{_≡_};
 ghost use mathlib.Core.Bool.{false};
-ghost use mathlib.Core.List.{List};
-ghost use Prim.Native.Nat.{ℕ, _≤_};
+ghost use mathlib.Core.List.{List, [], _∷_};
+ghost use Prim.Native.Nat.{ℕ, pred, _+_, _*_, _≤_};
 ghost use lib.ListN.{length};
 ghost use Rattle.sha256.specs.Sha256.{digest};
-ghost use Rattle.merkle.specs.Limits.{heldBytes};
+ghost use Rattle.merkle.specs.Limits.{hashLength, heldBytes};
+ghost use Rattle.merkle.specs.Path.{leafDepth};
 ghost use Rattle.lms.specs.Lms.{valid};
 ghost use Rattle.wire.specs.declared.kind.Kind.the-variants as kinds;
+ghost use Rattle.wire.specs.declared.refusal.Refusal.the-variants as refusal;
 ghost use Rattle.wire.specs.Refusal.{firstThatApplies};
-ghost use Rattle.wire.specs.Message.{leastLength, manifestIn, updateNumber};
+ghost use Rattle.wire.specs.Size.{wrongSize};
+ghost use Rattle.wire.specs.Size as size;
+ghost use Rattle.wire.specs.Geometry.{countOf, blocksOf};
+ghost use Rattle.wire.specs.Message.{leastLength, manifestIn, updateNumber, updateBlock, pathIn};
 ghost use Rattle.machine.specs.Device.{nextOf};
-ghost use Rattle.machine.specs.Refusals.{ofManifest, ofProgram, ofBlock, ofSuccessor, ofUpdate, ofPathUpdate, refusals};
+ghost use Rattle.machine.specs.Refusals.{tooSmall, ofManifest, ofProgram, ofBlock, ofSuccessor, ofUpdate, ofPathUpdate, refusals};
 ghost use Rattle.machine.specs.Refusals as spec;
 ghost use Rattle.machine.specs.Step.{answerOf};
 ghost use Rattle.device.specs.Fields.{deviceOf};
@@ -257,6 +262,22 @@ fn judge_path_update(
     ) {
         return Answer::Refused(Refusal::Unsigned);
     }
+    judge_path(held, manifest, number, flash, message, len, depth)
+}
+
+// The last of kind 4: 15, 14, for a block of `len` bytes and a leaf of this depth.
+fn judge_path(
+    held: Manifest,
+    manifest: Manifest,
+    number: u16,
+    flash: &[u8],
+    message: &[u8],
+    len: usize,
+    depth: usize,
+) -> Answer
+    requires { ⌜ (wrongSize (manifest .«block_len») (manifest .«image_len») ≡ false) × (tooSmall manifest (now flash) ≡ false) × (size.outside (countOf manifest) number ≡ false) × (depth ≡ leafDepth (countOf manifest) (pred number)) × (leastLength kinds.Update + len + hashLength * depth ≤ length (now message)) ⌝ }
+    ensures { λ r. ⌜ r ≡ answerOf (firstThatApplies ((refusal.Path, spec.strays digest manifest number (blocksOf manifest (now (flash .entry)) (pred number)) (pathIn len depth (now (message .entry))) (held .root)) ∷ (refusal.Mismatch, spec.strays digest manifest number (updateBlock len (now (message .entry))) (pathIn len depth (now (message .entry))) (manifest .root)) ∷ [])) ⌝ }
+{
     let siblings = wire::path_in(message, len, depth);
     let old = old_block(manifest, flash, number);
     let old_root = held.root;

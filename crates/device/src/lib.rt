@@ -45,14 +45,14 @@ pub fn fresh(model: u32, key: [u8; lms::KEY_LEN]) -> Device
 }
 
 // The answer to a message, and what it makes of stage and manifest.
-pub struct Outcome {
+pub struct Answered {
     pub answer: Answer,
     pub stage: Stage,
     pub manifest: Manifest,
 }
 
 // Answers a message; key and hashes stay where the caller keeps them. A refusal leaves state and flash as they were; nothing is written before the last test
-// has passed. Only our own crates call this: the array of the hashes has its length.
+// has passed. Only our own crates call this, and hand it hashes of the array's length.
 pub fn receive_in_place(
     model: u32,
     key: &[u8],
@@ -61,14 +61,14 @@ pub fn receive_in_place(
     hashes: &mut [u8],
     flash: &mut [u8],
     message: &[u8],
-) -> Outcome
+) -> Answered
     requires { ⌜ length (now hashes) ≡ heldBytes ⌝ }
     ensures { λ r. ⌜ step digest valid (deviceOf model (now (key .entry)) stage manifest (now (hashes .entry))) (now (flash .entry)) (now (message .entry)) ≡ record { answer = r .answer; device = deviceOf model (now (key .entry)) (r .stage) (r .manifest) (now (hashes .exit)); flash = now (flash .exit) } ⌝ }
 {
     let kind = wire::kind_of(message);
     let answer = judge::judge(model, key, stage, manifest, hashes, kind, flash, message);
     let Answer::Accepted = answer else {
-        return Outcome {
+        return Answered {
             answer,
             stage,
             manifest,
@@ -77,7 +77,7 @@ pub fn receive_in_place(
     let next = accept::accept(stage, manifest, hashes, kind, flash, message);
     let next_stage = next.stage;
     let next_manifest = next.manifest;
-    Outcome {
+    Answered {
         answer,
         stage: next_stage,
         manifest: next_manifest,

@@ -7,15 +7,16 @@ use native.Mathlib.Numerals.{add-one}
 use native.Mathlib.Omega.{arith}
 use lib.Dec.{lit<}
 use lib.ListN.{length, drop, set, length-append, length-set, take-append-drop}
-use lib.Seq.{paste, drop-paste, drop-drop, drop-set-lt}
+use lib.Seq.{paste, drop-set-lt}
 use Rattle.octets.specs.Octets.{bytes, part}
 use Rattle.octets.proofs.NumberLaws.{length-bytes}
 use Rattle.octets.proofs.JoinedLaws.{joined-suc}
-use Rattle.sha256.specs.Sha256.{zeroBits, padding, pad}
+use Rattle.sha256.specs.Sha256.{zeroBits, padding, pad, H0, compress, concatenated}
+use Rattle.sha256.proofs.HashLaws.{digest-block}
 use Rattle.lms.specs.Notation.{u8str, u16str, u32str, coef, H}
 use Rattle.lms.specs.Ots.{chain, z, zs}
 use Rattle.octets.proofs.BufferLaws.{Begun, more, one, less}
-use Rattle.octets.proofs.CopyLaws.{part-part}
+use Rattle.octets.proofs.CopyLaws.{part-part, paste-later}
 
 -- what every hash input begins with has 22 bytes
 start-length : (I : List ℕ) (r d : ℕ) → length I ≡ 16 → length (I ++ u32str r ++ u16str d) ≡ 22
@@ -33,14 +34,6 @@ pad55 : (m : List ℕ) → length m ≡ 55 → pad m ≡ m ++ padding55
 unfolding pad padding zeroBits bytes
 pad55 m e = rw e refl
 
--- a copy that ends before it leaves it
-pub kept : (d s : List ℕ) (at : ℕ) {d′ : List ℕ} → length d ≡ 64 → at + length s ≤ 55 → d′ ≡ paste d at s (length s) → drop 55 d′ ≡ drop 55 d
-kept d s at l h e =
-    let n = at + length s in
-    let k : n + (55 - n) ≡ 55 = omega arith in
-    let cut : (x : List ℕ) → drop (55 - n) (drop n x) ≡ drop 55 x = λ x. drop-drop (55 - n) n x ∙ ap (λ (i : ℕ). drop i x) k in
-    ap (drop 55) e ∙ sym (cut (paste d at s (length s))) ∙ ap (drop (55 - n)) (drop-paste d at s (length s) (omega arith) (omega arith)) ∙ cut d
-
 module _ (I : List ℕ) (q i a : ℕ) (y : List ℕ) (j : ℕ) where
   -- the hash of a step's input is the next tmp
   stepped : (tmp : List ℕ) → a ≤ j → j < 256 → tmp ≡ chain I q i a y (j - a) → H (I ++ u32str q ++ u16str i ++ (j ∷ []) ++ tmp) ≡ chain I q i a y (j + 1 - a)
@@ -53,7 +46,7 @@ module _ (I : List ℕ) (q i a : ℕ) (y : List ℕ) (j : ℕ) where
   -- the block with j and tmp in their places still begins and ends as it did, and its hash is the next tmp
   pub block-turn : {block block′ r : List ℕ} (tmp : List ℕ) → length I ≡ 16 → Begun 64 block (I ++ u32str q ++ u16str i) → drop 55 block ≡ padding55
       → length tmp ≡ 32 → block′ ≡ paste (set block 22 j) 23 tmp (length tmp) → a ≤ j → j < 256 → tmp ≡ chain I q i a y (j - a)
-      → ((m : List ℕ) → pad m ≡ block′ → r ≡ H m)
+      → r ≡ concatenated (compress H0 block′)
       → Begun 64 block′ (I ++ u32str q ++ u16str i) × (drop 55 block′ ≡ padding55) × (r ≡ chain I q i a y (j + 1 - a))
   block-turn {block = block} {block′ = block′} tmp f b d w e l h g hashed =
       let s = start-length I q i f in
@@ -63,10 +56,10 @@ module _ (I : List ℕ) (q i a : ℕ) (y : List ℕ) (j : ℕ) where
       let n : length m ≡ 55 = length-append (k ++ (j ∷ [])) tmp ∙ omega arith in
       let front : Begun 64 block′ m = more (one b s j (omega arith)) t tmp (omega arith) e in
       let back : drop 55 block′ ≡ padding55 =
-      kept (set block 22 j) tmp 23 (length-set block 22 j ∙ b .size) (omega arith) e ∙ drop-set-lt 55 block 22 j (lit< tt) ∙ d in
+      paste-later (set block 22 j) tmp 23 55 (rw (length-set block 22 j) (omega (arith, b .size))) (omega arith) e ∙ drop-set-lt 55 block 22 j (lit< tt) ∙ d in
       let whole : pad m ≡ block′ =
       pad55 m n ∙ ap₂ {C = List ℕ} (λ (x y : List ℕ). x ++ y) (sym (rw n at (front .front))) (sym back) ∙ take-append-drop 55 block′ in
-      (less k (j ∷ []) (less (k ++ (j ∷ [])) tmp front), back, hashed m whole ∙ stepped tmp l h g)
+      (less k (j ∷ []) (less (k ++ (j ∷ [])) tmp front), back, hashed ∙ digest-block m block′ whole (front .size) ∙ stepped tmp l h g)
 
 module _ (I : List ℕ) (q w : ℕ) (S signature : List ℕ) (p i : ℕ) where
   -- the chain that the code runs is chain i

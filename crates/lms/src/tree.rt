@@ -13,6 +13,7 @@ fn leaf(id: &[u8], node: u32, key: &[u8]) -> [u8; 32]
     ensures { λ r. ⌜ r ≡ spec.leafHash (now (id .entry)) node (now (key .entry)) ⌝ }
 {
     let s = start(id, node, D_LEAF);
+    // The 22 bytes of the start, and the key's 32.
     let mut b = [0u8; 54];
     octets::copy(&mut b, 0, &s);
     octets::copy(&mut b, 22, key);
@@ -25,6 +26,7 @@ fn parent(id: &[u8], node: u32, sibling: &[u8], hash: &[u8]) -> [u8; 32]
     ensures { λ r. ⌜ r ≡ spec.parent (now (id .entry)) node (now (sibling .entry)) (now (hash .entry)) ⌝ }
 {
     let s = start(id, node / 2, D_INTR);
+    // The 22 bytes of the start, and two hashes.
     let mut b = [0u8; 86];
     octets::copy(&mut b, 0, &s);
     if node % 2 == 1 {

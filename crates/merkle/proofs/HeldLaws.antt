@@ -1,13 +1,12 @@
 -- The flat array: what is held before and after a message's hashes took the place of the first.
 use mathlib.Core.Path.{_≡_, refl, sym, ap, ap₂, _∙_}
 use mathlib.Core.Bool.{Bool}
-use mathlib.Core.List.{List, [], _∷_, _++_, append-assoc, append-nil}
+use mathlib.Core.List.{List, [], _∷_, _++_, append-assoc}
 use Prim.Native.Nat.{ℕ, zero, suc, _+_, _-_, _*_, _/_, _≤_, _<_}
 use native.Mathlib.Omega.{arith}
-use lib.ListN.{length, take, drop, replicate, length-drop, length-append, length-replicate, drop-of-length-le}
+use lib.ListN.{length, take, drop, replicate, length-drop, length-append, length-replicate}
 use lib.Seq.{paste, length-take-le, drop-drop, take-length, take-append-le, drop-append-le, take-at, drop-at, take-all}
 use Rattle.octets.specs.Octets.{joined, equal}
-use Rattle.octets.proofs.CopyLaws.{paste-front, paste-behind}
 use Rattle.merkle.specs.Limits.{hashLength, maxBlocks, heldBytes}
 use Rattle.merkle.specs.Hash.{Hashing, climb}
 use Rattle.merkle.specs.Frontier.{carriedCount, heldCount}
@@ -60,16 +59,6 @@ begun-held n root e =
 
 pub root-alone : RootAlone
 root-alone = (frontier-zero, begun-held)
-
--- zeros from the start of a buffer on, and the root behind them to its end
-pub begun-is : (k : ℕ) (d d' r root : List ℕ) → k + length root ≡ length d → d' ≡ paste d 0 (replicate k 0) (length (replicate {A = ℕ} k 0)) → r ≡ paste d' k root (length root)
-    → r ≡ replicate k 0 ++ root
-begun-is k d d' r root e ed er =
-    let z = replicate {A = ℕ} k 0 in
-    let l = length-replicate {A = ℕ} k 0 in
-    er ∙ ap (λ (x : List ℕ). paste x k root (length root)) (ed ∙ paste-front d z k l) ∙ paste-behind d z root k l (omega arith)
-    ∙ ap (λ (x : List ℕ). (z ++ root) ++ x) (drop-of-length-le d {i = k + length root} (omega arith))
-    ∙ append-nil (z ++ root)
 
 pub length-begun : (root : List ℕ) → length root ≡ hashLength → length (begun root) ≡ heldBytes
 unfolding begun

@@ -5,9 +5,9 @@ use Prim.Native.Nat.{ℕ, _+_, _-_, _*_, _%_, _^_, _≤_, _<_}
 use native.Mathlib.Nat.{zero-add, mul-le-mul-right, add-mul}
 use native.Mathlib.Omega.{arith}
 use lib.ListN.{length, take, drop, length-drop}
-use lib.Seq.{paste, take-at, take-take, drop-drop, length-take-le, take-paste, drop-paste}
+use lib.Seq.{paste, take-at, take-take, drop-drop, length-take-le, take-paste}
 use Rattle.octets.specs.Octets.{part}
-use Rattle.octets.proofs.CopyLaws.{part-part, paste-from}
+use Rattle.octets.proofs.CopyLaws.{part-part, paste-from, paste-later}
 use Rattle.merkle.specs.Limits.{hashLength, heldBytes}
 use Rattle.merkle.specs.Blocks.{cut, overlay}
 use Rattle.merkle.specs.Shape.{split, shape}
@@ -108,11 +108,5 @@ module _ (a x : List ℕ) (to : ℕ) (long : length x ≡ hashLength) (room : to
       sym (take-take to (to + length x) (paste a to x (length x)) (omega arith)) ∙ ap (take to) (take-paste a to x (length x) (omega arith) (omega arith))
       ∙ take-at (take to a) (take (length x) x) to (length-take-le to a (omega arith))
 
-  put-behind : (k : ℕ) → drop (to + length x + k) (paste a to x (length x)) ≡ drop (to + length x + k) a
-  put-behind k =
-      sym (drop-drop k (to + length x) (paste a to x (length x))) ∙ ap (drop k) (drop-paste a to x (length x) (omega arith) (omega arith)) ∙ drop-drop k (to + length x) a
-
   pub put-kept : to ≤ heldBytes → Kept to a (paste a to x (length x))
-  put-kept h =
-      let e : to + length x + (heldBytes - to) ≡ heldBytes + hashLength = omega arith in
-      (put-before, rw e at (put-behind (heldBytes - to)))
+  put-kept h = (put-before, paste-later a x to (heldBytes + hashLength) (omega arith) (omega arith) refl)

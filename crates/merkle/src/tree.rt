@@ -19,7 +19,8 @@ ghost use Rattle.merkle.specs.Blocks.{cut, overlay};
 ghost use Rattle.merkle.specs.Shape.{depth, shape};
 ghost use Rattle.merkle.specs.Hash.{plain, leafHash, nodeHash, hash, rootOver};
 
-// The array has room for one hash on each level of the deepest tree, which is MAX_HELD deep, and behind these, at NEW_AT, for the one that replaces a block's own.
+// The array has room for one hash on each level of the deepest tree, which is MAX_HELD deep, and behind these, at NEW_AT, for the one that replaces a block's
+// own.
 const NEW_AT: usize = HELD_LEN + HASH_LEN;
 
 const ROOM: usize = NEW_AT + HASH_LEN;
@@ -62,6 +63,7 @@ fn put_hash(hashes: &mut [u8; ROOM], to: usize, rest: &[u8], len: usize, n: usiz
             wrapping_sub_u64(skip, k as u64),
         );
     }
+    // One local hash and one copy for all three: each byte of the frame stands on the stack twelve times.
     let x = if 1 < n {
         pair(hashes, to)
     } else if skip == 0 {

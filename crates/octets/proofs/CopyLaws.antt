@@ -6,7 +6,7 @@ use native.Mathlib.Nat.{zero-add}
 use native.Mathlib.Numerals.{add-one}
 use native.Mathlib.Omega.{arith}
 use lib.ListN.{length, take, drop, getD, set, length-drop, drop-of-length-le}
-use lib.Seq.{paste, paste-suc, take-length, take-all, take-at, take-take, drop-at, drop-drop, length-take-le}
+use lib.Seq.{paste, paste-suc, drop-paste, take-length, take-all, take-at, take-take, drop-at, drop-drop, length-take-le}
 use Rattle.octets.specs.Octets.{part}
 
 pub length-part : (s : List ℕ) (i k : ℕ) → i + k ≤ length s → length (part i k s) ≡ k
@@ -43,6 +43,14 @@ paste-from d s at h =
     ap (drop at) (append-assoc (take at d) (take (length s) s) (drop (at + length s) d))
     ∙ drop-at (take at d) (take (length s) s ++ drop (at + length s) d) at (length-take-le at d h)
     ∙ ap (λ (x : List ℕ). x ++ drop (at + length s) d) (take-length s)
+
+-- what stands behind a copy stays
+pub paste-later : (d s : List ℕ) (at i : ℕ) {r : List ℕ} → at + length s ≤ length d → at + length s ≤ i → r ≡ paste d at s (length s) → drop i r ≡ drop i d
+paste-later d s at i l h e =
+    let n = at + length s in
+    let k : n + (i - n) ≡ i = omega arith in
+    let cut : (x : List ℕ) → drop (i - n) (drop n x) ≡ drop i x = λ x. drop-drop (i - n) n x ∙ ap (λ (j : ℕ). drop j x) k in
+    ap (drop i) e ∙ sym (cut (paste d at s (length s))) ∙ ap (drop (i - n)) (drop-paste d at s (length s) (omega arith) (omega arith)) ∙ cut d
 
 -- a copy to the end
 pub paste-end : (d s : List ℕ) (at : ℕ) → at + length s ≡ length d → paste d at s (length s) ≡ take at d ++ s

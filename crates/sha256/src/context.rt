@@ -66,7 +66,7 @@ impl Context {
         self
     }
 
-    // The digest of the message, which the padding ends as a last piece.
+    // The digest of the message: its padding is absorbed as a last piece.
     pub fn finish(self) -> [u8; 32]
         ensures { λ r. ⌜ ((m : List ℕ) → Absorbed self m → r ≡ spec.digest m) ⌝ }
     {

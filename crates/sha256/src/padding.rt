@@ -49,7 +49,7 @@ pub fn padding_len(len: u64) -> usize
     if used < 56 { 64 - used } else { 128 - used }
 }
 
-// The padding itself, which begins the array: the bit 1, zero bits, and the length in bits.
+// The padding itself, which begins the array: the bit 1, zero bits, and the length in bits; at most 72 bytes, behind 56 of a block.
 pub fn padding(len: u64) -> [u8; 72]
     ensures { λ r. ⌜ take (length (spec.padding (8 * len))) r ≡ spec.padding (8 * len) ⌝ }
 {

@@ -1,6 +1,5 @@
 use mathlib.Core.Path.{ap, _∙_}
 use Rattle.sha256.specs.Sha256.{H0, concatenated}
-use Rattle.sha256.proofs.HashLaws.{digest-block}
 use borrow.Author.Needs.{needs}
 use Rattle.sha256.proofs.digest_padded.Statement.{statement}
 use Rattle.sha256.proofs.digest_padded.Tie as tie
@@ -13,9 +12,7 @@ concatenated-requires c κs = search needs
 
 returns : tie.Need-returns
 unfolding H0
-returns c =
-    let a = c .before .before .before .before in
-    λ m e. c .concatenated .ensures ∙ ap concatenated (c .before .compress .ensures) ∙ digest-block m (a .args .block .now) e (a .pre)
+returns c = c .concatenated .ensures ∙ ap concatenated (c .before .compress .ensures)
 
 pub digest-padded-spec : {M : Type 1} → statement M
 digest-padded-spec = tie.close (tie.spec compress-requires concatenated-requires returns)

@@ -1,8 +1,7 @@
-use mathlib.Core.Path.{_≡_, sym, ap, ap₂, _∙_}
+use mathlib.Core.Path.{_≡_, sym, ap₂, _∙_}
 use mathlib.Core.Bool.{Bool, false}
 use mathlib.Core.List.{List, []}
 use Prim.Native.Nat.{ℕ, pred, _+_, _*_, _≤_}
-use native.Mathlib.Omega.{arith}
 use lib.ListN.{length}
 use borrow.Author.Tests.{ltb-false}
 use Rattle.sha256.specs.Sha256.{digest}
@@ -13,16 +12,15 @@ use Rattle.wire.specs.declared.kind.Kind.the-variants.{Update}
 use Rattle.wire.specs.declared.manifest.Manifest.{Manifest}
 use Rattle.wire.specs.declared.refusal.Refusal.{Refusal}
 use Rattle.wire.specs.declared.refusal.Refusal.the-variants as refusal
-use Rattle.wire.specs.Size.{wrongSize, outside}
-use Rattle.wire.specs.Geometry.{countOf, blockLength, blocksOf}
-use Rattle.wire.specs.Message.{leastLength, manifestBytes, manifestIn, updateNumber, updateBlock, pathIn, pathSignature, leastUpdate, leastPath}
+use Rattle.wire.specs.Size.{outside}
+use Rattle.wire.specs.Geometry.{countOf, blockLength}
+use Rattle.wire.specs.Message.{leastLength, manifestBytes, manifestIn, updateNumber, pathSignature, leastUpdate, leastPath}
 use Rattle.wire.proofs.SizeLaws.{inside}
-use Rattle.wire.proofs.MessageLaws.{length-path-in}
 use Rattle.machine.specs.declared.state.Device.{Device}
-use Rattle.machine.specs.Refusals.{strays, unsigned, ofManifest, ofSuccessor, ofPathUpdate}
+use Rattle.machine.specs.Refusals.{unsigned, ofManifest, ofSuccessor, ofPathUpdate}
 use Rattle.machine.proofs.RefusalLaws.{behind, Passes, _past_}
 use Rattle.device.specs.Fields.{deviceOf}
-use Rattle.device.proofs.JudgeLaws.{retold, refused, accepted, refused-in, past-all, Known, successor-known}
+use Rattle.device.proofs.JudgeLaws.{retold, onward, refused, refused-in, past-all, Known, successor-known}
 use borrow.Author.Needs.{needs}
 use Rattle.device.proofs.judge.judge_path_update.Statement.{statement}
 use Rattle.device.proofs.judge.judge_path_update.Tie as tie
@@ -55,15 +53,12 @@ Past r j hashes = Passes (tests j hashes (manifestIn (message j)) (updateNumber 
 told : (j : tie.After-judge-successor) (hashes : List ℕ) → Passes (tests j hashes (manifestIn (message j)) (updateNumber (message j))) (tests j hashes (manifest j) (number j))
 told j hashes = retold (ap₂ (tests j hashes) (j .before .before .manifest-in .ensures) (j .before .update-number .ensures))
 
--- length of the new block, depth of its leaf, and the siblings in the message
+-- length of the new block, and depth of its leaf
 abbrev size : tie.After-judge-successor → ℕ
 size j = let s = manifest j in blockLength (s .«block_len») (s .«image_len») (number j)
 
 abbrev depth : tie.After-judge-successor → ℕ
 depth j = leafDepth (countOf (manifest j)) (pred (number j))
-
-abbrev siblings : tie.After-judge-successor → List ℕ
-siblings j = pathIn (size j) (depth j) (message j)
 
 -- the first tests do not apply
 area : (c : tie.After-enum-told) (hashes : List ℕ) → Past refusal.Area (c .before .before) hashes
@@ -96,34 +91,12 @@ signed : (c : tie.Else3) (hashes : List ℕ) → Past refusal.Unsigned (c .befor
 unfolding ofPathUpdate ofSuccessor ofManifest behind
 signed c hashes = long (c .before .before .before .before .before .before) hashes past (sym (verdict (c .before) hashes) ∙ c .if3 .left)
 
-siblings-are : (c : tie.After-path-in) → c .path-in .result .now ≡ siblings (c .before .before .before .before .before .before .before .before .before .before .before .before .before)
-siblings-are c = let d = c .before .before .before .before .before in c .path-in .ensures ∙ ap₂ (λ k d. pathIn k d (message (c .before .before .before .before .before .before .before .before .before .before .before .before .before))) (d .before .own-len .ensures) (d .leaf-depth .ensures)
-
--- the old block and the new one, each with the siblings
-from : (c : tie.After-strays) → let j = c .before .before .before .before .before .before .before .before .before .before .before .before .before .before .before .before .before in c .strays .result ≡ strays digest (manifest j) (number j) (blocksOf (manifest j) (start-of j .args .flash .now) (pred (number j))) (siblings j) (start-of j .args .held .root)
-from c = let j = c .before .before .before .before .before .before .before .before .before .before .before .before .before .before .before .before .before in c .strays .ensures ∙ ap₂ (λ b y. strays digest (manifest j) (number j) b y (start-of j .args .held .root)) (c .before .before .before .old-block .ensures) (siblings-are (c .before .before .before .before))
-
-rooted : (c : tie.Else4) (hashes : List ℕ) → Past refusal.Path (c .before .before .before .before .before .before .before .before .before .before .before .before .before .before .before .before .before .before) hashes
-unfolding ofPathUpdate ofSuccessor ofManifest behind
-rooted c hashes = signed (c .before .before .before .before .before .before) hashes past (sym (from (c .before)) ∙ c .if4 .left)
-
-to : (c : tie.After-strays2) → let j = c .before .before .before .before .before .before .before .before .before .before .before .before .before .before .before .before .before .before .before .before .before .before in c .strays2 .result ≡ strays digest (manifest j) (number j) (updateBlock (size j) (message j)) (siblings j) (manifest j .root)
-to c =
-    let j = c .before .before .before .before .before .before .before .before .before .before .before .before .before .before .before .before .before .before .before .before .before .before in
-    c .strays2 .ensures ∙ ap₂ (λ b y. strays digest (manifest j) (number j) b y (manifest j .root)) (c .before .before .before .update-block .ensures ∙ ap (λ k. updateBlock k (message j)) (c .before .before .before .before .before .before .before .before .before .before .before .before .before .before .before .own-len .ensures)) (siblings-are (c .before .before .before .before .before .before .before .before .before))
-
 -- what the tests have shown
 known : (c : tie.After-enum-told) → let j = c .before .before in Known (manifest j) (start-of j .args .flash .now)
 known c = successor-known (device (c .before .before) []) _ _ (c .before .before .judge-successor .ensures _ _) (c .enum-told .given .1)
 
 within : (c : tie.Else1) → let j = c .before .before .before .before in outside (countOf (manifest j)) (number j) ≡ false
 within c = sym (c .before .outside .ensures) ∙ c .if1 .left
-
-strays-needs : (c : tie.After-path-in) → let j = c .before .before .before .before .before .before .before .before .before .before .before .before .before in
-    (wrongSize (manifest j .«block_len») (manifest j .«image_len») ≡ false) × (outside (countOf (manifest j)) (number j) ≡ false) × (length (c .path-in .result .now) ≡ hashLength * depth j)
-strays-needs c =
-    let d = c .before .before .before .before .before in
-    (known (c .before .before .before .before .before .before .before .before .before .before .before) .0, within (c .before .before .before .before .before .before .before .before .before), ap length (c .path-in .ensures) ∙ length-path-in _ (message (c .before .before .before .before .before .before .before .before .before .before .before .before .before)) _ (enough d) ∙ ap (λ k. hashLength * k) (d .leaf-depth .ensures))
 
 manifest-in-requires : tie.Need-manifest-in-requires
 manifest-in-requires c κs = search needs
@@ -180,32 +153,17 @@ returns-4 : tie.Need-returns-4
 unfolding ofPathUpdate ofSuccessor ofManifest behind
 returns-4 c hashes = refused (long (c .before .before .before .before .before .before) hashes) (sym (verdict (c .before) hashes) ∙ c .if3 .taken)
 
-path-in-requires : tie.Need-path-in-requires
-path-in-requires c κs = enough (c .before .before .before .before)
-
-old-block-requires : tie.Need-old-block-requires
-old-block-requires c κs = (known (c .before .before .before .before .before .before .before .before .before .before .before) .1, within (c .before .before .before .before .before .before .before .before .before))
-
-strays-requires : tie.Need-strays-requires
-strays-requires c κs = strays-needs (c .before .before .before)
+judge-path-requires : tie.Need-judge-path-requires
+judge-path-requires c κs =
+    let d = c .before .before .before .before in
+    let p = known (c .before .before .before .before .before .before .before .before .before .before) in
+    (p .0, p .1, within (c .before .before .before .before .before .before .before .before), d .leaf-depth .ensures, enough d)
 
 returns-5 : tie.Need-returns-5
 unfolding ofPathUpdate ofSuccessor ofManifest behind
-returns-5 c hashes = refused (signed (c .before .before .before .before .before .before) hashes) (sym (from (c .before)) ∙ c .if4 .taken)
-
-update-block-requires : tie.Need-update-block-requires
-update-block-requires c κs = omega (arith, enough (c .before .before .before .before .before .before .before .before .before .before))
-
-strays-requires-2 : tie.Need-strays-requires-2
-strays-requires-2 c κs = strays-needs (c .before .before .before .before .before .before .before .before)
-
-returns-6 : tie.Need-returns-6
-unfolding ofPathUpdate ofSuccessor ofManifest behind
-returns-6 c hashes = refused (rooted (c .before .before .before .before .before) hashes) (sym (to (c .before)) ∙ c .if5 .taken)
-
-returns-7 : tie.Need-returns-7
-unfolding ofPathUpdate ofSuccessor ofManifest behind
-returns-7 c hashes = accepted (rooted (c .before .before .before .before .before) hashes past (sym (to (c .before)) ∙ c .if5 .left))
+returns-5 c hashes =
+    let d = c .before .before .before .before .before in
+    onward (signed (c .before) hashes) (rw (d .before .own-len .ensures, d .leaf-depth .ensures) at (c .judge-path .ensures))
 
 pub judge-path-update-spec : {M : Type 1} → statement M
 judge-path-update-spec =
@@ -227,11 +185,5 @@ judge-path-update-spec =
     path-signature-requires
     unsigned-requires
     returns-4
-    path-in-requires
-    old-block-requires
-    strays-requires
-    returns-5
-    update-block-requires
-    strays-requires-2
-    returns-6
-    returns-7)
+    judge-path-requires
+    returns-5)

@@ -8,7 +8,8 @@ use borrow.Author.Needs.{needs}
 use Rattle.lms.specs.Notation.{u16str, u32str}
 use Rattle.lms.specs.Ots.{chain}
 use Rattle.octets.proofs.BufferLaws.{Begun, begun, more}
-use Rattle.lms.proofs.ChainLaws.{padding55, kept, block-turn}
+use Rattle.octets.proofs.CopyLaws.{paste-later}
+use Rattle.lms.proofs.ChainLaws.{padding55, block-turn}
 use Rattle.lms.proofs.ots.chain.Statement.{statement}
 use Rattle.lms.proofs.ots.chain.Tie as tie
 
@@ -54,7 +55,7 @@ loop-holds c =
       a .pre .2,
       search needs,
       rw (← s .start .ensures) (more (begun refl) refl (s .start .result) (search needs) (k .copy .ensures)),
-      kept _ (s .start .result) 0 refl (omega arith) (k .copy .ensures),
+      paste-later _ (s .start .result) 0 55 (omega arith) (omega arith) (k .copy .ensures),
       rw e (c .bytes32-at .ensures ∙ take-all 32 (a .args .y .now) (omega arith)),
     )
 
@@ -72,9 +73,6 @@ slice-aggregate-copy-4 c = search needs
 
 copy-requires-2 : tie.Need-copy-requires-2 Inv-loop μ-loop
 copy-requires-2 c κs = simp length-set (omega arith)
-
-slice-aggregate-digest-padded : tie.Need-slice-aggregate-digest-padded Inv-loop μ-loop
-slice-aggregate-digest-padded c = search needs
 
 digest-padded-requires : tie.Need-digest-padded-requires Inv-loop μ-loop
 digest-padded-requires c κs = search needs
@@ -124,7 +122,6 @@ chain-spec =
     slice-aggregate-copy-3
     slice-aggregate-copy-4
     copy-requires-2
-    slice-aggregate-digest-padded
     digest-padded-requires
     add-j
     loop-less

@@ -1,10 +1,13 @@
 -- `merkle::frontier::begin` meets its contract: zeros, and the root at the end.
-use Prim.Native.Nat.{_-_}
-use native.Mathlib.Omega.{arith}
+use mathlib.Core.Path.{refl, ap, _∙_}
+use mathlib.Core.List.{List, [], _∷_, _++_, append-nil}
+use Prim.Native.Nat.{ℕ, _-_}
+use lib.ListN.{replicate}
+use Rattle.octets.specs.Octets.{joined}
+use Rattle.octets.proofs.JoinedLaws.{copied-over, copy, none}
 use borrow.Author.Needs.{needs}
 use Rattle.merkle.specs.Limits.{hashLength, heldBytes}
 use Rattle.merkle.specs.Held.{begun}
-use Rattle.merkle.proofs.HeldLaws.{begun-is}
 use Rattle.merkle.proofs.frontier.begin.Statement.{statement}
 use Rattle.merkle.proofs.frontier.begin.Tie as tie
 
@@ -24,10 +27,13 @@ same-length : tie.Need-same-length
 same-length c = search needs
 
 returns : tie.Need-returns
-unfolding begun
+unfolding begun joined
 returns c =
     let s = c .before .before .before .before .before .before .before .before .before .before .before in
-    begun-is (heldBytes - hashLength) (s .args .hashes .now) _ _ (s .args .root .now) (omega arith) (c .before .before .before .before .before .before .copy .ensures) (c .before .before .copy2 .ensures)
+    let root = s .args .root .now in
+    let zeros = replicate {A = ℕ} (heldBytes - hashLength) 0 in
+    copied-over ((heldBytes - hashLength) ∷ hashLength ∷ []) (zeros ∷ root ∷ []) (rw (s .pre .1) refl) {d = s .args .hashes .now} (s .pre .0) (copy (c .before .before .before .before .before .before .copy .ensures) (copy (c .before .before .copy2 .ensures) none))
+    ∙ ap (λ (x : List ℕ). zeros ++ x) (append-nil root)
 
 pub begin-spec : {M : Type 1} → statement M
 begin-spec =

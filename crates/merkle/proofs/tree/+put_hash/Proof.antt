@@ -109,7 +109,7 @@ module _ (t : ℕ) where
         omega arith,
         (
           omega arith,
-          k .4,
+          omega (arith, k .4),
           rw (part-from r (i * s .args .len)) (right-fits (s .args .len) (s .args .n) i (s .args .n - i) r (omega arith) (omega arith) (s .pre .1 .2)),
         ),
       )

@@ -47,7 +47,7 @@ returns c =
     let a = digested .before .before .before .args in
     let x = digested .digest .result in
     let l : length x ≡ hashLength = search needs in
-    let new = ap (part (heldBytes + hashLength) hashLength) (copied .copy .ensures) ∙ put-here (replicate 416 0) x (heldBytes + hashLength) l (omega arith) ∙ digested .digest .ensures in
+    let new = ap (part (heldBytes + hashLength) hashLength) (copied .copy .ensures) ∙ put-here (replicate (heldBytes + hashLength + hashLength) 0) x (heldBytes + hashLength) l (omega arith) ∙ digested .digest .ensures in
     c .bytes32-at .ensures
     ∙ put .put-hash .ensures .1 (a .bytes .now) (a .block .now) 0 (a .at) (omega arith) (omega arith) (ap (λ x. drop x (a .bytes .now)) (zero-mul (a .len))) (λ h. new)
 

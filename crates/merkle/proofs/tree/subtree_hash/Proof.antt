@@ -5,6 +5,7 @@ use Prim.Native.Nat.{_+_}
 use native.Mathlib.Omega.{arith}
 use lib.ListN.{replicate}
 use Rattle.sha256.specs.Sha256.{digest}
+use Rattle.merkle.specs.Limits.{hashLength, heldBytes}
 use Rattle.merkle.specs.Blocks.{cut}
 use Rattle.merkle.specs.Hash.{plain}
 use Rattle.merkle.proofs.CountLaws.{depth-most}
@@ -17,7 +18,7 @@ put-hash-requires c κs = let s = c .before .before in (s .pre .0, omega (arith,
 
 slice-aggregate-bytes32-at : tie.Need-slice-aggregate-bytes32-at
 slice-aggregate-bytes32-at c =
-    let h = c .before .put-hash in sym (kept-long 0 (replicate 416 0) (h .last .0) (omega arith) (h .ensures .0))
+    let h = c .before .put-hash in sym (kept-long 0 (replicate (heldBytes + hashLength + hashLength) 0) (h .last .0) (omega arith) (h .ensures .0))
 
 bytes32-at-requires : tie.Need-bytes32-at-requires
 bytes32-at-requires c κs = omega (arith, slice-aggregate-bytes32-at c)
