@@ -7,7 +7,7 @@
  * The caller's part: a pointer is not null, also where its length is 0; it has as many bytes as its length, or its array type, says; and memory that a
  * function writes (out, written, line, length, state, flash) overlaps no other argument. What firmware must do around the calls is in docs/INTEGRATION.md.
  *
- * The library is for x86-64 Linux. Stack of a call there, at most about: 5 KB for lertxuno_receive, 3.5 KB for lertxuno_intact and the sender's functions,
+ * The library is for x86-64 Linux. Stack of a call there, at most about: 3.6 KB for lertxuno_receive, lertxuno_intact and the sender's functions,
  * 4.5 KB for lertxuno_ihex, 2 KB for lertxuno_verify, 1 KB for lertxuno_digest, 100 bytes for the others. The time of lertxuno_ihex grows with its text,
  * which it reads twice. Otherwise time goes into SHA-256 compressions, one for each 64 bytes hashed: a signature's verdict takes about
  * 4,400 (signature type 4, height 5) or 600 (type 3, height 10), at the device a block takes those of its bytes and two for each hash that it carries, the
