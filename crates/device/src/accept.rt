@@ -29,21 +29,24 @@ pub struct Next {
 // What an accepted message of this kind makes of stage, manifest, hashes and flash; model and key stay.
 pub fn accept(
     stage: Stage,
-    manifest: Manifest,
+    held: Manifest,
     hashes: &mut [u8],
     kind: Kind,
     flash: &mut [u8],
     message: &[u8],
 ) -> Next
-    requires { ⌜ (length (now hashes) ≡ heldBytes) × (kind ≡ messages.kind (now message)) × Unrefused stage manifest (now hashes) (now flash) (now message) ⌝ }
-    ensures { λ r. ⌜ ((model : ℕ) (key : List ℕ) → spec.accept kind (deviceOf model key stage manifest (now (hashes .entry))) (now (flash .entry)) (now (message .entry)) ≡ record { device = deviceOf model key (r .stage) (r .manifest) (now (hashes .exit)); flash = now (flash .exit) }) ⌝ }
+    requires { ⌜ (length (now hashes) ≡ heldBytes) × (kind ≡ messages.kind (now message)) × Unrefused stage held (now hashes) (now flash) (now message) ⌝ }
+    ensures { λ r. ⌜ ((model : ℕ) (key : List ℕ) → spec.accept kind (deviceOf model key stage held (now (hashes .entry))) (now (flash .entry)) (now (message .entry)) ≡ record { device = deviceOf model key (r .stage) (r .manifest) (now (hashes .exit)); flash = now (flash .exit) }) ⌝ }
 {
     match kind {
         Kind::Program => accept_program(hashes, message),
-        Kind::Block => accept_block(stage, manifest, hashes, flash, message),
+        Kind::Block => accept_block(stage, held, hashes, flash, message),
         Kind::Update | Kind::PathUpdate => accept_update(stage, flash, message),
         // Never accepted; the definition has this arm too.
-        Kind::Unknown => Next { stage, manifest },
+        Kind::Unknown => Next {
+            stage,
+            manifest: held,
+        },
     }
 }
 
@@ -84,20 +87,20 @@ fn stage_after(n: usize, number: u16) -> Stage
 // Kind 2.
 fn accept_block(
     stage: Stage,
-    manifest: Manifest,
+    held: Manifest,
     hashes: &mut [u8],
     flash: &mut [u8],
     message: &[u8],
 ) -> Next
-    requires { ⌜ (length (now hashes) ≡ heldBytes) × (messages.kind (now message) ≡ kinds.Block) × Unrefused stage manifest (now hashes) (now flash) (now message) ⌝ }
-    ensures { λ r. ⌜ ((model : ℕ) (key : List ℕ) → acceptBlock (deviceOf model key stage manifest (now (hashes .entry))) (now (flash .entry)) (now (message .entry)) ≡ record { device = deviceOf model key (r .stage) (r .manifest) (now (hashes .exit)); flash = now (flash .exit) }) ⌝ }
+    requires { ⌜ (length (now hashes) ≡ heldBytes) × (messages.kind (now message) ≡ kinds.Block) × Unrefused stage held (now hashes) (now flash) (now message) ⌝ }
+    ensures { λ r. ⌜ ((model : ℕ) (key : List ℕ) → acceptBlock (deviceOf model key stage held (now (hashes .entry))) (now (flash .entry)) (now (message .entry)) ≡ record { device = deviceOf model key (r .stage) (r .manifest) (now (hashes .exit)); flash = now (flash .exit) }) ⌝ }
 {
     let next = next_of(stage);
-    let n = count(manifest);
-    let len = own_len(manifest, next);
+    let n = count(held);
+    let len = own_len(held, next);
     write_block(
         flash,
-        manifest.block_len as usize,
+        held.block_len as usize,
         next,
         wire::block_in(message, len),
     );
@@ -109,7 +112,7 @@ fn accept_block(
     );
     Next {
         stage: stage_after(n, next),
-        manifest,
+        manifest: held,
     }
 }
 

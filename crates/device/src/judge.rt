@@ -130,33 +130,27 @@ fn judge_program(
 }
 
 // Kind 2: 10, 8, 11, 12, 14, 19. The last block's message walks the whole tree; a damaged one does not come so far.
-fn judge_block(
-    stage: Stage,
-    manifest: Manifest,
-    hashes: &[u8],
-    flash: &[u8],
-    message: &[u8],
-) -> Answer
-    requires { ⌜ ((model : ℕ) (key : List ℕ) → spec.senseless (deviceOf model key stage manifest (now hashes)) ≡ false) × (length (now hashes) ≡ heldBytes) × (leastLength kinds.Block ≤ length (now message)) ⌝ }
-    ensures { λ r. ⌜ ((model : ℕ) (key : List ℕ) → r ≡ answerOf (firstThatApplies (ofBlock digest (deviceOf model key stage manifest (now (hashes .entry))) (now (flash .entry)) (now (message .entry)) (nextOf stage)))) ⌝ }
+fn judge_block(stage: Stage, held: Manifest, hashes: &[u8], flash: &[u8], message: &[u8]) -> Answer
+    requires { ⌜ ((model : ℕ) (key : List ℕ) → spec.senseless (deviceOf model key stage held (now hashes)) ≡ false) × (length (now hashes) ≡ heldBytes) × (leastLength kinds.Block ≤ length (now message)) ⌝ }
+    ensures { λ r. ⌜ ((model : ℕ) (key : List ℕ) → r ≡ answerOf (firstThatApplies (ofBlock digest (deviceOf model key stage held (now (hashes .entry))) (now (flash .entry)) (now (message .entry)) (nextOf stage)))) ⌝ }
 {
     if not_loading(stage) {
         return Answer::Refused(Refusal::Stage);
     }
     let next = next_of(stage);
-    if too_small(manifest, flash) {
+    if too_small(held, flash) {
         return Answer::Refused(Refusal::Area);
     }
     if not_next(next, message) {
         return Answer::Refused(Refusal::Turn);
     }
-    if wrong_length(manifest, next, message) {
+    if wrong_length(held, next, message) {
         return Answer::Refused(Refusal::Length);
     }
-    if mismatch(manifest, hashes, next, message) {
+    if mismatch(held, hashes, next, message) {
         return Answer::Refused(Refusal::Mismatch);
     }
-    if last_altered(manifest, next, flash, message) {
+    if last_altered(held, next, flash, message) {
         return Answer::Refused(Refusal::Altered);
     }
     Answer::Accepted
