@@ -29,7 +29,7 @@ use Rattle.machine.specs.Step.{accept, refusalOf, step}
 use Rattle.machine.specs.Readers.{acceptedBlocks}
 use Rattle.guarantee.specs.Demand3.{Sendable}
 use Rattle.machine.proofs.RefusalLaws.{program-passed}
-use Rattle.guarantee.proofs.RunLaws.{accepted-step}
+use Rattle.guarantee.proofs.DeviceLaws.{accepted-step}
 use Rattle.guarantee.proofs.SentLaws.{block-sent}
 use Rattle.guarantee.proofs.HonestLaws.{Here, next-accepted, next-here, first-here, is-complete, flash-is}
 use Rattle.machine.proofs.SenseLaws.{sense-idle}

@@ -13,6 +13,7 @@ use Rattle.machine.specs.Device.{freshWith}
 use Rattle.machine.specs.Readers.{numberOf}
 use Rattle.machine.specs.Step.{step}
 use Rattle.machine.specs.BootCheck.{bootCheck}
+use Rattle.guarantee.specs.Part.{whole}
 use Rattle.guarantee.specs.Run.{Messages, after, answerTo}
 use Rattle.guarantee.specs.Demand3.{Claim}
 use Rattle.capi.specs.State.{encode, decode}
@@ -46,7 +47,7 @@ module _ (model : ℕ) (key flash : List ℕ) (ms : Messages) where
     -- 0 is returned exactly where the device accepts
     pub zero : (m : List ℕ) → (returned (encode fresh) flash ms m ≡ 0) ↔ (answerTo (step digest valid) fresh flash ms m ≡ Accepted)
     -- of this device and flash demand 3 holds, whole
-    pub claim : Claim digest valid (step digest valid) fresh flash ms
+    pub claim : Claim digest valid (whole digest valid) (step digest valid) fresh flash ms
 
 -- For every model and key that C can hand over, every flash, and every list of messages.
 abbrev pub FromC : Type 0

@@ -5,36 +5,38 @@ use mathlib.Core.Bool.{Bool, true, false, _&&_, true≢false}
 use mathlib.Core.List.{List, []}
 use mathlib.Core.Option.{none, some}
 use Prim.Native.Nat.{ℕ, zero, suc, _≤_}
+use native.Mathlib.Omega.{arith}
 use lib.ListN.{length}
 use borrow.Author.Tests.{eqb-true, le-ltb, ltb-false, not-false}
 use Rattle.merkle.specs.Limits.{hashLength}
 use Rattle.wire.specs.declared.kind.Kind.{Kind}
 use Rattle.wire.specs.declared.kind.Kind.the-variants.{Program, Block, Update, PathUpdate, Unknown}
-use Rattle.wire.specs.declared.refusal.Refusal.{Refusal}
 use Rattle.wire.specs.declared.refusal.Refusal.the-variants as refusal
 use Rattle.wire.specs.Refusal.{firstThatApplies}
 use Rattle.wire.specs.Geometry.{treeOver}
-use Rattle.wire.specs.Message.{kind, manifestIn, updateNumber, dueLength, leastUpdate}
+use Rattle.wire.specs.Message.{kind, manifestIn, numberIn, updateNumber, dueLength, leastUpdate}
 use Rattle.wire.proofs.SizeLaws.{sized}
 use Rattle.machine.specs.declared.state.Stage.{Stage}
 use Rattle.machine.specs.declared.state.Stage.the-variants.{Idle, Loading, Complete}
 use Rattle.machine.specs.declared.state.Device.{Device}
 use Rattle.machine.specs.declared.state.Answer.the-variants.{Accepted, Refused}
-use Rattle.machine.specs.Device.{Fresh, nextOf, Situation, Outcome}
+use Rattle.machine.specs.Device.{Fresh, nextOf, OutcomeOf, Situation, Outcome}
 use Rattle.machine.specs.Flash.{stored, updated}
-use Rattle.machine.specs.Refusals.{senseless, tooSmall, notLoading, notComplete, wrongLength, mismatch, lastAltered, ofManifest, always, ofProgram, ofBlock, ofSuccessor, ofUpdate, ofPathUpdate, ofKind, refusals}
+use Rattle.machine.specs.Refusals.{senseless, tooSmall, notLoading, notComplete, notNext, wrongLength, mismatch, lacksRoot, lastAltered, ofManifest, always, ofProgram, ofBlock, ofSuccessor, ofUpdate, ofPathUpdate, ofKind, refusals}
 use Rattle.machine.specs.Step.{acceptBlock, acceptUpdate, accept, answerOf, refusalOf, step}
 use Rattle.machine.specs.BootCheck.{ofBoot, bootCheck}
-use Rattle.machine.proofs.RefusalLaws.{testOf, ahead, behind, clear, answer-none, start, _past_, has-root, lacks-none, Successor, block-passed, update-passed, path-passed, path-block}
+use Rattle.machine.proofs.RefusalLaws.{testOf, ahead, behind, clear, answer-none, answer-some, start, _past_, has-root, lacks-none, Successor, block-passed, update-passed, path-passed, path-block}
 use Rattle.machine.proofs.SenseLaws.{not-complete, complete-size, sense-complete}
-use Rattle.guarantee.specs.Run.{Messages, answerTo}
-use Rattle.guarantee.specs.Demand3.{Clash, Misled}
+use Rattle.guarantee.specs.Part.{Part, whole}
+use Rattle.guarantee.specs.Run.{Growing, Messages, after, answerTo}
+use Rattle.guarantee.specs.Demand3.{Clash, Misled, FirstHalf}
 use Rattle.guarantee.specs.OneCall.{Rooted}
-use Rattle.guarantee.specs.Altered.{BootProves, BootAfter, BootKept, NobodyElse}
+use Rattle.guarantee.specs.Altered.{BootProves, BootAfter, BootKept, Untouched, NobodyElse}
 use Rattle.machine.proofs.TestLaws.{lacks, never, its-own}
 use Rattle.guarantee.proofs.PathLaws.{path-tree}
 use Rattle.guarantee.proofs.InvariantLaws.{length-updated, Holds, last-loaded}
-use Rattle.guarantee.proofs.RunLaws.{accepted-step, now, taken, some-at, unrefused}
+use Rattle.guarantee.proofs.RunLaws.{Serves, now, taken}
+use Rattle.guarantee.proofs.DeviceLaws.{accepted-step, serves, answered, unrefused}
 use Rattle.guarantee.proofs.FirstHalf.{bound-image, invariant, first-half}
 use Rattle.guarantee.proofs.Demand3Holds.{demand3-for}
 use Rattle.guarantee.proofs.RecoveryHolds.{makes-sense}
@@ -106,76 +108,104 @@ not-both : (s t : Bool) → (s ≡ true → t ≡ false) → s && t ≡ false
 not-both true t e = e refl
 not-both false t e = refl
 
--- a list from a fresh device, and one message more
-module _ (H : List ℕ → List ℕ) (hash-long : (x : List ℕ) → length (H x) ≡ hashLength) (valid : (key message signature : List ℕ) → Bool) (d : Device) (fresh : Fresh d)
-    (flash : List ℕ) (ms : Messages) where
+-- What a message passed that finds the flash altered: a last block up to 14, or an update up to 8.
+pub data Found (H : List ℕ → List ℕ) (d : Device) (flash m : List ℕ) : Type 0 where
+  at-block : kind m ≡ Block → notLoading (d .stage) ≡ false → numberIn m ≡ nextOf (d .stage)
+      → length m ≡ dueLength (d .manifest .«block_len») (d .manifest .«image_len») (nextOf (d .stage)) → mismatch H d (nextOf (d .stage)) m ≡ false
+      → lastAltered H (d .manifest) (nextOf (d .stage)) flash m ≡ true → Found H d flash m
+  at-update : kind m ≡ Update → notComplete (d .stage) ≡ false → lacksRoot H (d .manifest) flash ≡ true → Found H d flash m
+
+module _ (H : List ℕ → List ℕ) (valid : (key message signature : List ℕ) → Bool) (d : Device) (flash m : List ℕ) where
+  -- 19 is the first of the refusals of kind k
+  abbrev First : Kind → Type 0
+  First k = firstThatApplies (refusals H valid k d flash m) ≡ some refusal.Altered
+
+  found-block : kind m ≡ Block → First Block → Found H d flash m
+  unfolding refusals always ofKind ofBlock lacks testOf ahead notNext wrongLength
+  found-block e f =
+      let before = ahead refusal.Altered (refusals H valid Block d flash m) in
+      let o = its-own refusal.Altered before [] _ refl refl f in
+      at-block e (clear refusal.Stage before (o .0)) (eqb-true _ _ (not-false _ (clear refusal.Turn before (o .0)))) (eqb-true _ _ (not-false _ (clear refusal.Length before (o .0))))
+      (clear refusal.Mismatch before (o .0)) (o .1)
+
+  found-update : kind m ≡ Update → First Update → Found H d flash m
+  unfolding refusals always ofKind ofManifest ofSuccessor ofUpdate lacks testOf ahead behind
+  found-update e f =
+      let before = ahead refusal.Altered (refusals H valid Update d flash m) in
+      let o = its-own refusal.Altered before (behind refusal.Altered (refusals H valid Update d flash m)) _ refl refl f in
+      at-update e (clear refusal.Stage before (o .0)) (o .1)
+
+  by-kind : (k : Kind) → kind m ≡ k → First k → Found H d flash m
+  unfolding refusals always ofKind ofManifest ofProgram ofSuccessor ofPathUpdate lacks
+  by-kind Program e f = absurd (never refusal.Altered _ refl f)
+  by-kind Block e f = found-block e f
+  by-kind Update e f = found-update e f
+  by-kind PathUpdate e f = absurd (never refusal.Altered _ refl f)
+  by-kind Unknown e f = absurd (never refusal.Altered _ refl f)
+
+  pub found : refusalOf H valid d flash m ≡ some refusal.Altered → Found H d flash m
+  unfolding refusalOf
+  found a = by-kind (kind m) refl a
+
+-- A list from a fresh device, for one part of any step; `finds` is what its refusals owe.
+module _ (H : List ℕ → List ℕ) (hash-long : (x : List ℕ) → length (H x) ≡ hashLength) (valid : (key message signature : List ℕ) → Bool) {D F C : Type 0} (part : Part D F C)
+    (step : D → F → C → OutcomeOf D F) (serves : Serves H valid part step)
+    (finds : (d : D) (f : F) (c : C) → part .names c ≡ true → step d f c .answer ≡ Refused refusal.Altered → Found H (part .device d) (part .flash f) (part .message c))
+    (d : D) (fresh : Fresh (part .device d)) (flash : F) (cs : Growing C) where
   abbrev at : Situation
-  at = now H valid d flash ms
+  at = now H valid part step d flash serves cs
 
   abbrev list : Messages
-  list = taken H valid d flash ms
+  list = taken H valid part step d flash serves cs
 
-  module _ (m : List ℕ) where
-    -- its refusals
-    abbrev of : Kind → List (Refusal × Bool)
-    of k = refusals H valid k (at .device) (at .flash) m
+  first : FirstHalf H valid part step d flash cs
+  first = first-half H hash-long valid part step d flash serves fresh cs
 
-    -- a block that passed up to 14: where it is the last, the flash with it has the root
-    whole : kind m ≡ Block → notLoading (at .device .stage) ≡ false
-        → length m ≡ dueLength (at .device .manifest .«block_len») (at .device .manifest .«image_len») (nextOf (at .device .stage))
-        → mismatch H (at .device) (nextOf (at .device .stage)) m ≡ false
-        → lastAltered H (at .device .manifest) (nextOf (at .device .stage)) (at .flash) m ≡ false
-    unfolding lastAltered stored nextOf notLoading
-    whole e loading long same = go (at .device .stage) refl (invariant H hash-long valid d flash fresh ms .holds)
-      where
-        go : (t : Stage) → at .device .stage ≡ t → Holds H valid (d .key) t (at .device .manifest) (at .device .hashes) (at .flash) list
-            → lastAltered H (at .device .manifest) (nextOf (at .device .stage)) (at .flash) m ≡ false
-        go Idle q w = absurd (true≢false (rw q at loading))
-        go (Loading zero) q w = absurd w
-        go (Loading (suc k)) q w =
-            let l = rw q at long in
-            let f = subst (λ i. mismatch H (at .device) i m ≡ false) (ap nextOf q) same in
-            rw q
-            (not-both _ _ (λ n. lacks-none H (at .device .manifest) _ (last-loaded H valid (d .key) hash-long (at .device) (at .flash) m list k e q l f w (eqb-true _ _ n))))
-        go Complete q w = absurd (true≢false (rw q at loading))
+  -- a block that passed up to 14: where it is the last, the flash with it has the root
+  whole-last : (m : List ℕ) → kind m ≡ Block → notLoading (at .device .stage) ≡ false → numberIn m ≡ nextOf (at .device .stage)
+      → length m ≡ dueLength (at .device .manifest .«block_len») (at .device .manifest .«image_len») (nextOf (at .device .stage))
+      → mismatch H (at .device) (nextOf (at .device .stage)) m ≡ false → lastAltered H (at .device .manifest) (nextOf (at .device .stage)) (at .flash) m ≡ false
+  unfolding lastAltered stored nextOf notLoading
+  whole-last m e loading turn long same = go (at .device .stage) refl (invariant H hash-long valid part step d flash serves fresh cs .holds)
+    where
+      go : (t : Stage) → at .device .stage ≡ t → Holds H valid (part .device d .key) t (at .device .manifest) (at .device .hashes) (at .flash) list
+          → lastAltered H (at .device .manifest) (nextOf (at .device .stage)) (at .flash) m ≡ false
+      go Idle q w = absurd (true≢false (rw q at loading))
+      go (Loading zero) q w = absurd w
+      go (Loading (suc k)) q w =
+          let l = rw q at long in
+          let f = subst (λ i. mismatch H (at .device) i m ≡ false) (ap nextOf q) same in
+          rw q
+          (not-both _ _
+          (λ n. lacks-none H (at .device .manifest) _ (last-loaded H valid (part .device d .key) hash-long (at .device) (at .flash) m list k e q l f w (eqb-true _ _ n))))
+      go Complete q w = absurd (true≢false (rw q at loading))
 
-    module _ (a : answerTo (step H valid) d flash ms m ≡ Refused refusal.Altered) where
-      found : (k : Kind) → kind m ≡ k → firstThatApplies (of k) ≡ some refusal.Altered
-      unfolding refusalOf
-      found k e = subst (λ x. firstThatApplies (of x) ≡ some refusal.Altered) e (some-at H valid d flash ms m refusal.Altered a)
+  no-block : (m : List ℕ) → kind m ≡ Block → Found H (at .device) (at .flash) m → ⊥
+  no-block m e (at-block k loading turn long same altered) = true≢false (sym altered ∙ whole-last m k loading turn long same)
+  no-block m e (at-update k complete lacks) = let z : _≡_ {A = ℕ} 0 1 = cc in omega arith
 
-      no-block : kind m ≡ Block → ⊥
-      unfolding refusals always ofKind ofBlock lacks testOf ahead wrongLength
-      no-block e =
-          let before = ahead refusal.Altered (of Block) in
-          let o = its-own refusal.Altered before [] _ refl refl (found Block e) in
-          let sent = eqb-true _ _ (not-false _ (clear refusal.Length before (o .0))) in
-          true≢false (sym (o .1) ∙ whole e (clear refusal.Stage before (o .0)) sent (clear refusal.Mismatch before (o .0)))
+  misled : (m : List ℕ) → Found H (at .device) (at .flash) m → Misled H valid part step d flash cs
+  misled m (at-block k loading turn long same altered) = absurd (no-block m k (at-block k loading turn long same altered))
+  misled m (at-update k complete lacks) =
+      ⊎-elim (λ t. absurd (true≢false (sym lacks ∙ lacks-none H _ _ (t .rooted)))) (λ w. w) (first .bound (first .exactly .0 (not-complete _ complete)) .tree)
 
-      misled : (k : Kind) → kind m ≡ k → Misled H valid (step H valid) d flash ms
-      unfolding refusals always ofKind ofManifest ofProgram ofSuccessor ofUpdate ofPathUpdate lacks testOf ahead behind
-      misled Program e = absurd (never refusal.Altered (of Program) refl (found Program e))
-      misled Block e = absurd (no-block e)
-      misled Update e =
-          let before = ahead refusal.Altered (of Update) in
-          let o = its-own refusal.Altered before (behind refusal.Altered (of Update)) _ refl refl (found Update e) in
-          let first = first-half H hash-long valid d fresh flash ms in
-          let c = first .exactly .0 (not-complete _ (clear refusal.Stage before (o .0))) in
-          ⊎-elim (λ t. absurd (true≢false (sym (o .1) ∙ lacks-none H _ _ (t .rooted)))) (λ w. w) (first .bound c .tree)
-      misled PathUpdate e = absurd (never refusal.Altered (of PathUpdate) refl (found PathUpdate e))
-      misled Unknown e = absurd (never refusal.Altered (of Unknown) refl (found Unknown e))
-
-  still-boots : at .device .stage ≡ Complete → (bootCheck H (at .device) (at .flash) ≡ Accepted) ⊎ Misled H valid (step H valid) d flash ms
-  still-boots c =
-      let first = first-half H hash-long valid d fresh flash ms in
+  still-boots : senseless (at .device) ≡ false → at .device .stage ≡ Complete → (bootCheck H (at .device) (at .flash) ≡ Accepted) ⊎ Misled H valid part step d flash cs
+  still-boots sense c =
       let b = first .bound (first .exactly .0 c) in
-      let sense = makes-sense H valid (step H valid) (demand3-for H hash-long valid) d fresh flash ms in
       ⊎-elim (λ t. inl (boots H (at .device) (at .flash) sense c (record { room = b .room; root = t .rooted }))) (λ w. inr w) (b .tree)
 
-pub nobody-else : (H : List ℕ → List ℕ) → ((x : List ℕ) → length (H x) ≡ hashLength) → (valid : (key message signature : List ℕ) → Bool) → NobodyElse H valid
+  pub untouched : senseless (at .device) ≡ false → Untouched H valid part step d flash cs
+  unfolding answerTo
+  untouched sense =
+      let s = after step d flash cs in
+      record {
+        block = λ c n k a. no-block (part .message c) k (finds (s .device) (s .flash) c n a);
+        update = λ c n a. misled (part .message c) (finds (s .device) (s .flash) c n a);
+        boot = still-boots sense;
+      }
+
+pub nobody-else : (H : List ℕ → List ℕ) → ((x : List ℕ) → length (H x) ≡ hashLength) → (valid : (key message signature : List ℕ) → Bool) → NobodyElse H valid (whole H valid) (step H valid)
 nobody-else H hash-long valid d fresh flash ms =
-    record {
-      block = λ m k a. no-block H hash-long valid d fresh flash ms m a k;
-      update = λ m a. misled H hash-long valid d fresh flash ms m a (kind m) refl;
-      boot = still-boots H hash-long valid d fresh flash ms;
-    }
+    untouched H hash-long valid (whole H valid) (step H valid) (serves H valid)
+    (λ d f m n a. found H valid d f m (answer-some _ _ (sym (answered H valid d f m) ∙ a))) d fresh flash ms
+    (makes-sense H valid (step H valid) (demand3-for H hash-long valid) d fresh flash ms)

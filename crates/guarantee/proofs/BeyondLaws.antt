@@ -1,24 +1,23 @@
 -- No message writes behind the program: an accepted one leaves the bytes behind that of the manifest which the device then has.
-use mathlib.Core.Path.{_≡_, refl}
+use mathlib.Core.Path.{_≡_, refl, sym, subst}
 use mathlib.Core.Bool.{Bool}
 use mathlib.Core.List.{List}
-use mathlib.Core.Option.{Option, none, some}
 use Prim.Native.Nat.{ℕ, zero, suc, _≤_, _<_}
 use native.Mathlib.Omega.{arith}
 use lib.ListN.{length, drop}
 use Rattle.wire.specs.declared.manifest.Manifest.{Manifest}
-use Rattle.wire.specs.declared.refusal.Refusal.{Refusal}
 use Rattle.wire.specs.Geometry.{countOf, blockLength, withBlock}
 use Rattle.wire.specs.Message.{kind, manifestIn, blockIn, updateNumber, updateBlock, dueLength, leastUpdate}
 use Rattle.wire.proofs.GeometryLaws.{with-behind}
 use Rattle.wire.proofs.MessageLaws.{length-block, length-update-block}
 use Rattle.machine.specs.declared.state.Device.{Device}
-use Rattle.machine.specs.Device.{nextOf, Situation}
+use Rattle.machine.specs.Device.{nextOf, OutcomeOf, Situation}
 use Rattle.machine.specs.Flash.{stored, updated}
 use Rattle.machine.specs.Step.{acceptProgram, acceptBlock, acceptUpdate, accept}
-use Rattle.machine.proofs.RefusalLaws.{BlockPassed, Successor, path-block, Passed, took-program, took-block, took-update, took-path, passed}
-use Rattle.guarantee.specs.Run.{Messages, _▷_}
-use Rattle.guarantee.proofs.RunLaws.{now, refusalAt, more, same}
+use Rattle.machine.proofs.RefusalLaws.{BlockPassed, Successor, path-block, Passed, took-program, took-block, took-update, took-path}
+use Rattle.guarantee.specs.Part.{Part}
+use Rattle.guarantee.specs.Run.{Growing, _▷_}
+use Rattle.guarantee.proofs.RunLaws.{Serves, now, more, Does, takes, stays, does}
 
 -- block i, from 1, of k bytes
 behind-block : (s : Manifest) (i : ℕ) (flash x : List ℕ) → 0 < i → i ≤ countOf s → s .«image_len» ≤ length flash → length x ≡ blockLength (s .«block_len») (s .«image_len») i
@@ -54,14 +53,18 @@ module _ (H : List ℕ → List ℕ) (valid : (key message signature : List ℕ)
     kept (took-update q p) = rw q (kept-update (p .successor) (p .successor .long))
     kept (took-path q p) = rw q (kept-update (p .successor) (path-block H valid d flash m p))
 
-  pub beyond : (d : Device) (flash : List ℕ) (ms : Messages) (m : List ℕ)
-      → (let s = now H valid d flash (ms ▷ m) .device .manifest in drop (s .«image_len») (now H valid d flash (ms ▷ m) .flash) ≡ drop (s .«image_len») (now H valid d flash ms .flash))
-  beyond d flash ms m = go (refusalAt H valid d flash ms m) refl
-    where
-      at : Situation
-      at = now H valid d flash ms
+module _ (H : List ℕ → List ℕ) (valid : (key message signature : List ℕ) → Bool) {D F C : Type 0} (part : Part D F C) (step : D → F → C → OutcomeOf D F) (d : D) (flash : F)
+    (serves : Serves H valid part step) (cs : Growing C) (c : C) where
+  abbrev at : Growing C → Situation
+  at cs = now H valid part step d flash serves cs
 
-      go : (r : Option Refusal) → refusalAt H valid d flash ms m ≡ r
-          → (let s = now H valid d flash (ms ▷ m) .device .manifest in drop (s .«image_len») (now H valid d flash (ms ▷ m) .flash) ≡ drop (s .«image_len») (now H valid d flash ms .flash))
-      go none e = rw (more H valid d flash ms m e .after-is) (kept (at .device) (at .flash) m (passed H valid (at .device) (at .flash) m e))
-      go (some r) e = rw (same H valid d flash ms m r e .after-is)
+  pub beyond : drop (at (cs ▷ c) .device .manifest .«image_len») (at (cs ▷ c) .flash) ≡ drop (at (cs ▷ c) .device .manifest .«image_len») (at cs .flash)
+  beyond = go (does H valid part step d flash serves cs c)
+    where
+      go : Does H valid part step d flash serves cs c → drop (at (cs ▷ c) .device .manifest .«image_len») (at (cs ▷ c) .flash) ≡ drop (at (cs ▷ c) .device .manifest .«image_len») (at cs .flash)
+      go (takes n e) =
+          let a = more H valid part step d flash serves cs c n e in
+          subst (λ (s : Situation). drop (s .device .manifest .«image_len») (s .flash) ≡ drop (s .device .manifest .«image_len») (at cs .flash)) (sym (a .after-is))
+          (kept H valid (at cs .device) (at cs .flash) (part .message c) (a .passed))
+      go (stays n a) =
+          subst (λ (s : Situation). drop (s .device .manifest .«image_len») (s .flash) ≡ drop (s .device .manifest .«image_len») (at cs .flash)) (sym (a .after-is)) refl

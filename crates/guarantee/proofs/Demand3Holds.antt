@@ -8,16 +8,27 @@ use Rattle.merkle.specs.Limits.{hashLength}
 use Rattle.sha256.specs.Sha256.{digest}
 use Rattle.sha256.proofs.DigestLaws.{length-digest}
 use Rattle.lms.specs.Lms.{valid}
+use Rattle.machine.specs.Device.{OutcomeOf, Fresh}
 use Rattle.machine.specs.Step.{step}
-use Rattle.guarantee.specs.Demand3.{Demand3}
-use Rattle.guarantee.proofs.RunLaws.{calls}
+use Rattle.guarantee.specs.Part.{Part, whole}
+use Rattle.guarantee.specs.Run.{Growing}
+use Rattle.guarantee.specs.Demand3.{Calls, Claim, Demand3}
+use Rattle.guarantee.proofs.RunLaws.{Serves}
 use Rattle.guarantee.proofs.FirstHalf.{first-half}
-use Rattle.guarantee.proofs.SecondHalf.{second-half}
+use Rattle.guarantee.proofs.SecondHalf.{Willing, second-half}
+use Rattle.guarantee.proofs.DeviceLaws.{serves, willing, calls}
+
+-- of one part of any device
+pub claim-for : (H : List ℕ → List ℕ) → ((x : List ℕ) → length (H x) ≡ hashLength) → (verdict : (key message signature : List ℕ) → Bool) {D F C : Type 0} (part : Part D F C)
+    (any : D → F → C → OutcomeOf D F) → Serves H verdict part any → (d : D) → Fresh (part .device d) → (flash : F) → Willing H verdict part any d flash
+    → (cs : Growing C) → Calls H verdict part any d flash cs → Claim H verdict part any d flash cs
+claim-for H hash-long verdict part any serves d fresh flash willing cs calls =
+    record { calls = calls; first = first-half H hash-long verdict part any d flash serves fresh cs; second = second-half H hash-long verdict part any d flash serves willing cs }
 
 -- for any hash function of 32 bytes and any verdict on signatures
 pub demand3-for : (H : List ℕ → List ℕ) → ((x : List ℕ) → length (H x) ≡ hashLength) → (verdict : (key message signature : List ℕ) → Bool) → Demand3 H verdict (step H verdict)
 demand3-for H hash-long verdict d fresh flash ms =
-    record { calls = calls H verdict d flash ms; first = first-half H hash-long verdict d fresh flash ms; second = second-half H hash-long verdict d flash ms }
+    claim-for H hash-long verdict (whole H verdict) (step H verdict) (serves H verdict) d fresh flash (willing H verdict d flash) ms (calls H verdict d flash ms)
 
 -- with SHA-256 and the verdict of RFC 8554
 pub demand3 : Demand3 digest valid (step digest valid)

@@ -1,7 +1,7 @@
 -- Demand 3, first half: what a complete device has.
 use mathlib.Core.Path.{_≡_, refl, sym, ap, _∙_, subst}
 use mathlib.Core.Logic.{_⊎_, inl, inr, ⊎-elim}
-use mathlib.Core.Bool.{Bool}
+use mathlib.Core.Bool.{Bool, true}
 use mathlib.Core.List.{List}
 use mathlib.Core.Option.{none, some}
 use Prim.Native.Nat.{ℕ, zero, suc, _*_, _<_}
@@ -25,16 +25,15 @@ use Rattle.wire.proofs.SizeLaws.{Sized}
 use Rattle.machine.specs.declared.state.Stage.{Stage}
 use Rattle.machine.specs.declared.state.Stage.the-variants.{Idle, Loading, Complete}
 use Rattle.machine.specs.declared.state.Device.{Device}
-use Rattle.machine.specs.declared.state.Answer.the-variants.{Refused}
-use Rattle.machine.specs.Device.{Fresh, Situation}
-use Rattle.machine.specs.Step.{answerOf, step}
-use Rattle.guarantee.specs.Run.{Messages, _▷_, answerTo, lastProgram, blocksSince, lastCarrier, Completed}
+use Rattle.machine.specs.declared.state.Answer.the-variants.{Accepted}
+use Rattle.machine.specs.Device.{Fresh, OutcomeOf, Situation}
+use Rattle.guarantee.specs.Part.{Part}
+use Rattle.guarantee.specs.Run.{Growing, Messages, _▷_, answerTo, lastProgram, blocksSince, lastCarrier, Completed}
 use Rattle.guarantee.specs.Demand3.{Clash, here, Misled, Bound, FirstHalf}
-use Rattle.machine.proofs.RefusalLaws.{passed}
 use Rattle.guarantee.proofs.InvariantLaws.{Carried, InComplete, Holds, Invariant, kept}
 use Rattle.guarantee.proofs.MisledLaws.{still-misled}
 use Rattle.guarantee.proofs.BeyondLaws.{beyond}
-use Rattle.guarantee.proofs.RunLaws.{now, taken, refusalAt, answered, every-list}
+use Rattle.guarantee.proofs.RunLaws.{Serves, now, taken, more, every-list}
 
 module _ (H : List ℕ → List ℕ) (hash-long : (x : List ℕ) → length (H x) ≡ hashLength) where
   -- an image of the program's length with its root is the start of the flash, or there is a collision
@@ -102,66 +101,65 @@ module _ (H : List ℕ → List ℕ) (valid : (key message signature : List ℕ)
   manifest-carried (Loading (suc k)) s array f ms w m e = carried-is ms s (w .carries) m e
   manifest-carried Complete s array f ms w m e = carried-is ms s (w .carries) m e
 
-module _ (H : List ℕ → List ℕ) (hash-long : (x : List ℕ) → length (H x) ≡ hashLength) (valid : (key message signature : List ℕ) → Bool) (d : Device) (flash : List ℕ) where
-  abbrev Misleads : Messages → Type 0
-  Misleads ms = Misled H valid (step H valid) d flash ms
+module _ (H : List ℕ → List ℕ) (hash-long : (x : List ℕ) → length (H x) ≡ hashLength) (valid : (key message signature : List ℕ) → Bool) {D F C : Type 0} (part : Part D F C)
+    (step : D → F → C → OutcomeOf D F) (d : D) (flash : F) (serves : Serves H valid part step) where
+  abbrev Misleads : Growing C → Type 0
+  Misleads cs = Misled H valid part step d flash cs
 
-  after-path : (ms : Messages) (m : List ℕ) → refusalAt H valid d flash ms m ≡ none → kind m ≡ PathUpdate → Clash H (now H valid d flash ms .flash) m ⊎ Misleads ms → Misleads (ms ▷ m)
-  unfolding answerOf
-  after-path ms m e q (inl c) = record { before = ms; message = m; path = q; taken = answered H valid d flash ms m ∙ ap answerOf e; since = here; clash = c }
-  after-path ms m e q (inr w) = still-misled H valid (step H valid) d flash ms m (λ t c. q) w
+  abbrev at : Growing C → Situation
+  at cs = now H valid part step d flash serves cs
 
-  pub invariant : Fresh d → (ms : Messages)
-      → Invariant H valid (d .key) (length flash) (now H valid d flash ms .device) (now H valid d flash ms .flash) (taken H valid d flash ms) (Misleads ms)
-  unfolding lastProgram lastCarrier answerOf
-  invariant fresh ms =
-      every-list H valid d flash (λ s taken ms. Invariant H valid (d .key) (length flash) (s .device) (s .flash) taken (Misleads ms))
-      (λ ms m v e.
-      let s : Situation = now H valid d flash ms in
-      kept H valid (d .key) hash-long (length flash) (s .device) (s .flash) m (taken H valid d flash ms) (Misleads ms) v (Misleads (ms ▷ m)) (after-path ms m e) (passed H valid (s .device) (s .flash) m e))
-      (λ ms m r v e.
-      let refused : answerTo (step H valid) d flash ms m ≡ Refused r = answered H valid d flash ms m ∙ ap answerOf e in
-      let stays = still-misled H valid (step H valid) d flash ms m (λ t c. absurd (let z : _≡_ {A = ℕ} 0 1 = cc in omega arith)) in
+  abbrev list : Growing C → Messages
+  list cs = taken H valid part step d flash serves cs
+
+  after-path : (cs : Growing C) (c : C) → part .names c ≡ true → answerTo step d flash cs c ≡ Accepted → kind (part .message c) ≡ PathUpdate
+      → Clash H (at cs .flash) (part .message c) ⊎ Misleads cs → Misleads (cs ▷ c)
+  after-path cs c n e q (inl x) = record { before = cs; call = c; path = q; taken = (n, e); since = here; clash = x }
+  after-path cs c n e q (inr w) = still-misled H valid part step d flash cs c (λ t x. q) w
+
+  pub invariant : Fresh (part .device d) → (cs : Growing C)
+      → Invariant H valid (part .device d .key) (length (part .flash flash)) (at cs .device) (at cs .flash) (list cs) (Misleads cs)
+  unfolding lastProgram lastCarrier
+  invariant fresh cs =
+      every-list H valid part step d flash serves (λ s taken cs. Invariant H valid (part .device d .key) (length (part .flash flash)) (s .device) (s .flash) taken (Misleads cs))
+      (λ cs c n e v.
+      kept H valid (part .device d .key) hash-long (length (part .flash flash)) (at cs .device) (at cs .flash) (part .message c) (list cs) (Misleads cs) v (Misleads (cs ▷ c))
+      (after-path cs c n e) (more H valid part step d flash serves cs c n e .passed))
+      (λ cs c n v.
+      let stays = still-misled H valid part step d flash cs c (λ t x. absurd (n (t .0) (t .1))) in
       record { same = v .same; long = v .long; holds = v .holds; tree = λ c. ⊎-elim (λ r. inl r) (λ w. inr (stays w)) (v .tree c) })
-      (record { same = refl; long = refl; holds = rw (fresh .idle) (refl, refl); tree = λ c. absurd (let f = fresh .idle in let z : _≡_ {A = ℕ} 0 1 = cc in omega arith) }) ms
+      (record { same = refl; long = refl; holds = rw (fresh .idle) (refl, refl); tree = λ c. absurd (let f = fresh .idle in let z : _≡_ {A = ℕ} 0 1 = cc in omega arith) }) cs
 
-module _ (H : List ℕ → List ℕ) (hash-long : (x : List ℕ) → length (H x) ≡ hashLength) (valid : (key message signature : List ℕ) → Bool) (d : Device) (fresh : Fresh d)
-    (flash : List ℕ) (ms : Messages) where
-  abbrev at : Situation
-  at = now H valid d flash ms
+  module _ (fresh : Fresh (part .device d)) (cs : Growing C) where
+    holds : Holds H valid (part .device d .key) (at cs .device .stage) (at cs .device .manifest) (at cs .device .hashes) (at cs .flash) (list cs)
+    holds = invariant fresh cs .holds
 
-  abbrev list : Messages
-  list = taken H valid d flash ms
+    in-complete : at cs .device .stage ≡ Complete → InComplete H valid (part .device d .key) (at cs .device .manifest) (at cs .flash) (list cs)
+    in-complete e = subst (λ t. Holds H valid (part .device d .key) t (at cs .device .manifest) (at cs .device .hashes) (at cs .flash) (list cs)) e holds
 
-  holds : Holds H valid (d .key) (at .device .stage) (at .device .manifest) (at .device .hashes) (at .flash) list
-  holds = invariant H hash-long valid d flash fresh ms .holds
+    stage-is : Completed (list cs) → at cs .device .stage ≡ Complete
+    stage-is c = stage-complete H valid (part .device d) (at cs .device .stage) (at cs .device .manifest) (at cs .device .hashes) (at cs .flash) (list cs) holds c
 
-  in-complete : at .device .stage ≡ Complete → InComplete H valid (d .key) (at .device .manifest) (at .flash) list
-  in-complete e = subst (λ t. Holds H valid (d .key) t (at .device .manifest) (at .device .hashes) (at .flash) list) e holds
+    bound : Completed (list cs) → Bound H valid part step d flash cs (at cs .device .manifest) (at cs .flash)
+    bound c =
+        let w = in-complete (stage-is c) in
+        record {
+          carrier = w .carries .carrier;
+          last = w .carries .last;
+          signed = w .carries .signed;
+          room = w .room;
+          tree = ⊎-elim (λ r. inl (record { rooted = r; image = λ x lx e. bound-image H hash-long (at cs .device .manifest) (at cs .flash) x (w .size) r lx e })) (λ c. inr c)
+              (invariant fresh cs .tree (stage-is c));
+        }
 
-  stage-is : Completed list → at .device .stage ≡ Complete
-  stage-is c = stage-complete H valid d (at .device .stage) (at .device .manifest) (at .device .hashes) (at .flash) list holds c
-
-  bound : Completed list → Bound H valid (step H valid) d flash ms (at .device .manifest) (at .flash)
-  bound c =
-      let w = in-complete (stage-is c) in
-      record {
-        carrier = w .carries .carrier;
-        last = w .carries .last;
-        signed = w .carries .signed;
-        room = w .room;
-        tree = ⊎-elim (λ r. inl (record { rooted = r; image = λ x lx e. bound-image H hash-long (at .device .manifest) (at .flash) x (w .size) r lx e })) (λ c. inr c)
-            (invariant H hash-long valid d flash fresh ms .tree (stage-is c));
-      }
-
-  pub first-half : FirstHalf H valid (step H valid) d flash ms
-  first-half =
-      record {
-        manifest = manifest-carried H valid d (at .device .stage) (at .device .manifest) (at .device .hashes) (at .flash) list holds;
-        exactly = (λ e. let w = in-complete e in record { manifest = w .first; last = w .last; all = w .all }, stage-is);
-        idle = stage-idle H valid d (at .device .stage) (at .device .manifest) (at .device .hashes) (at .flash) list holds;
-        loading = stage-loading H valid d (at .device .stage) (at .device .manifest) (at .device .hashes) (at .flash) list holds;
-        one = invariant H hash-long valid d flash fresh ms .long;
-        beyond = beyond H valid d flash ms;
-        bound = bound;
-      }
+    pub first-half : FirstHalf H valid part step d flash cs
+    first-half =
+        record {
+          manifest = manifest-carried H valid (part .device d) (at cs .device .stage) (at cs .device .manifest) (at cs .device .hashes) (at cs .flash) (list cs) holds;
+          exactly = (λ e. let w = in-complete e in record { manifest = w .first; last = w .last; all = w .all }, stage-is);
+          idle = stage-idle H valid (part .device d) (at cs .device .stage) (at cs .device .manifest) (at cs .device .hashes) (at cs .flash) (list cs) holds;
+          loading = stage-loading H valid (part .device d) (at cs .device .stage) (at cs .device .manifest) (at cs .device .hashes) (at cs .flash) (list cs) holds;
+          one = invariant fresh cs .long;
+          beyond = λ c. beyond H valid part step d flash serves cs c;
+          bound = bound;
+        }

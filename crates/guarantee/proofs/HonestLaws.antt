@@ -133,7 +133,7 @@ module _ (H : List ℕ → List ℕ) (hash-long : (x : List ℕ) → length (H x
             let is = next-flash h ∙ ap (λ y. atStart y old) (all-taken (suc j) e) in
             rw (eq-eqb (suc j) (count (job .image)) e) (lacks-none H (manifestFor H job) _ (ap (treeOver H (manifestFor H job)) is ∙ image-rooted H job old))
 
-    next-due : j < count (job .image) → NextDue H valid (s .device) (s .flash) (blockFor H (job .image) (suc j))
+    pub next-due : j < count (job .image) → NextDue H valid (s .device) (s .flash) (blockFor H (job .image) (suc j))
     next-due h =
         subst (λ d. NextDue H valid d (s .flash) (blockFor H (job .image) (suc j))) (sym (is-loading h))
         (is-due j (s .device .hashes) h (w .array) (w .holds) (s .device .model) (s .device .key) (s .flash) room-now (next-whole h))

@@ -2,6 +2,7 @@ pub mod PathLaws
 pub mod InvariantLaws
 pub mod MisledLaws
 pub mod RunLaws
+pub mod ChoiceLaws
 pub mod BeyondLaws
 pub mod BehindHolds
 pub mod FirstHalf
@@ -9,6 +10,7 @@ pub mod SentLaws
 pub mod ProgramLaws
 pub mod HonestLaws
 pub mod SecondHalf
+pub mod DeviceLaws
 pub mod Demand3Holds
 pub mod OneCallHolds
 pub mod RecoveryHolds

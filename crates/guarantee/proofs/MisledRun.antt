@@ -17,6 +17,7 @@ use Rattle.machine.specs.declared.state.Answer.the-variants.{Refused}
 use Rattle.machine.specs.Device.{Situation}
 use Rattle.machine.specs.Step.{step}
 use Rattle.machine.specs.BootCheck.{bootCheck}
+use Rattle.guarantee.specs.Part.{whole}
 use Rattle.guarantee.specs.Run.{Messages, empty, _▷_, after, answerTo}
 use Rattle.guarantee.specs.Demand3.{here, Misled}
 use Rattle.guarantee.proofs.Toy.{Step, any, fresh, flash, manifestWith, computing}
@@ -44,15 +45,15 @@ message = pathMessage (manifestWith 2 (weakHash 2)) 1 (replicate 64 1) (weakHash
 
 pub second-case : (let now : Situation = after device fresh flash (before ▷ message) in
     (now .device .stage ≡ Complete) × (equal (treeOver weak (now .device .manifest) (now .flash)) (now .device .manifest .root) ≡ false))
-    × Misled weak any device fresh flash (before ▷ message)
+    × Misled weak any (whole weak any) device fresh flash (before ▷ message)
 unfolding computing weakHash weak device pair before message
 second-case = (
   (refl, refl),
   record {
     before = before;
-    message = message;
+    call = message;
     path = refl;
-    taken = refl;
+    taken = (refl, refl);
     since = here;
     clash = record {
       place = (0, node leaf leaf);

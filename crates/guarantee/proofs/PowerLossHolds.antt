@@ -38,7 +38,7 @@ use Rattle.guarantee.specs.Run.{Messages, empty, _▷_, after, answerTo,
 use Rattle.guarantee.specs.PowerLoss.{OnlyBlocks, Agree, SameLoad, TornLoad, TornUpdate, PathReads, TornPath}
 use Rattle.machine.proofs.TestLaws.{same-behind, next-test}
 use Rattle.guarantee.proofs.FirstHalf.{bound-image}
-use Rattle.guarantee.proofs.RunLaws.{now, refusalAt, answered, more, same, unrefused}
+use Rattle.guarantee.proofs.DeviceLaws.{answered, unrefused, now, refusalAt, answered-at, after-accepted, after-refused}
 
 -- Two flashes that have the manifest's tree have the same program, or their trees collide.
 one-tree : (H : List ℕ → List ℕ) → ((x : List ℕ) → length (H x) ≡ hashLength) → (s : Manifest) (f g : List ℕ) → Sized (s .«block_len») (s .«image_len») → s .«image_len» ≤ length f
@@ -65,7 +65,7 @@ torn-update H hash-long valid d f g m k long ok =
     let e : refusalOf H valid d f m ≡ none = unrefused H valid d f m ok in
     let p = update-passed H valid d f m k e in
     let q = alike-lengths (manifestIn m) (d .manifest) (p .successor .alike) in
-    ⊎-elim (λ r. inl (answered H valid d g empty m ∙ ap answerOf r))
+    ⊎-elim (λ r. inl (answered H valid d g m ∙ ap answerOf r))
     (λ r. inr (one-tree H hash-long (d .manifest) f g (rw (q .0, q .1) at (p .successor .size)) (rw (q .1) at (p .successor .room)) (p .intact) r))
     (altered-or-rooted H valid d f g m k long e)
 
@@ -112,8 +112,8 @@ torn-path H valid d f g m k long ok =
     let s : Manifest = manifestIn m in
     let i : ℕ = pred (updateNumber m) in
     let root : (x : List ℕ) → refusalOf H valid d x m ≡ none → ledTo H valid d x m (blocksOf s x i) ≡ d .manifest .root = λ x e. path-passed H valid d x m k e .old in
-    ⊎-elim (λ q. inl (answered H valid d g empty m ∙ ap answerOf q))
-    (λ q. inr (answered H valid d g empty m ∙ ap answerOf q, two-paths (plain H) 0 (shape (countOf s)) i (blocksOf s f i) (blocksOf s g i) (siblingsIn m) (root f e ∙ sym (root g q))))
+    ⊎-elim (λ q. inl (answered H valid d g m ∙ ap answerOf q))
+    (λ q. inr (answered H valid d g m ∙ ap answerOf q, two-paths (plain H) 0 (shape (countOf s)) i (blocksOf s f i) (blocksOf s g i) (siblingsIn m) (root f e ∙ sym (root g q))))
     (path-or-none H valid d f g m k long e)
 
 -- Two situations of the same run over different flashes: both wait for block k + 1, or both are complete and the same.
@@ -237,9 +237,9 @@ module _ (H : List ℕ → List ℕ) (valid : (key message signature : List ℕ)
         go none h =
             let p = block-passed H valid (over-f ms .device) (over-f ms .flash) m e h in
             let w = block-together (over-f ms .device) k (over-f ms .flash) (over-g ms .flash) m t agree p in
-            rw (more H valid d f ms m h .after-is, more H valid d g ms m (sym both ∙ h) .after-is, e, accept)
+            rw (after-accepted H valid d f ms m h, after-accepted H valid d g ms m (sym both ∙ h), e, accept)
             (subst (λ (x : Device). Together (acceptBlock (over-f ms .device) (over-f ms .flash) m) (acceptBlock x (over-g ms .flash) m)) q w)
-        go (some r) h = rw (same H valid d f ms m r h .after-is, same H valid d g ms m r (sym both ∙ h) .after-is) (waits k q t agree)
+        go (some r) h = rw (after-refused H valid d f ms m r h, after-refused H valid d g ms m r (sym both ∙ h)) (waits k q t agree)
     one-more ms m e (done q t) = go (refusalAt H valid d f ms m) refl
       where
         both : refusalAt H valid d f ms m ≡ refusalAt H valid d g ms m
@@ -247,7 +247,7 @@ module _ (H : List ℕ → List ℕ) (valid : (key message signature : List ℕ)
 
         go : (r : Option Refusal) → refusalAt H valid d f ms m ≡ r → Together (over-f (ms ▷ m)) (over-g (ms ▷ m))
         go none h = absurd (true≢false (rw t at (block-passed H valid (over-f ms .device) (over-f ms .flash) m e h .loading)))
-        go (some r) h = rw (same H valid d f ms m r h .after-is, same H valid d g ms m r (sym both ∙ h) .after-is) (done q t)
+        go (some r) h = rw (after-refused H valid d f ms m r h, after-refused H valid d g ms m r (sym both ∙ h)) (done q t)
 
     together : (k : ℕ) → d .stage ≡ Loading (suc k) → Agree (d .manifest) k f g → (ms : Messages) → OnlyBlocks ms → Together (over-f ms) (over-g ms)
     unfolding after OnlyBlocks
@@ -258,14 +258,14 @@ module _ (H : List ℕ → List ℕ) (valid : (key message signature : List ℕ)
     unfolding answerOf
     same-load ms (waits k q t agree) =
         record {
-          answers = λ m e. answered H valid d f ms m ∙ ap answerOf (same-refusal ms m e k q t agree) ∙ sym (answered H valid d g ms m);
+          answers = λ m e. answered-at H valid d f ms m ∙ ap answerOf (same-refusal ms m e k q t agree) ∙ sym (answered-at H valid d g ms m);
           states = q;
           flashes = λ c. absurd (let z : _≡_ {A = ℕ} 0 1 = cc in omega arith);
         }
     same-load ms (done q t) =
         record {
           answers = λ m e.
-              answered H valid d f ms m ∙ ap (λ (x : Situation). answerOf (refusalOf H valid (x .device) (x .flash) m)) q ∙ sym (answered H valid d g ms m);
+              answered-at H valid d f ms m ∙ ap (λ (x : Situation). answerOf (refusalOf H valid (x .device) (x .flash) m)) q ∙ sym (answered-at H valid d g ms m);
           states = ap (λ (x : Situation). x .device) q;
           flashes = λ c. ap (λ (x : Situation). x .flash) q;
         }

@@ -18,7 +18,7 @@ use Rattle.machine.specs.declared.state.Device.{Device}
 use Rattle.machine.specs.Device.{serialOf}
 use Rattle.machine.specs.Refusals.{wrongVersion, senseless, otherModel, notNewer, tooSmall, unsigned}
 use Rattle.machine.specs.Step.{refusalOf}
-use Rattle.machine.proofs.RefusalLaws.{program-unrefused}
+use Rattle.machine.proofs.RefusalLaws.{ProgramDue, program-unrefused}
 use Rattle.guarantee.specs.Demand3.{Sendable}
 use Rattle.guarantee.proofs.SentLaws.{root-long, manifest-is}
 
@@ -33,13 +33,12 @@ module _ (H : List ℕ → List ℕ) (hash-long : (x : List ℕ) → length (H x
 
   module _ (d : Device) (flash : List ℕ) (sense : senseless d ≡ false) (model : job .model ≡ d .model) (newer : serialOf d < job .serial)
       (room : length (job .image .bytes) ≤ length flash) (signed : valid (d .key) (written (manifestFor H job)) signature ≡ true) where
-    pub program-accepted : refusalOf H valid d flash m ≡ none
+    pub program-due : ProgramDue H valid d flash m
     unfolding short wrongVersion otherModel notNewer tooSmall unsigned manifestFor
-    program-accepted =
+    program-due =
         let p = is-program in
         let e : manifestIn m ≡ manifestFor H job = manifest-is H hash-long job ok m (p .manifest) in
-        program-unrefused H valid d flash m
-        (record {
+        record {
           is = p .is;
           sense = sense;
           head = le-ltb (length m) (leastLength Program) (omega (arith, p .size));
@@ -49,4 +48,7 @@ module _ (H : List ℕ → List ℕ) (hash-long : (x : List ℕ) → length (H x
           serial = rw e (ap not (lt-ltb (serialOf d) (job .serial) newer));
           area = rw e (le-ltb (length flash) _ room);
           signed = rw (p .manifest, p .signed, signed) refl;
-        })
+        }
+
+    pub program-accepted : refusalOf H valid d flash m ≡ none
+    program-accepted = program-unrefused H valid d flash m program-due

@@ -2,7 +2,7 @@
 -- not idle answers to its own manifest, and what its state from right after a new program does, put back.
 use mathlib.Core.Path.{_≡_, refl, sym, ap, _∙_, subst}
 use mathlib.Core.Logic.{_⊎_, inl, inr}
-use mathlib.Core.Bool.{Bool, false, true≢false}
+use mathlib.Core.Bool.{Bool, true, false, true≢false}
 use mathlib.Core.List.{List}
 use mathlib.Core.Option.{none, some}
 use Prim.Native.Nat.{ℕ, zero, suc, _≤_, _<_}
@@ -21,24 +21,26 @@ use Rattle.wire.specs.Refusal.{firstThatApplies}
 use Rattle.wire.specs.Geometry.{countOf}
 use Rattle.wire.specs.Message.{leastLength, short, manifestIn}
 use Rattle.wire.proofs.SizeLaws.{Sized}
-use Rattle.sender.specs.Job.{Image, Job, count, programFor}
+use Rattle.sender.specs.Job.{Image, Job, count, programFor, blockFor}
 use Rattle.machine.specs.declared.state.Stage.{Stage}
 use Rattle.machine.specs.declared.state.Stage.the-variants.{Idle, Loading, Complete}
 use Rattle.machine.specs.declared.state.Device.{Device}
 use Rattle.machine.specs.declared.state.Answer.{Answer}
 use Rattle.machine.specs.declared.state.Answer.the-variants.{Accepted, Refused}
-use Rattle.machine.specs.Device.{serialOf, Situation, Outcome}
+use Rattle.machine.specs.Device.{serialOf, OutcomeOf, Situation, Outcome}
 use Rattle.machine.specs.Refusals.{wrongVersion, senseless, noKind, otherModel, notNewer, notLoading, always, ofManifest, ofProgram, ofKind, refusals}
 use Rattle.machine.specs.Step.{acceptProgram, accept, answerOf, refusalOf, step}
 use Rattle.machine.proofs.RefusalLaws.{answer-none, Successor, Passed, took-program, took-block, took-update, took-path, passed}
 use Rattle.machine.proofs.SenseLaws.{sound, not-complete, sense-idle, sense-loading, sense-complete}
-use Rattle.guarantee.specs.Run.{Messages, empty, _▷_, after, answerTo, accepted, lastProgram, blocksSince, lastCarrier, signatureIn, Completed}
-use Rattle.guarantee.specs.Demand3.{thenBlocks, Calls, Begun, Honest, begin, next, Loaded, Claim, SecondHalf, Demand3}
+use Rattle.guarantee.specs.Part.{Part, whole}
+use Rattle.guarantee.specs.Run.{Growing, Messages, empty, _▷_, after, answerTo, accepted, lastProgram, blocksSince, lastCarrier, signatureIn, Completed}
+use Rattle.guarantee.specs.Demand3.{thenBlocks, Calls, Begun, Sends, Honest, begin, next, Loaded, Claim, FirstHalf, SecondHalf, Demand3}
 use Rattle.guarantee.specs.Claims.{MakesSense}
 use Rattle.guarantee.specs.Recovery.{Offered, Recovers, Recovery, RecoveryFrom, SameAgain, PutBack}
 use Rattle.guarantee.specs.Updates.{Installed}
 use Rattle.guarantee.proofs.InvariantLaws.{with-program, with-block, with-update, with-path}
-use Rattle.guarantee.proofs.RunLaws.{accepted-step, answered, calls}
+use Rattle.guarantee.proofs.RunLaws.{slot}
+use Rattle.guarantee.proofs.DeviceLaws.{accepted-step, serves, calls, answered, willing}
 use Rattle.guarantee.proofs.SecondHalf.{second-half}
 use Rattle.guarantee.proofs.Demand3Holds.{demand3}
 use Rattle.guarantee.proofs.ProgramLaws.{is-program, program-accepted}
@@ -60,79 +62,89 @@ not-done : (t : Stage) → notLoading t ≡ false → t ≡ Complete → ⊥
 unfolding notLoading
 not-done t e q = true≢false (rw q at e)
 
-module _ (H : List ℕ → List ℕ) (valid : (key message signature : List ℕ) → Bool) (any : Device → List ℕ → List ℕ → Outcome) (d : Device) (flash : List ℕ)
-    (claim : (ms : Messages) → Claim H valid any d flash ms) where
-  abbrev at : Messages → Situation
-  at ms = after any d flash ms
+-- One part of any step, of which the first half holds and whose accepted messages passed their tests.
+module _ (H : List ℕ → List ℕ) (valid : (key message signature : List ℕ) → Bool) {D F C : Type 0} (part : Part D F C) (any : D → F → C → OutcomeOf D F) (d : D) (flash : F)
+    (first : (cs : Growing C) → FirstHalf H valid part any d flash cs)
+    (passes : (cs : Growing C) (c : C) → part .names c ≡ true → answerTo any d flash cs c ≡ Accepted
+    → (let s = after any d flash cs in Passed H valid (part .device (s .device)) (part .flash (s .flash)) (part .message c))) where
+  abbrev at : Growing C → Situation
+  at cs = slot part (after any d flash cs .device) (after any d flash cs .flash)
 
-  abbrev taken : Messages → Messages
-  taken ms = accepted any d flash ms
+  abbrev taken : Growing C → Messages
+  taken cs = accepted any d flash part cs
 
-  unrefused : (ms : Messages) (m : List ℕ) → answerTo any d flash ms m ≡ Accepted → refusalOf H valid (at ms .device) (at ms .flash) m ≡ none
-  unrefused ms m e = answer-none _ (sym (claim ms .calls .answers m) ∙ e)
+  sense-of : (cs : Growing C) → Standing (taken cs) → senseless (at cs .device) ≡ false
+  sense-of cs (nothing e) = sense-idle (at cs .device) (first cs .idle e)
+  sense-of cs (loading s m e c i v z h) =
+      let k = first cs .manifest m c in
+      sense-loading (at cs .device) (rw k v) (rw k z) (blocksSince (taken cs)) (first cs .loading s e h) (rw (k, i) h)
+  sense-of cs (complete s m e c v z h) =
+      let k = first cs .manifest m c in
+      sense-complete (at cs .device) (rw k v) (rw k z) (first cs .exactly .1 (record { manifest = s; last = e; all = h }))
 
-  sense-of : (ms : Messages) → Standing (taken ms) → senseless (at ms .device) ≡ false
-  sense-of ms (nothing e) = sense-idle (at ms .device) (claim ms .first .idle e)
-  sense-of ms (loading s m e c i v z h) =
-      let k = claim ms .first .manifest m c in
-      sense-loading (at ms .device) (rw k v) (rw k z) (blocksSince (taken ms)) (claim ms .first .loading s e h) (rw (k, i) h)
-  sense-of ms (complete s m e c v z h) =
-      let k = claim ms .first .manifest m c in
-      sense-complete (at ms .device) (rw k v) (rw k z) (claim ms .first .exactly .1 (record { manifest = s; last = e; all = h }))
+  abbrev is-complete : (cs : Growing C) (s : Manifest) → lastProgram (taken cs) ≡ some s → blocksSince (taken cs) ≡ countOf s → at cs .device .stage ≡ Complete
+  is-complete cs s e h = first cs .exactly .1 (record { manifest = s; last = e; all = h })
 
-  abbrev is-complete : (ms : Messages) (s : Manifest) → lastProgram (taken ms) ≡ some s → blocksSince (taken ms) ≡ countOf s → at ms .device .stage ≡ Complete
-  is-complete ms s e h = claim ms .first .exactly .1 (record { manifest = s; last = e; all = h })
-
-  after-update : (ms : Messages) (m : List ℕ) {least : ℕ} {signature : List ℕ} → Successor H valid (at ms .device) (at ms .flash) m least signature
-      → (lastProgram (taken ms ▷ m) ≡ lastProgram (taken ms)) × (blocksSince (taken ms ▷ m) ≡ blocksSince (taken ms)) × (lastCarrier (taken ms ▷ m) ≡ some m) × (signatureIn m ≡ signature)
-      → Standing (taken ms ▷ m)
-  after-update ms m p a =
-      let c : Completed (taken ms) = claim ms .first .exactly .0 (not-complete (at ms .device .stage) (p .complete)) in
+  after-update : (cs : Growing C) (m : List ℕ) {least : ℕ} {signature : List ℕ} → Successor H valid (at cs .device) (at cs .flash) m least signature
+      → (lastProgram (taken cs ▷ m) ≡ lastProgram (taken cs)) × (blocksSince (taken cs ▷ m) ≡ blocksSince (taken cs)) × (lastCarrier (taken cs ▷ m) ≡ some m) × (signatureIn m ≡ signature)
+      → Standing (taken cs ▷ m)
+  after-update cs m p a =
+      let c : Completed (taken cs) = first cs .exactly .0 (not-complete (at cs .device .stage) (p .complete)) in
       complete (c .manifest) m (a .0 ∙ c .last) (a .2) (p .version) (p .size) (a .1 ∙ c .all)
 
-  more : (ms : Messages) (m : List ℕ) → Passed H valid (at ms .device) (at ms .flash) m → Standing (taken ms) → Standing (taken ms ▷ m)
-  more ms m (took-program k p) t =
-      let a = with-program (taken ms) m k in
+  more : (cs : Growing C) (m : List ℕ) → Passed H valid (at cs .device) (at cs .flash) m → Standing (taken cs) → Standing (taken cs ▷ m)
+  more cs m (took-program k p) t =
+      let a = with-program (taken cs) m k in
       loading (manifestIn m) m (a .0) (a .2) refl (p .version) (p .size) (rw (a .1) (unfold countOf in p .size .first))
-  more ms m (took-block k p) (nothing e) = absurd (not-idle (at ms .device .stage) (p .loading) (claim ms .first .idle e))
-  more ms m (took-block k p) (loading s c e f i v z h) = go (lt-or-le (suc (blocksSince (taken ms))) (countOf s))
+  more cs m (took-block k p) (nothing e) = absurd (not-idle (at cs .device .stage) (p .loading) (first cs .idle e))
+  more cs m (took-block k p) (loading s c e f i v z h) = go (lt-or-le (suc (blocksSince (taken cs))) (countOf s))
     where
-      a : (lastProgram (taken ms ▷ m) ≡ lastProgram (taken ms)) × (blocksSince (taken ms ▷ m) ≡ suc (blocksSince (taken ms))) × (lastCarrier (taken ms ▷ m) ≡ lastCarrier (taken ms))
-      a = with-block (taken ms) m k
+      a : (lastProgram (taken cs ▷ m) ≡ lastProgram (taken cs)) × (blocksSince (taken cs ▷ m) ≡ suc (blocksSince (taken cs))) × (lastCarrier (taken cs ▷ m) ≡ lastCarrier (taken cs))
+      a = with-block (taken cs) m k
 
-      go : (suc (blocksSince (taken ms)) < countOf s) ⊎ (countOf s ≤ suc (blocksSince (taken ms))) → Standing (taken ms ▷ m)
+      go : (suc (blocksSince (taken cs)) < countOf s) ⊎ (countOf s ≤ suc (blocksSince (taken cs))) → Standing (taken cs ▷ m)
       go (inl l) = loading s c (a .0 ∙ e) (a .2 ∙ f) i v z (rw (a .1) l)
       go (inr l) = complete s c (a .0 ∙ e) (a .2 ∙ f) v z (a .1 ∙ omega arith)
-  more ms m (took-block k p) (complete s c e f v z h) = absurd (not-done (at ms .device .stage) (p .loading) (is-complete ms s e h))
-  more ms m (took-update k p) t = after-update ms m (p .successor) (with-update (taken ms) m k)
-  more ms m (took-path k p) t = after-update ms m (p .successor) (with-path (taken ms) m k)
+  more cs m (took-block k p) (complete s c e f v z h) = absurd (not-done (at cs .device .stage) (p .loading) (is-complete cs s e h))
+  more cs m (took-update k p) t = after-update cs m (p .successor) (with-update (taken cs) m k)
+  more cs m (took-path k p) t = after-update cs m (p .successor) (with-path (taken cs) m k)
 
-  standing : (ms : Messages) → Standing (taken ms)
+  standing : (cs : Growing C) → Standing (taken cs)
   unfolding accepted lastProgram
   standing empty = nothing refl
-  standing (ms ▷ m) = go (answerTo any d flash ms m) refl (standing ms)
+  standing (cs ▷ c) = named (part .names c) refl (standing cs)
     where
-      go : (a : Answer) → answerTo any d flash ms m ≡ a → Standing (taken ms) → Standing (taken (ms ▷ m))
-      go Accepted e t = rw (e, accepted) (more ms m (passed H valid (at ms .device) (at ms .flash) m (unrefused ms m e)) t)
-      go (Refused r) e t = rw (e, accepted) t
+      go : part .names c ≡ true → (a : Answer) → answerTo any d flash cs c ≡ a → Standing (taken cs) → Standing (taken (cs ▷ c))
+      go n Accepted e t = rw (n, accepted, e, accepted) (more cs (part .message c) (passes cs c n e) t)
+      go n (Refused r) e t = rw (n, accepted, e, accepted) t
 
-  sense : (ms : Messages) → senseless (at ms .device) ≡ false
-  sense ms = sense-of ms (standing ms)
+      named : (t : Bool) → part .names c ≡ t → Standing (taken cs) → Standing (taken (cs ▷ c))
+      named true n t = go n (answerTo any d flash cs c) refl t
+      named false n t = rw (n, accepted) t
+
+  -- refusal 1 never applies to the part
+  pub sense : (cs : Growing C) → senseless (at cs .device) ≡ false
+  sense cs = sense-of cs (standing cs)
 
 -- Where demand 3 holds refusal 1 never applies.
-pub makes-sense : (H : List ℕ → List ℕ) (valid : (key message signature : List ℕ) → Bool) (any : Device → List ℕ → List ℕ → Outcome) → Demand3 H valid any → MakesSense H valid any
-makes-sense H valid any meets d fresh flash ms = sense H valid any d flash (meets d fresh flash) ms
+pub makes-sense : (H : List ℕ → List ℕ) (valid : (key message signature : List ℕ) → Bool) (any : Device → List ℕ → List ℕ → Outcome) → Demand3 H valid any → MakesSense H valid (whole H valid) any
+makes-sense H valid any meets d fresh flash =
+    sense H valid (whole H valid) any d flash (λ ms. meets d fresh flash ms .first)
+    (λ ms m n e. let s = after any d flash ms in passed H valid (s .device) (s .flash) m (answer-none _ (sym (meets d fresh flash ms .calls .answers m) ∙ e)))
 
 -- A device that makes sense takes the program that it is offered, and then its blocks.
 module _ (H : List ℕ → List ℕ) (hash-long : (x : List ℕ) → length (H x) ≡ hashLength) (valid : (key message signature : List ℕ) → Bool)
     (any : Device → List ℕ → List ℕ → Outcome) (d : Device) (flash : List ℕ) (ms : Messages) (job : Job) (signature : List ℕ) where
+  sends : (j : ℕ) (list : Messages) → Sends H valid (whole H valid) any d flash job j list (blockFor H (job .image) (suc j))
+  sends j list = record { named = refl; block = refl; enough = omega arith }
+
   -- the list with nothing between
-  plain : (j : ℕ) → j ≤ count (job .image) → Honest H valid any d flash job ms (programFor H job signature) j (thenBlocks H (job .image) (ms ▷ programFor H job signature) j)
+  plain : (j : ℕ) → j ≤ count (job .image) → Honest H valid (whole H valid) any d flash job ms (programFor H job signature) j (thenBlocks H (job .image) (ms ▷ programFor H job signature) j)
   unfolding thenBlocks
   plain zero h = begin
-  plain (suc j) h = next h (plain j (omega arith))
+  plain (suc j) h = next h (sends j (thenBlocks H (job .image) (ms ▷ programFor H job signature) j)) (plain j (omega arith))
 
-  recovers : Calls H valid any d flash ms → length (after any d flash ms .flash) ≡ length flash → ((list : Messages) → SecondHalf H valid any d flash list)
+  recovers : Calls H valid (whole H valid) any d flash ms → length (after any d flash ms .flash) ≡ length flash → ((list : Messages) → SecondHalf H valid (whole H valid) any d flash list)
       → senseless (after any d flash ms .device) ≡ false → Offered H valid any d flash ms job signature → Recovers H valid any d flash ms job signature
   recovers calls long second sense o =
       record { taken = accepts; loaded = loads; none-between = loads (thenBlocks H (job .image) (ms ▷ programFor H job signature) (count (job .image))) (plain (count (job .image)) (omega arith)) }
@@ -147,19 +159,19 @@ module _ (H : List ℕ → List ℕ) (hash-long : (x : List ℕ) → length (H x
           ∙ ap answerOf
           (program-accepted H hash-long valid job (o .sendable) signature (at .device) (at .flash) sense (o .model ∙ sym (calls .model)) (o .newer) (rw long (o .room)) (rw (calls .key) (o .signed))))
 
-      begun : Begun H valid any d flash job ms (programFor H job signature)
+      begun : Begun H valid (whole H valid) any d flash job ms (programFor H job signature)
       begun =
           let p = is-program H hash-long valid job (o .sendable) signature in
-          record { sendable = o .sendable; program = p .is; carries = p .manifest; taken = accepts }
+          record { sendable = o .sendable; program = p .is; carries = p .manifest; taken = (refl, accepts) }
 
-      loads : (list : Messages) → Honest H valid any d flash job ms (programFor H job signature) (count (job .image)) list → Loaded H valid any d flash job ms list
+      loads : (list : Messages) → Honest H valid (whole H valid) any d flash job ms (programFor H job signature) (count (job .image)) list → Loaded H valid (whole H valid) any d flash job ms list
       loads list h = second list .loads job ms (programFor H job signature) (count (job .image)) begun h .done refl
 
 -- for any step that meets demand 3, with any hash function of 32 bytes and any verdict
 pub recovery-for : (H : List ℕ → List ℕ) → ((x : List ℕ) → length (H x) ≡ hashLength) → (valid : (key message signature : List ℕ) → Bool)
     (any : Device → List ℕ → List ℕ → Outcome) → Demand3 H valid any → Recovery H valid any
 recovery-for H hash-long valid any meets d fresh flash ms job signature =
-    let claim : (ms : Messages) → Claim H valid any d flash ms = meets d fresh flash in
+    let claim : (ms : Messages) → Claim H valid (whole H valid) any d flash ms = meets d fresh flash in
     recovers H hash-long valid any d flash ms job signature (claim ms .calls) (claim ms .first .one) (λ list. claim list .second) (makes-sense H valid any meets d fresh flash ms)
 
 -- for the device, with SHA-256 and the verdict of RFC 8554
@@ -169,7 +181,7 @@ recovery = recovery-for digest length-digest lms.valid (step digest lms.valid) d
 pub recovery-from : (H : List ℕ → List ℕ) → ((x : List ℕ) → length (H x) ≡ hashLength) → (valid : (key message signature : List ℕ) → Bool) → RecoveryFrom H valid
 unfolding after
 recovery-from H hash-long valid d sense flash job signature =
-    recovers H hash-long valid (step H valid) d flash empty job signature (calls H valid d flash empty) refl (λ list. second-half H hash-long valid d flash list) sense
+    recovers H hash-long valid (step H valid) d flash empty job signature (calls H valid d flash empty) refl (λ list. second-half H hash-long valid (whole H valid) (step H valid) d flash (serves H valid) (willing H valid d flash) list) sense
 
 -- the serial of a device that is not idle
 own-serial : (d : Device) → (d .stage ≡ Idle → ⊥) → serialOf d ≡ d .manifest .serial
@@ -189,7 +201,7 @@ same-again H valid d e busy model flash m is long same =
     let q = sound d e busy in
     let first : refusalOf H valid d flash m ≡ some refusal.Serial =
     rw (is, same, e, le-ltb (length m) (leastLength Program) long, q .0, q .1, eq-eqb (s .model) (d .model) model, own-serial d busy, le-ltb (s .serial) (s .serial) (omega arith)) in
-    answered H valid d flash empty m ∙ ap answerOf first
+    answered H valid d flash m ∙ ap answerOf first
 
 -- a list of blocks after others, as a list from where those lead
 from-there : (H : List ℕ → List ℕ) (any : Device → List ℕ → List ℕ → Outcome) (d : Device) (flash : List ℕ) (image : Image) (ms : Messages) (j : ℕ)

@@ -1,24 +1,23 @@
--- One message more: what it adds to a list, and what no list changes.
-use mathlib.Core.Path.{_≡_, refl, sym, ap, _∙_}
-use mathlib.Core.Bool.{Bool, cond}
+-- One call more: what it adds to a list for one part, and what no list changes.
+use mathlib.Core.Path.{_≡_, refl, sym, _∙_}
+use mathlib.Core.Bool.{Bool, true, false, cond, true≢false}
 use mathlib.Core.List.{List}
-use mathlib.Core.Option.{Option, none, some}
 use Prim.Native.Nat.{ℕ}
+use native.Mathlib.Omega.{arith}
 use Rattle.wire.specs.declared.kind.Kind.{Kind}
 use Rattle.wire.specs.declared.kind.Kind.the-variants.{Program, Block, Update, PathUpdate, Unknown}
 use Rattle.wire.specs.declared.refusal.Refusal.{Refusal}
-use Rattle.wire.specs.Refusal.{refusalNumber}
 use Rattle.wire.specs.Message.{kind, carries, manifestIn}
 use Rattle.machine.specs.declared.state.Device.{Device}
+use Rattle.machine.specs.declared.state.Answer.{Answer}
 use Rattle.machine.specs.declared.state.Answer.the-variants.{Accepted, Refused}
-use Rattle.machine.specs.Device.{Situation}
-use Rattle.machine.specs.Readers.{numberOf}
-use Rattle.machine.specs.Step.{acceptProgram, acceptBlock, acceptUpdate, accept, answerOf, outcome, refusalOf, step}
-use Rattle.guarantee.specs.Run.{Messages, empty, _▷_, after, answerTo, accepted}
-use Rattle.machine.proofs.RefusalLaws.{answer-none, answer-some}
-use Rattle.guarantee.specs.Demand3.{Calls}
+use Rattle.machine.specs.Device.{SituationOf, OutcomeOf, Situation}
+use Rattle.machine.specs.Step.{acceptProgram, acceptBlock, acceptUpdate, accept}
+use Rattle.machine.proofs.RefusalLaws.{Passed}
+use Rattle.guarantee.specs.Part.{Part}
+use Rattle.guarantee.specs.Run.{Growing, Messages, empty, _▷_, after, answerTo, accepted}
 
-accept-keeps : (k : Kind) (d : Device) (flash m : List ℕ) → (accept k d flash m .device .model ≡ d .model) × (accept k d flash m .device .key ≡ d .key)
+pub accept-keeps : (k : Kind) (d : Device) (flash m : List ℕ) → (accept k d flash m .device .model ≡ d .model) × (accept k d flash m .device .key ≡ d .key)
 unfolding accept acceptProgram acceptBlock acceptUpdate
 accept-keeps Program d flash m = (refl, refl)
 accept-keeps Block d flash m = (refl, refl)
@@ -35,91 +34,105 @@ goes-by d flash m Update = refl
 goes-by d flash m PathUpdate = refl
 goes-by d flash m Unknown = refl
 
--- what an accepted message does
-pub accepted-step : (H : List ℕ → List ℕ) (valid : (key message signature : List ℕ) → Bool) (d : Device) (f m : List ℕ) → refusalOf H valid d f m ≡ none
-    → step H valid d f m ≡ (let s = accept (kind m) d f m in record { answer = Accepted; device = s .device; flash = s .flash })
-unfolding step outcome
-accepted-step H valid d f m e = rw (e, step, outcome)
+-- the part by itself
+abbrev pub slot : {D F C : Type 0} → Part D F C → D → F → Situation
+slot part d f = record { device = part .device d; flash = part .flash f }
 
-module _ (H : List ℕ → List ℕ) (valid : (key message signature : List ℕ) → Bool) (d : Device) (flash : List ℕ) where
-  abbrev pub now : Messages → Situation
-  now ms = after (step H valid) d flash ms
+module _ (H : List ℕ → List ℕ) (valid : (key message signature : List ℕ) → Bool) {D F C : Type 0} (part : Part D F C) (step : D → F → C → OutcomeOf D F) where
+  -- the part after a call
+  abbrev pub then : D → F → C → Situation
+  then d f c = slot part (step d f c .device) (step d f c .flash)
 
-  abbrev pub taken : Messages → Messages
-  taken ms = accepted (step H valid) d flash ms
+  -- what is known of the part and an accepted message for it
+  abbrev pub PassedBy : D → F → C → Type 0
+  PassedBy d f c = Passed H valid (part .device d) (part .flash f) (part .message c)
 
-  -- the refusal of m after the list
-  abbrev pub refusalAt : Messages → List ℕ → Option Refusal
-  refusalAt ms m = refusalOf H valid (now ms .device) (now ms .flash) m
+  -- All that demand 3 needs of a step for the part: another part's call and a refused one leave it; an accepted one passed the tests of its kind, and does what it should.
+  pub record Serves : Type 0 where
+    pub elsewhere : (d : D) (f : F) (c : C) → part .names c ≡ false → then d f c ≡ slot part d f
+    pub refused : (d : D) (f : F) (c : C) (r : Refusal) → step d f c .answer ≡ Refused r → then d f c ≡ slot part d f
+    pub passes : (d : D) (f : F) (c : C) → part .names c ≡ true → step d f c .answer ≡ Accepted → PassedBy d f c
+    pub accepts : (d : D) (f : F) (c : C) → part .names c ≡ true → step d f c .answer ≡ Accepted
+        → then d f c ≡ accept (kind (part .message c)) (part .device d) (part .flash f) (part .message c)
 
-  module _ (ms : Messages) (m : List ℕ) where
-    pub answered : answerTo (step H valid) d flash ms m ≡ answerOf (refusalAt ms m)
-    unfolding answerTo step outcome answerOf
-    answered = go (refusalAt ms m)
-      where
-        go : (r : Option Refusal) → outcome r (now ms .device) (now ms .flash) (accept (kind m) (now ms .device) (now ms .flash) m) .answer ≡ answerOf r
-        go none = refl
-        go (some x) = refl
+module _ (H : List ℕ → List ℕ) (valid : (key message signature : List ℕ) → Bool) {D F C : Type 0} (part : Part D F C) (step : D → F → C → OutcomeOf D F) (d : D) (flash : F)
+    (serves : Serves H valid part step) where
+  abbrev pub state : Growing C → SituationOf D F
+  state cs = after step d flash cs
 
-    pub none-at : answerTo (step H valid) d flash ms m ≡ Accepted → refusalAt ms m ≡ none
-    none-at e = answer-none (refusalAt ms m) (sym answered ∙ e)
+  abbrev pub now : Growing C → Situation
+  now cs = slot part (state cs .device) (state cs .flash)
 
-    pub some-at : (r : Refusal) → answerTo (step H valid) d flash ms m ≡ Refused r → refusalAt ms m ≡ some r
-    some-at r e = answer-some (refusalAt ms m) r (sym answered ∙ e)
+  abbrev pub taken : Growing C → Messages
+  taken cs = accepted step d flash part cs
 
+  abbrev pub accepting : Growing C → C → Situation
+  accepting cs c = accept (kind (part .message c)) (now cs .device) (now cs .flash) (part .message c)
+
+  module _ (cs : Growing C) (c : C) where
     pub record More : Type 0 where
-      pub after-is : now (ms ▷ m) ≡ accept (kind m) (now ms .device) (now ms .flash) m
-      pub taken-is : taken (ms ▷ m) ≡ taken ms ▷ m
+      pub passed : PassedBy H valid part step (state cs .device) (state cs .flash) c
+      pub after-is : now (cs ▷ c) ≡ accepting cs c
+      pub taken-is : taken (cs ▷ c) ≡ taken cs ▷ part .message c
 
-    pub more : refusalAt ms m ≡ none → More
-    unfolding after accepted step outcome answerOf
-    more e = record { after-is = rw (e, outcome); taken-is = rw (answered ∙ ap answerOf e, accepted) }
+    pub more : part .names c ≡ true → answerTo step d flash cs c ≡ Accepted → More
+    unfolding after accepted answerTo
+    more n e =
+        record {
+          passed = serves .passes (state cs .device) (state cs .flash) c n e;
+          after-is = serves .accepts (state cs .device) (state cs .flash) c n e;
+          taken-is = rw (n, accepted, e, accepted);
+        }
 
     pub record Same : Type 0 where
-      pub after-is : now (ms ▷ m) ≡ now ms
-      pub taken-is : taken (ms ▷ m) ≡ taken ms
+      pub after-is : now (cs ▷ c) ≡ now cs
+      pub taken-is : taken (cs ▷ c) ≡ taken cs
 
-    pub same : (r : Refusal) → refusalAt ms m ≡ some r → Same
-    unfolding after accepted step outcome answerOf
-    same r e = record { after-is = rw (e, outcome); taken-is = rw (answered ∙ ap answerOf e, accepted) }
+    pub away : part .names c ≡ false → Same
+    unfolding after accepted
+    away n = record { after-is = serves .elsewhere (state cs .device) (state cs .flash) c n; taken-is = rw (n, accepted) }
 
-  -- What each message keeps, accepted or refused, every list keeps.
-  module _ (P : Situation → Messages → Messages → Type 0)
-      (accepting : (ms : Messages) (m : List ℕ) → P (now ms) (taken ms) ms → refusalAt ms m ≡ none → P (accept (kind m) (now ms .device) (now ms .flash) m) (taken ms ▷ m) (ms ▷ m))
-      (refusing : (ms : Messages) (m : List ℕ) (r : Refusal) → P (now ms) (taken ms) ms → refusalAt ms m ≡ some r → P (now ms) (taken ms) (ms ▷ m)) where
-    one-more : (ms : Messages) (m : List ℕ) → P (now ms) (taken ms) ms → P (now (ms ▷ m)) (taken (ms ▷ m)) (ms ▷ m)
-    one-more ms m p = go (refusalAt ms m) refl
+    pub same : (r : Refusal) → answerTo step d flash cs c ≡ Refused r → Same
+    unfolding after accepted answerTo
+    same r e = record { after-is = serves .refused (state cs .device) (state cs .flash) c r e; taken-is = go (part .names c) refl }
       where
-        go : (r : Option Refusal) → refusalAt ms m ≡ r → P (now (ms ▷ m)) (taken (ms ▷ m)) (ms ▷ m)
-        go none e = let a = more ms m e in rw (a .after-is, a .taken-is) (accepting ms m p e)
-        go (some x) e = let a = same ms m x e in rw (a .after-is, a .taken-is) (refusing ms m x p e)
+        go : (t : Bool) → part .names c ≡ t → taken (cs ▷ c) ≡ taken cs
+        go true n = rw (n, accepted, e, accepted)
+        go false n = rw (n, accepted)
 
-    pub every-list : P (record { device = d; flash = flash }) empty empty → (ms : Messages) → P (now ms) (taken ms) ms
+    -- what a call does to the part: it accepts a message for it, or leaves it
+    pub data Does : Type 0 where
+      takes : part .names c ≡ true → answerTo step d flash cs c ≡ Accepted → Does
+      stays : (part .names c ≡ true → answerTo step d flash cs c ≡ Accepted → ⊥) → Same → Does
+
+    pub does : Does
+    does = named (part .names c) refl
+      where
+        answered : part .names c ≡ true → (a : Answer) → answerTo step d flash cs c ≡ a → Does
+        answered n Accepted e = takes n e
+        answered n (Refused r) e = stays (λ t a. let z : _≡_ {A = ℕ} 0 1 = cc in omega arith) (same r e)
+
+        named : (t : Bool) → part .names c ≡ t → Does
+        named true n = answered n (answerTo step d flash cs c) refl
+        named false n = stays (λ t a. true≢false (sym t ∙ n)) (away n)
+
+  -- What an accepted message for the part keeps, and a call that leaves the part, every list keeps.
+  module _ (P : Situation → Messages → Growing C → Type 0)
+      (keep : (cs : Growing C) (c : C) → part .names c ≡ true → answerTo step d flash cs c ≡ Accepted → P (now cs) (taken cs) cs → P (accepting cs c) (taken cs ▷ part .message c) (cs ▷ c))
+      (stay : (cs : Growing C) (c : C) → (part .names c ≡ true → answerTo step d flash cs c ≡ Accepted → ⊥) → P (now cs) (taken cs) cs → P (now cs) (taken cs) (cs ▷ c)) where
+    one-more : (cs : Growing C) (c : C) → P (now cs) (taken cs) cs → P (now (cs ▷ c)) (taken (cs ▷ c)) (cs ▷ c)
+    one-more cs c p = go (does cs c)
+      where
+        go : Does cs c → P (now (cs ▷ c)) (taken (cs ▷ c)) (cs ▷ c)
+        go (takes n e) = let a = more cs c n e in rw (a .after-is, a .taken-is) (keep cs c n e p)
+        go (stays n a) = rw (a .after-is, a .taken-is) (stay cs c n p)
+
+    pub every-list : P (slot part d flash) empty empty → (cs : Growing C) → P (now cs) (taken cs) cs
     unfolding after accepted
     every-list start empty = start
-    every-list start (ms ▷ m) = one-more ms m (every-list start ms)
+    every-list start (cs ▷ c) = one-more cs c (every-list start cs)
 
-  keeps : (ms : Messages) → (now ms .device .model ≡ d .model) × (now ms .device .key ≡ d .key)
-  keeps ms =
-      every-list (λ s taken list. (s .device .model ≡ d .model) × (s .device .key ≡ d .key))
-      (λ ms m p e. let a = accept-keeps (kind m) (now ms .device) (now ms .flash) m in (a .0 ∙ p .0, a .1 ∙ p .1)) (λ ms m r p e. p) (refl, refl) ms
-
-  by-number : (r : Option Refusal) → numberOf (answerOf r) ≡ elim r [ none ↦ 0 | some x ↦ refusalNumber x ]
-  unfolding answerOf
-  by-number none = refl
-  by-number (some x) = refl
-
-  pub calls : (ms : Messages) → Calls H valid (step H valid) d flash ms
-  calls ms =
-      record {
-        answers = λ m. answered ms m;
-        numbers = λ m. ap numberOf (answered ms m) ∙ by-number (refusalAt ms m);
-        refused = λ m r e. same ms m r (some-at ms m r e) .after-is;
-        model = keeps ms .0;
-        key = keeps ms .1;
-      }
-
--- a call by itself: what is accepted no refusal applies to
-pub unrefused : (H : List ℕ → List ℕ) (valid : (key message signature : List ℕ) → Bool) (d : Device) (f m : List ℕ) → step H valid d f m .answer ≡ Accepted → refusalOf H valid d f m ≡ none
-unfolding after answerTo
-unrefused H valid d f m a = none-at H valid d f empty m a
+  pub keeps : (cs : Growing C) → (now cs .device .model ≡ part .device d .model) × (now cs .device .key ≡ part .device d .key)
+  keeps cs =
+      every-list (λ s taken list. (s .device .model ≡ part .device d .model) × (s .device .key ≡ part .device d .key))
+      (λ cs c n e p. let a = accept-keeps (kind (part .message c)) (now cs .device) (now cs .flash) (part .message c) in (a .0 ∙ p .0, a .1 ∙ p .1)) (λ cs c n p. p) (refl, refl) cs

@@ -37,6 +37,7 @@ use Rattle.machine.specs.Flash.{stored, updated}
 use Rattle.machine.specs.Refusals.{wrongVersion, senseless, noKind, otherModel, notNewer, tooSmall, notLoading, notComplete, notNext, wrongLength, unlike, mismatch, lacksRoot, lastAltered, unsigned, strays, ofManifest, always, ofProgram, ofBlock, ofSuccessor, ofUpdate, ofPathUpdate, ofKind, refusals}
 use Rattle.machine.specs.Step.{acceptProgram, stageAfter, acceptBlock, acceptUpdate, accept, answerOf, outcome, refusalOf, step}
 use Rattle.machine.specs.BootCheck.{ofBoot, bootCheck}
+use Rattle.guarantee.specs.Part.{Part, whole}
 use Rattle.guarantee.specs.Run.{Messages, empty, _▷_, after, answerTo, accepted, lastProgram, blocksSince, pathsSince, lastCarrier, signatureIn}
 use Rattle.guarantee.specs.Demand3.{thenBlocks, Demand3}
 use Rattle.guarantee.proofs.Demand3Holds.{demand3-for}
@@ -53,6 +54,10 @@ any k m s = true
 
 unfoldable pub nobody : (key message signature : List ℕ) → Bool
 nobody k m s = false
+
+-- the only part of a device that has this hash function and takes every signature
+abbrev pub part : Part Device (List ℕ) (List ℕ)
+part = whole toy any
 
 -- an image of two blocks of 64 bytes, its successor, with another second block, and the image again with a serial that is not new
 unfoldable pub job : Job

@@ -34,7 +34,7 @@ use Rattle.machine.specs.Step.{acceptUpdate, accept, refusalOf, step}
 use Rattle.machine.proofs.RefusalLaws.{newLength, newDepth, ledTo, SuccessorDue, update-unrefused, path-unrefused}
 use Rattle.machine.proofs.SenseLaws.{sense-complete}
 use Rattle.guarantee.specs.Updates.{Installed, UpdateOffered, Updated, Updates}
-use Rattle.guarantee.proofs.RunLaws.{accepted-step}
+use Rattle.guarantee.proofs.DeviceLaws.{accepted-step}
 use Rattle.guarantee.proofs.SentLaws.{count-most, block-length, root-long, manifest-is}
 use Rattle.guarantee.proofs.HonestLaws.{image-rooted}
 

@@ -23,13 +23,13 @@ use Rattle.machine.specs.Step.{acceptBlock}
 use Rattle.machine.proofs.RefusalLaws.{testOf}
 use Rattle.guarantee.specs.Run.{empty, _▷_}
 use Rattle.guarantee.specs.Demand3.{Calls}
-use Rattle.guarantee.proofs.Toy.{Step, toy, any, job, newer, old, uneven, fresh, flash, program, right, refusingAs, refusing, but, byKind, computing, loaded}
+use Rattle.guarantee.proofs.Toy.{Step, toy, any, part, job, newer, old, uneven, fresh, flash, program, right, refusingAs, refusing, but, byKind, computing, loaded}
 
 -- It refuses every manifest, or every path update: each alone.
 pub closed : Step
 closed = byKind refusing right right right
 
-pub closed-caught : Calls toy any closed fresh flash empty → ⊥
+pub closed-caught : Calls toy any part closed fresh flash empty → ⊥
 unfolding computing closed
 closed-caught h =
     let e : Refused refusal.State ≡ Accepted = h .answers program in
@@ -39,7 +39,7 @@ closed-caught h =
 pub unaware : Step
 unaware = byKind right right right refusing
 
-pub unaware-caught : Calls toy any unaware fresh flash loaded → ⊥
+pub unaware-caught : Calls toy any part unaware fresh flash loaded → ⊥
 unfolding computing unaware
 unaware-caught h =
     let e : Refused refusal.State ≡ Accepted = h .answers (pathFor toy newer 2 []) in
@@ -53,7 +53,7 @@ writing d f m = let o = right d f m in record { answer = o .answer; device = o .
 pub hasty : Step
 hasty = byKind right right writing right
 
-pub hasty-caught : Calls toy any hasty fresh flash loaded → ⊥
+pub hasty-caught : Calls toy any part hasty fresh flash loaded → ⊥
 unfolding computing hasty writing
 hasty-caught h =
     let r = h .refused (updateMessage (manifestFor toy newer) 1 (replicate 64 9) []) refusal.Mismatch refl in
@@ -63,7 +63,7 @@ hasty-caught h =
 pub rash : Step
 rash = byKind right right right writing
 
-pub rash-caught : Calls toy any rash fresh flash loaded → ⊥
+pub rash-caught : Calls toy any part rash fresh flash loaded → ⊥
 unfolding computing rash writing
 rash-caught h =
     let r = h .refused (pathMessage (manifestFor toy newer) 1 (replicate 64 9) (toy (replicate 64 4)) []) refusal.Path refl in
@@ -79,7 +79,7 @@ scribbling d f m =
       | Refused r ↦ cond (notLoading (d .stage)) (record { answer = Refused r; device = record { model = d .model; key = d .key; stage = d .stage; manifest = d .manifest; hashes = set (d .hashes) 0 7 }; flash = f }) o
     ]
 
-pub scribbling-caught : Calls toy any scribbling fresh flash empty → ⊥
+pub scribbling-caught : Calls toy any part scribbling fresh flash empty → ⊥
 unfolding computing scribbling
 scribbling-caught h =
     let r = h .refused [] refusal.Kind refl in
@@ -93,7 +93,7 @@ withIdentity model key d = record { model = model; key = key; stage = d .stage; 
 pub turning : Step
 turning = byKind (λ d f m. let o = right d f m in but o (withIdentity 8 (d .key) (o .device))) right right right
 
-pub turning-caught : Calls toy any turning fresh flash (empty ▷ program) → ⊥
+pub turning-caught : Calls toy any part turning fresh flash (empty ▷ program) → ⊥
 unfolding computing turning withIdentity
 turning-caught h =
     let z : _≡_ {A = ℕ} 8 7 = h .model in
@@ -102,7 +102,7 @@ turning-caught h =
 pub rekeying : Step
 rekeying = byKind (λ d f m. let o = right d f m in but o (withIdentity (d .model) (1 ∷ []) (o .device))) right right right
 
-pub rekeying-caught : Calls toy any rekeying fresh flash (empty ▷ program) → ⊥
+pub rekeying-caught : Calls toy any part rekeying fresh flash (empty ▷ program) → ⊥
 unfolding computing rekeying withIdentity
 rekeying-caught h =
     let z : _≡_ {A = ℕ} 1 0 = ap (λ (l : List ℕ). length l) (h .key) in
@@ -118,7 +118,7 @@ leaking = byKind right (λ d f m.
       flash = o .flash;
     }) right right
 
-pub leaking-caught : Calls toy any leaking fresh flash (empty ▷ program) → ⊥
+pub leaking-caught : Calls toy any part leaking fresh flash (empty ▷ program) → ⊥
 unfolding computing leaking
 leaking-caught h =
     let r = h .refused (blockFor toy (newer .image) 1) refusal.Mismatch refl in
@@ -129,7 +129,7 @@ leaking-caught h =
 pub spilling : Step
 spilling = byKind right (λ d f m. let o = right d f m in record { answer = o .answer; device = o .device; flash = acceptBlock d f m .flash }) right right
 
-pub spilling-caught : Calls toy any spilling fresh flash (empty ▷ program ▷ blockFor toy (job .image) 1) → ⊥
+pub spilling-caught : Calls toy any part spilling fresh flash (empty ▷ program ▷ blockFor toy (job .image) 1) → ⊥
 unfolding computing spilling
 spilling-caught h =
     let r = h .refused (blockFor toy (newer .image) 2) refusal.Mismatch refl in
@@ -140,7 +140,7 @@ spilling-caught h =
 pub reordering : Step
 reordering = byKind (λ d f m. cond (tooSmall (manifestIn m) f) (refusingAs refusal.Area d f m) (right d f m)) right right right
 
-pub reordering-caught : Calls toy any reordering fresh [] empty → ⊥
+pub reordering-caught : Calls toy any part reordering fresh [] empty → ⊥
 unfolding computing reordering
 reordering-caught h =
     let z : _≡_ {A = ℕ} 8 7 = ap numberOf (h .answers (programFor toy old [])) in
@@ -152,7 +152,7 @@ demanding = byKind (λ d f m.
     let s = manifestIn m in
     cond (eqb (numberOf (right d f m .answer)) 0 && ltb (length f) (countOf s * s .«block_len»)) (refusingAs refusal.Area d f m) (right d f m)) right right right
 
-pub demanding-caught : Calls toy any demanding fresh (replicate 257 5) empty → ⊥
+pub demanding-caught : Calls toy any part demanding fresh (replicate 257 5) empty → ⊥
 unfolding computing demanding
 demanding-caught h =
     let z : _≡_ {A = ℕ} 8 0 = ap numberOf (h .answers (programFor toy uneven [])) in
@@ -165,7 +165,7 @@ swapping = byKind right right right (λ d f m.
     cond (eqb (numberOf (o .answer)) 15 && testOf refusal.Mismatch (refusals toy any PathUpdate d f m))
     (refusingAs refusal.Mismatch d f m) o)
 
-pub swapping-caught : Calls toy any swapping fresh flash loaded → ⊥
+pub swapping-caught : Calls toy any part swapping fresh flash loaded → ⊥
 unfolding computing testOf swapping
 swapping-caught h =
     let z : _≡_ {A = ℕ} 14 15 = ap numberOf (h .answers (pathMessage (manifestFor toy newer) 1 (replicate 64 9) (toy (replicate 64 9)) [])) in

@@ -24,26 +24,27 @@ use Rattle.machine.specs.Device.{nextOf}
 use Rattle.machine.specs.Readers.{numberOf}
 use Rattle.machine.specs.Step.{acceptUpdate, outcome}
 use Rattle.machine.proofs.RefusalLaws.{ledTo}
+use Rattle.guarantee.specs.Part.{whole}
 use Rattle.guarantee.specs.Run.{Messages, empty, _▷_, after, accepted, lastProgram, blocksSince, pathsSince, lastCarrier, Completed}
 use Rattle.guarantee.specs.Demand3.{Clash, here, Misled, FirstHalf}
 use Rattle.guarantee.proofs.MisledLaws.{unmisled, first-path}
-use Rattle.guarantee.proofs.Toy.{Step, toy, any, nobody, job, newer, uneven, fresh, flash, program, manifestWith, nobodys, noImage, right, taking, but, butFlash, byKind, computing, loaded, none-collides, at}
+use Rattle.guarantee.proofs.Toy.{Step, toy, any, part, nobody, job, newer, uneven, fresh, flash, program, manifestWith, nobodys, noImage, right, taking, but, butFlash, byKind, computing, loaded, none-collides, at}
 
 -- A complete device whose tree lacks its manifest's root, and that no path update misled.
-unrooted : (wrong : Step) (ms : Messages) → (Misled toy any wrong fresh flash ms → ⊥) → Completed (accepted wrong fresh flash ms)
+unrooted : (wrong : Step) (ms : Messages) → (Misled toy any part wrong fresh flash ms → ⊥) → Completed (accepted wrong fresh flash part ms)
     → (let now = after wrong fresh flash ms in equal (treeOver toy (now .device .manifest) (now .flash)) (now .device .manifest .root) ≡ false)
-    → FirstHalf toy any wrong fresh flash ms → ⊥
+    → FirstHalf toy any part wrong fresh flash ms → ⊥
 unrooted wrong ms n c e h =
     let root : List ℕ = after wrong fresh flash ms .device .manifest .root in
     let t = ⊎-elim (λ t. t) (λ w. absurd (n w)) (h .bound c .tree) in
     true≢false (sym (equal-self root) ∙ ap (λ x. equal x root) (sym (t .rooted)) ∙ e)
 
 -- .. after a path update that clashes with the tree nowhere
-by-path : (wrong : Step) (m : List ℕ) → pathsSince (accepted wrong fresh flash loaded) ≡ 0 → (Clash toy (after wrong fresh flash loaded .flash) m → ⊥)
-    → Completed (accepted wrong fresh flash (loaded ▷ m))
+by-path : (wrong : Step) (m : List ℕ) → pathsSince (accepted wrong fresh flash part loaded) ≡ 0 → (Clash toy (after wrong fresh flash loaded .flash) m → ⊥)
+    → Completed (accepted wrong fresh flash part (loaded ▷ m))
     → (let now = after wrong fresh flash (loaded ▷ m) in equal (treeOver toy (now .device .manifest) (now .flash)) (now .device .manifest .root) ≡ false)
-    → FirstHalf toy any wrong fresh flash (loaded ▷ m) → ⊥
-by-path wrong m n c = unrooted wrong (loaded ▷ m) (first-path toy any wrong fresh flash loaded m n c)
+    → FirstHalf toy any part wrong fresh flash (loaded ▷ m) → ⊥
+by-path wrong m n c = unrooted wrong (loaded ▷ m) (first-path toy any part wrong fresh flash loaded m n c)
 
 -- It checks block 1 and merely steps on for later ones.
 pub careless : Step
@@ -52,9 +53,9 @@ careless = byKind right (λ d f m. cond (ltb 1 (nextOf (d .stage))) (taking d f 
 pub careless-list : Messages
 careless-list = empty ▷ program ▷ blockFor toy (job .image) 1 ▷ blockFor toy (newer .image) 2
 
-pub careless-caught : FirstHalf toy any careless fresh flash careless-list → ⊥
+pub careless-caught : FirstHalf toy any part careless fresh flash careless-list → ⊥
 unfolding computing careless careless-list
-careless-caught = unrooted careless careless-list (unmisled toy any careless fresh flash careless-list refl) (record { manifest = manifestFor toy job; last = refl; all = refl }) refl
+careless-caught = unrooted careless careless-list (unmisled toy any part careless fresh flash careless-list refl) (record { manifest = manifestFor toy job; last = refl; all = refl }) refl
 
 -- It does not compare an update's root. Before that a path update clashed, with a sibling whose last byte the toy hash does not see: that is no excuse.
 pub blind : Step
@@ -63,14 +64,14 @@ blind = byKind right right taking right
 pub clashing : List ℕ
 clashing = pathMessage (manifestFor toy (record { image = job .image; model = 7; serial = 2 })) 1 (replicate 64 3) (set (toy (replicate 64 3)) 31 9) []
 
-pub clashing-misleads : Misled toy any blind fresh flash (loaded ▷ clashing)
+pub clashing-misleads : Misled toy any part blind fresh flash (loaded ▷ clashing)
 unfolding computing blind clashing
 clashing-misleads =
     record {
       before = loaded;
-      message = clashing;
+      call = clashing;
       path = refl;
-      taken = refl;
+      taken = (refl, refl);
       since = here;
       clash = record {
         place = (0, node leaf leaf);
@@ -84,13 +85,13 @@ clashing-misleads =
 pub blind-list : Messages
 blind-list = loaded ▷ clashing ▷ updateFor toy (record { image = newer .image; model = 7; serial = 3 }) 1 []
 
-pub blind-caught : FirstHalf toy any blind fresh flash blind-list → ⊥
+pub blind-caught : FirstHalf toy any part blind fresh flash blind-list → ⊥
 unfolding computing blind clashing blind-list
-blind-caught = unrooted blind blind-list (unmisled toy any blind fresh flash blind-list refl) (record { manifest = manifestFor toy job; last = refl; all = refl }) refl
+blind-caught = unrooted blind blind-list (unmisled toy any part blind fresh flash blind-list refl) (record { manifest = manifestFor toy job; last = refl; all = refl }) refl
 
 -- Its manifest is not the last accepted message's.
-other-serial : (wrong : Step) (ms : Messages) (m : List ℕ) → lastCarrier (accepted wrong fresh flash ms) ≡ some m
-    → (after wrong fresh flash ms .device .manifest .serial ≡ manifestIn m .serial → ⊥) → FirstHalf toy any wrong fresh flash ms → ⊥
+other-serial : (wrong : Step) (ms : Messages) (m : List ℕ) → lastCarrier (accepted wrong fresh flash part ms) ≡ some m
+    → (after wrong fresh flash ms .device .manifest .serial ≡ manifestIn m .serial → ⊥) → FirstHalf toy any part wrong fresh flash ms → ⊥
 other-serial wrong ms m c n h = n (ap (λ (s : Manifest). s .serial) (h .manifest m c))
 
 -- the device with another serial and root in its manifest
@@ -112,14 +113,14 @@ sameSerial d f m = let o = right d f m in but o (withManifest (d .manifest .seri
 pub keeping : Step
 keeping = byKind right right sameSerial right
 
-pub keeping-caught : FirstHalf toy any keeping fresh flash (loaded ▷ updateFor toy newer 2 []) → ⊥
+pub keeping-caught : FirstHalf toy any part keeping fresh flash (loaded ▷ updateFor toy newer 2 []) → ⊥
 unfolding computing keeping sameSerial withManifest
 keeping-caught = other-serial keeping (loaded ▷ updateFor toy newer 2 []) (updateFor toy newer 2 []) refl (λ (e : _≡_ {A = ℕ} 1 2). omega arith)
 
 pub clinging : Step
 clinging = byKind right right right sameSerial
 
-pub clinging-caught : FirstHalf toy any clinging fresh flash (loaded ▷ pathFor toy newer 2 []) → ⊥
+pub clinging-caught : FirstHalf toy any part clinging fresh flash (loaded ▷ pathFor toy newer 2 []) → ⊥
 unfolding computing clinging sameSerial withManifest
 clinging-caught = other-serial clinging (loaded ▷ pathFor toy newer 2 []) (pathFor toy newer 2 []) refl (λ (e : _≡_ {A = ℕ} 1 2). omega arith)
 
@@ -127,7 +128,7 @@ clinging-caught = other-serial clinging (loaded ▷ pathFor toy newer 2 []) (pat
 pub stuck : Step
 stuck = byKind right right right (λ d f m. let o = right d f m in but o d)
 
-pub stuck-caught : FirstHalf toy any stuck fresh flash (loaded ▷ pathFor toy newer 2 []) → ⊥
+pub stuck-caught : FirstHalf toy any part stuck fresh flash (loaded ▷ pathFor toy newer 2 []) → ⊥
 unfolding computing stuck
 stuck-caught = other-serial stuck (loaded ▷ pathFor toy newer 2 []) (pathFor toy newer 2 []) refl (λ (e : _≡_ {A = ℕ} 1 2). omega arith)
 
@@ -135,7 +136,7 @@ stuck-caught = other-serial stuck (loaded ▷ pathFor toy newer 2 []) (pathFor t
 pub forgetting : Step
 forgetting = byKind (λ d f m. let o = right d f m in but o (withManifest 0 (o .device .manifest .root) (o .device))) right right right
 
-pub forgetting-caught : FirstHalf toy any forgetting fresh flash (empty ▷ program) → ⊥
+pub forgetting-caught : FirstHalf toy any part forgetting fresh flash (empty ▷ program) → ⊥
 unfolding computing forgetting withManifest
 forgetting-caught = other-serial forgetting (empty ▷ program) program refl (λ (e : _≡_ {A = ℕ} 0 1). omega arith)
 
@@ -143,7 +144,7 @@ forgetting-caught = other-serial forgetting (empty ▷ program) program refl (λ
 pub idling : Step
 idling = byKind (λ d f m. let o = right d f m in cond (noImage (manifestIn m)) (but o (at Idle (o .device))) o) right right right
 
-pub idling-caught : FirstHalf toy any idling fresh flash (empty ▷ nobodys) → ⊥
+pub idling-caught : FirstHalf toy any part idling fresh flash (empty ▷ nobodys) → ⊥
 unfolding computing idling at
 idling-caught h =
     let e : Idle ≡ Loading 1 = h .loading (manifestIn nobodys) refl (lit< tt) in
@@ -157,12 +158,12 @@ early = byKind right (λ d f m. let o = right d f m in but o (at Complete (o .de
 pub early-list : Messages
 early-list = empty ▷ program ▷ blockFor toy (job .image) 1
 
-early-runs : (after early fresh flash early-list .device .stage ≡ Complete) × (blocksSince (accepted early fresh flash early-list) ≡ 1)
-    × (lastProgram (accepted early fresh flash early-list) ≡ some (manifestFor toy job)) × (countOf (manifestFor toy job) ≡ 2)
+early-runs : (after early fresh flash early-list .device .stage ≡ Complete) × (blocksSince (accepted early fresh flash part early-list) ≡ 1)
+    × (lastProgram (accepted early fresh flash part early-list) ≡ some (manifestFor toy job)) × (countOf (manifestFor toy job) ≡ 2)
 unfolding computing early at early-list
 early-runs = (refl, refl, refl, refl)
 
-pub early-caught : FirstHalf toy any early fresh flash early-list → ⊥
+pub early-caught : FirstHalf toy any part early fresh flash early-list → ⊥
 early-caught h =
     let r = early-runs in
     let c = h .exactly .0 (r .0) in
@@ -176,7 +177,7 @@ early-caught h =
 pub lapsing : Step
 lapsing = byKind right right (λ d f m. let o = right d f m in but o (at Idle (o .device))) right
 
-pub lapsing-caught : FirstHalf toy any lapsing fresh flash (loaded ▷ updateFor toy newer 2 []) → ⊥
+pub lapsing-caught : FirstHalf toy any part lapsing fresh flash (loaded ▷ updateFor toy newer 2 []) → ⊥
 unfolding computing lapsing at
 lapsing-caught h =
     let e : Idle ≡ Complete = h .exactly .1 (record { manifest = manifestFor toy job; last = refl; all = refl }) in
@@ -191,14 +192,14 @@ unchanged d f m = butFlash (right d f m) f
 pub unwritten : Step
 unwritten = byKind right right unchanged right
 
-pub unwritten-caught : FirstHalf toy any unwritten fresh flash (loaded ▷ updateFor toy newer 2 []) → ⊥
+pub unwritten-caught : FirstHalf toy any part unwritten fresh flash (loaded ▷ updateFor toy newer 2 []) → ⊥
 unfolding computing unwritten unchanged
-unwritten-caught = unrooted unwritten (loaded ▷ updateFor toy newer 2 []) (unmisled toy any unwritten fresh flash (loaded ▷ updateFor toy newer 2 []) refl) (record { manifest = manifestFor toy job; last = refl; all = refl }) refl
+unwritten-caught = unrooted unwritten (loaded ▷ updateFor toy newer 2 []) (unmisled toy any part unwritten fresh flash (loaded ▷ updateFor toy newer 2 []) refl) (record { manifest = manifestFor toy job; last = refl; all = refl }) refl
 
 pub untouched : Step
 untouched = byKind right right right unchanged
 
-pub untouched-caught : FirstHalf toy any untouched fresh flash (loaded ▷ pathFor toy newer 2 []) → ⊥
+pub untouched-caught : FirstHalf toy any part untouched fresh flash (loaded ▷ pathFor toy newer 2 []) → ⊥
 unfolding computing untouched unchanged
 untouched-caught = by-path untouched (pathFor toy newer 2 []) refl (none-collides (refl, (refl, tt))) (record { manifest = manifestFor toy job; last = refl; all = refl }) refl
 
@@ -212,7 +213,7 @@ holding root d f m = let o = right (withManifest (d .manifest .serial) root d) f
 pub trusting : Step
 trusting = byKind right right right (λ d f m. holding (ledTo toy any d f m (blocksOf (manifestIn m) f (pred (updateNumber m)))) d f m)
 
-pub trusting-caught : FirstHalf toy any trusting fresh flash (loaded ▷ pathFor toy newer 1 []) → ⊥
+pub trusting-caught : FirstHalf toy any part trusting fresh flash (loaded ▷ pathFor toy newer 1 []) → ⊥
 unfolding computing trusting holding withManifest
 trusting-caught = by-path trusting (pathFor toy newer 1 []) refl (none-collides (refl, (refl, tt))) (record { manifest = manifestFor toy job; last = refl; all = refl }) refl
 
@@ -220,7 +221,7 @@ trusting-caught = by-path trusting (pathFor toy newer 1 []) refl (none-collides 
 pub doubling : Step
 doubling = byKind right right right (λ d f m. holding (manifestIn m .root) d f m)
 
-pub doubling-caught : FirstHalf toy any doubling fresh flash (loaded ▷ pathFor toy newer 1 []) → ⊥
+pub doubling-caught : FirstHalf toy any part doubling fresh flash (loaded ▷ pathFor toy newer 1 []) → ⊥
 unfolding computing doubling holding withManifest
 doubling-caught = by-path doubling (pathFor toy newer 1 []) refl (none-collides (refl, (refl, tt))) (record { manifest = manifestFor toy job; last = refl; all = refl }) refl
 
@@ -236,12 +237,12 @@ nearsighted = byKind right right right (λ d f m.
 pub ownHash : List ℕ
 ownHash = pathMessage (manifestWith 2 (toy (replicate 64 4))) 2 (replicate 64 4) (toy (replicate 64 3)) []
 
-pub nearsighted-caught : FirstHalf toy any nearsighted fresh flash (loaded ▷ ownHash) → ⊥
+pub nearsighted-caught : FirstHalf toy any part nearsighted fresh flash (loaded ▷ ownHash) → ⊥
 unfolding computing nearsighted ownHash
 nearsighted-caught = by-path nearsighted ownHash refl (none-collides (refl, (refl, tt))) (record { manifest = manifestFor toy job; last = refl; all = refl }) refl
 
 -- It accepts everything.
-pub taking-caught : FirstHalf toy nobody taking fresh flash loaded → ⊥
+pub taking-caught : FirstHalf toy nobody (whole toy nobody) taking fresh flash loaded → ⊥
 unfolding computing
 taking-caught h = false≢true (h .bound (record { manifest = manifestFor toy job; last = refl; all = refl }) .signed)
 
@@ -249,7 +250,7 @@ taking-caught h = false≢true (h .bound (record { manifest = manifestFor toy jo
 pub smearing : Step
 smearing = byKind right right (λ d f m. let o = right d f m in butFlash o (set (o .flash) (o .device .manifest .«image_len») 0)) right
 
-pub smearing-caught : FirstHalf toy any smearing fresh flash loaded → ⊥
+pub smearing-caught : FirstHalf toy any part smearing fresh flash loaded → ⊥
 unfolding computing smearing
 smearing-caught h =
     let z : _≡_ {A = ℕ} 0 5 = ap (λ (l : List ℕ). number (take 1 l)) (h .beyond (updateFor toy newer 2 [])) in
@@ -268,7 +269,7 @@ wholeUpdate d f m = let s = manifestIn m in let i = updateNumber m in butFlash (
 pub padding : Step
 padding = byKind right wholeBlock wholeUpdate wholeUpdate
 
-pub padding-caught : FirstHalf toy any padding fresh (replicate 512 5) (empty ▷ programFor toy uneven [] ▷ blockFor toy (uneven .image) 1) → ⊥
+pub padding-caught : FirstHalf toy any part padding fresh (replicate 512 5) (empty ▷ programFor toy uneven [] ▷ blockFor toy (uneven .image) 1) → ⊥
 unfolding computing padding wholeBlock wholeUpdate wholly
 padding-caught h =
     let z : _≡_ {A = ℕ} 255 5 = ap (λ (l : List ℕ). number (take 1 l)) (h .beyond (blockFor toy (uneven .image) 2)) in
@@ -279,7 +280,7 @@ padding-caught h =
 pub shrinking : Step
 shrinking = byKind (λ d f m. let o = right d f m in cond (noImage (manifestIn m) && eqb (length f) (manifestIn m .«image_len»)) (butFlash o (drop 1 f)) o) right right right
 
-pub shrinking-caught : FirstHalf toy any shrinking fresh (replicate 128 5) (empty ▷ nobodys) → ⊥
+pub shrinking-caught : FirstHalf toy any part shrinking fresh (replicate 128 5) (empty ▷ nobodys) → ⊥
 unfolding computing shrinking
 shrinking-caught h =
     let z : _≡_ {A = ℕ} 127 128 = h .one in

@@ -13,23 +13,27 @@ use Rattle.machine.specs.declared.state.Stage.the-variants.{Loading}
 use Rattle.machine.specs.declared.state.Device.{Device}
 use Rattle.machine.specs.declared.state.Answer.the-variants.{Accepted}
 use Rattle.machine.specs.Device.{nextOf}
-use Rattle.guarantee.specs.Run.{empty, _▷_, answerTo, blocksSince}
-use Rattle.guarantee.specs.Demand3.{Begun, begin, next, SecondHalf}
-use Rattle.guarantee.proofs.Toy.{Step, toy, any, job, fresh, flash, program, right, refusing, but, butFlash, byKind, computing, loaded, at}
+use Rattle.guarantee.specs.Run.{Messages, empty, _▷_, answerTo, blocksSince}
+use Rattle.guarantee.specs.Demand3.{Begun, Sends, begin, next, SecondHalf}
+use Rattle.guarantee.proofs.Toy.{Step, toy, any, part, job, fresh, flash, program, right, refusing, but, butFlash, byKind, computing, loaded, at}
 
 -- The honest run of the job, as far as the wrong device takes the manifest.
-begun-by : (wrong : Step) → answerTo wrong fresh flash empty program ≡ Accepted → Begun toy any wrong fresh flash job empty program
+begun-by : (wrong : Step) → answerTo wrong fresh flash empty program ≡ Accepted → Begun toy any part wrong fresh flash job empty program
 unfolding computing
-begun-by wrong e = record { sendable = record { size = refl; model = lit< tt; serial = lit< tt }; program = refl; carries = refl; taken = e }
+begun-by wrong e = record { sendable = record { size = refl; model = lit< tt; serial = lit< tt }; program = refl; carries = refl; taken = (refl, e) }
+
+-- a call hands over the sender's next block
+sent : {wrong : Step} {f : List ℕ} {from : Job} {j : ℕ} {ms : Messages} → Sends toy any part wrong fresh f from j ms (blockFor toy (from .image) (suc j))
+sent = record { named = refl; block = refl; enough = omega arith }
 
 -- It takes manifests and refuses each block.
 pub deaf : Step
 deaf = byKind right refusing right right
 
-pub deaf-caught : SecondHalf toy any deaf fresh flash (empty ▷ program ▷ blockFor toy (job .image) 1) → ⊥
+pub deaf-caught : SecondHalf toy any part deaf fresh flash (empty ▷ program ▷ blockFor toy (job .image) 1) → ⊥
 unfolding computing deaf
 deaf-caught h =
-    let r = h .loads job empty program 1 (begun-by deaf refl) (next (lit< tt) begin) .all in
+    let r = h .loads job empty program 1 (begun-by deaf refl) (next (lit< tt) sent begin) .all in
     let z : _≡_ {A = ℕ} 0 1 = ap blocksSince r in
     omega arith
 
@@ -37,7 +41,7 @@ deaf-caught h =
 pub still : Step
 still d f m = record { answer = right d f m .answer; device = d; flash = f }
 
-pub still-caught : SecondHalf toy any still fresh flash (empty ▷ program) → ⊥
+pub still-caught : SecondHalf toy any part still fresh flash (empty ▷ program) → ⊥
 unfolding computing still
 still-caught h =
     let r = h .loads job empty program 0 (begun-by still refl) begin .held in
@@ -48,10 +52,10 @@ still-caught h =
 pub hoarding : Step
 hoarding = byKind right (λ d f m. let o = right d f m in but o (at (o .device .stage) d)) right right
 
-pub hoarding-caught : SecondHalf toy any hoarding fresh flash (empty ▷ program ▷ blockFor toy (job .image) 1) → ⊥
+pub hoarding-caught : SecondHalf toy any part hoarding fresh flash (empty ▷ program ▷ blockFor toy (job .image) 1) → ⊥
 unfolding computing hoarding at
 hoarding-caught h =
-    let r = h .loads job empty program 1 (begun-by hoarding refl) (next (lit< tt) begin) .held in
+    let r = h .loads job empty program 1 (begun-by hoarding refl) (next (lit< tt) sent begin) .held in
     let z : _≡_ {A = ℕ} 1 3 = ap (λ (l : List (List ℕ)). number (take 1 (drop 1 (joined l)))) r in
     omega arith
 
@@ -59,10 +63,10 @@ hoarding-caught h =
 pub skipping : Step
 skipping = byKind right (λ d f m. let o = right d f m in but o (at (Loading 3) (o .device))) right right
 
-pub skipping-caught : SecondHalf toy any skipping fresh flash (empty ▷ program ▷ blockFor toy (job .image) 1) → ⊥
+pub skipping-caught : SecondHalf toy any part skipping fresh flash (empty ▷ program ▷ blockFor toy (job .image) 1) → ⊥
 unfolding computing skipping at
 skipping-caught h =
-    let r = h .loads job empty program 1 (begun-by skipping refl) (next (lit< tt) begin) .held in
+    let r = h .loads job empty program 1 (begun-by skipping refl) (next (lit< tt) sent begin) .held in
     let z : _≡_ {A = ℕ} 0 1 = ap (λ (l : List (List ℕ)). length l) r in
     omega arith
 
@@ -81,14 +85,14 @@ mislaid d =
 pub mislaying : Step
 mislaying d f m = let o = right (mislaid d) f m in record { answer = o .answer; device = mislaid (o .device); flash = o .flash }
 
-mislaying-begun : Begun toy any mislaying fresh (replicate 192 5) three empty (programFor toy three [])
+mislaying-begun : Begun toy any part mislaying fresh (replicate 192 5) three empty (programFor toy three [])
 unfolding computing three mislaying mislaid
-mislaying-begun = record { sendable = record { size = refl; model = lit< tt; serial = lit< tt }; program = refl; carries = refl; taken = refl }
+mislaying-begun = record { sendable = record { size = refl; model = lit< tt; serial = lit< tt }; program = refl; carries = refl; taken = (refl, refl) }
 
-pub mislaying-caught : SecondHalf toy any mislaying fresh (replicate 192 5) (empty ▷ programFor toy three [] ▷ blockFor toy (three .image) 1) → ⊥
+pub mislaying-caught : SecondHalf toy any part mislaying fresh (replicate 192 5) (empty ▷ programFor toy three [] ▷ blockFor toy (three .image) 1) → ⊥
 unfolding computing three flipped mislaying mislaid
 mislaying-caught h =
-    let r = h .loads three empty (programFor toy three []) 1 mislaying-begun (next (lit< tt) begin) .held in
+    let r = h .loads three empty (programFor toy three []) 1 mislaying-begun (next (lit< tt) sent begin) .held in
     let z : _≡_ {A = ℕ} 2 3 = ap (λ (l : List (List ℕ)). number (drop 63 (joined l))) r in
     omega arith
 
@@ -96,9 +100,9 @@ mislaying-caught h =
 pub garbling : Step
 garbling = byKind right (λ d f m. let o = right d f m in butFlash o (set (o .flash) 0 9)) right right
 
-pub garbling-caught : SecondHalf toy any garbling fresh flash loaded → ⊥
+pub garbling-caught : SecondHalf toy any part garbling fresh flash loaded → ⊥
 unfolding computing garbling
 garbling-caught h =
-    let r = h .loads job empty program 2 (begun-by garbling refl) (next (lit< tt) (next (lit< tt) begin)) .done refl .image in
+    let r = h .loads job empty program 2 (begun-by garbling refl) (next (lit< tt) sent (next (lit< tt) sent begin)) .done refl .image in
     let z : _≡_ {A = ℕ} 9 3 = ap (λ (l : List ℕ). number (take 1 l)) r in
     omega arith

@@ -1,7 +1,7 @@
 -- When a flash is found altered (02, change 5), and what the boot check tells.
 use mathlib.Core.Path.{_≡_}
 use mathlib.Core.Logic.{_⊎_}
-use mathlib.Core.Bool.{Bool}
+use mathlib.Core.Bool.{Bool, true}
 use mathlib.Core.List.{List}
 use Prim.Native.Nat.{ℕ, _≤_}
 use lib.ListN.{length}
@@ -11,10 +11,11 @@ use Rattle.wire.specs.Message.{kind}
 use Rattle.machine.specs.declared.state.Stage.the-variants.{Complete}
 use Rattle.machine.specs.declared.state.Device.{Device}
 use Rattle.machine.specs.declared.state.Answer.the-variants.{Accepted, Refused}
-use Rattle.machine.specs.Device.{Fresh}
+use Rattle.machine.specs.Device.{Fresh, OutcomeOf}
 use Rattle.machine.specs.Step.{step}
 use Rattle.machine.specs.BootCheck.{bootCheck}
-use Rattle.guarantee.specs.Run.{Messages, after, answerTo}
+use Rattle.guarantee.specs.Part.{Part}
+use Rattle.guarantee.specs.Run.{Growing, after, answerTo}
 use Rattle.guarantee.specs.Demand3.{Clash, Intact, Misled}
 
 -- What answer 0 of the boot check proves of any state and any flash: the device is complete, and every image of its program's length with the manifest's root is the
@@ -41,13 +42,14 @@ module _ (H : List ℕ → List ℕ) (valid : (key message signature : List ℕ)
       (d : Device) (flash m : List ℕ) → bootCheck H d flash ≡ Accepted → kind m ≡ PathUpdate
       → (let o = step H valid d flash m in o .answer ≡ Accepted → (bootCheck H (o .device) (o .flash) ≡ Accepted) ⊎ Clash H flash m)
 
+module _ (H : List ℕ → List ℕ) (valid : (key message signature : List ℕ) → Bool) {D F C : Type 0} (part : Part D F C) (step : D → F → C → OutcomeOf D F) where
   -- In a list from a fresh device, where nobody else writes: no block is refused 19, so the honest run never meets it; an update is, or the boot check fails, only
   -- where a kind 4 misled the device (`Misled`).
-  pub record Untouched (d : Device) (flash : List ℕ) (ms : Messages) : Type 0 where
-    pub block : (m : List ℕ) → kind m ≡ Block → answerTo (step H valid) d flash ms m ≡ Refused refusal.Altered → ⊥
-    pub update : (m : List ℕ) → answerTo (step H valid) d flash ms m ≡ Refused refusal.Altered → Misled H valid (step H valid) d flash ms
-    pub boot : after (step H valid) d flash ms .device .stage ≡ Complete
-        → (bootCheck H (after (step H valid) d flash ms .device) (after (step H valid) d flash ms .flash) ≡ Accepted) ⊎ Misled H valid (step H valid) d flash ms
+  pub record Untouched (d : D) (flash : F) (cs : Growing C) : Type 0 where
+    pub block : (c : C) → part .names c ≡ true → kind (part .message c) ≡ Block → answerTo step d flash cs c ≡ Refused refusal.Altered → ⊥
+    pub update : (c : C) → part .names c ≡ true → answerTo step d flash cs c ≡ Refused refusal.Altered → Misled H valid part step d flash cs
+    pub boot : (let s = after step d flash cs in
+        part .device (s .device) .stage ≡ Complete → (bootCheck H (part .device (s .device)) (part .flash (s .flash)) ≡ Accepted) ⊎ Misled H valid part step d flash cs)
 
   abbrev pub NobodyElse : Type 0
-  NobodyElse = (d : Device) → Fresh d → (flash : List ℕ) (ms : Messages) → Untouched d flash ms
+  NobodyElse = (d : D) → Fresh (part .device d) → (flash : F) (cs : Growing C) → Untouched d flash cs

@@ -5,33 +5,33 @@ use mathlib.Core.Bool.{Bool, false}
 use mathlib.Core.List.{List}
 use Prim.Native.Nat.{ℕ, _≤_}
 use Rattle.sender.specs.Job.{Job}
-use Rattle.machine.specs.declared.state.Device.{Device}
-use Rattle.machine.specs.Device.{Fresh, Outcome}
+use Rattle.machine.specs.Device.{Fresh, OutcomeOf}
 use Rattle.machine.specs.Refusals.{senseless}
-use Rattle.guarantee.specs.Run.{Messages, _▷_, after, accepted, pathsSince, Completed}
+use Rattle.guarantee.specs.Part.{Part}
+use Rattle.guarantee.specs.Run.{Growing, _▷_, after, accepted, pathsSince, Completed}
 use Rattle.guarantee.specs.Demand3.{Intact, Misled, Honest, FirstHalf}
 
-pub data Beginning (ms : Messages) : Messages → Type 0 where
-  whole : Beginning ms ms
-  shorter : {more : Messages} {x : List ℕ} → Beginning ms more → Beginning ms (more ▷ x)
+pub data Beginning {C : Type 0} (cs : Growing C) : Growing C → Type 0 where
+  all : Beginning cs cs
+  shorter : {more : Growing C} {x : C} → Beginning cs more → Beginning cs (more ▷ x)
 
-module _ (H : List ℕ → List ℕ) (valid : (key message signature : List ℕ) → Bool) (step : Device → List ℕ → List ℕ → Outcome) where
+module _ (H : List ℕ → List ℕ) (valid : (key message signature : List ℕ) → Bool) {D F C : Type 0} (part : Part D F C) (step : D → F → C → OutcomeOf D F) where
   -- A beginning of an honest list is a beginning of what came before the manifest, or an honest list itself: so the second half counts for it as well.
   abbrev pub EachBeginning : Type 0
   EachBeginning =
-      (d : Device) (flash : List ℕ) (job : Job) (before : Messages) (m : List ℕ) (j : ℕ) (ms part : Messages) → Honest H valid step d flash job before m j ms
-      → Beginning part ms → Beginning part before ⊎ ((i : ℕ) × (i ≤ j) × Honest H valid step d flash job before m i part)
+      (d : D) (flash : F) (job : Job) (before : Growing C) (c : C) (j : ℕ) (cs fewer : Growing C) → Honest H valid part step d flash job before c j cs
+      → Beginning fewer cs → Beginning fewer before ⊎ ((i : ℕ) × (i ≤ j) × Honest H valid part step d flash job before c i fewer)
 
   -- Refusal 1 never applies after a list from a fresh device.
   abbrev pub MakesSense : Type 0
-  MakesSense = (d : Device) → Fresh d → (flash : List ℕ) (ms : Messages) → senseless (after step d flash ms .device) ≡ false
+  MakesSense = (d : D) → Fresh (part .device d) → (flash : F) (cs : Growing C) → senseless (part .device (after step d flash cs .device)) ≡ false
 
   -- Where no kind 4 was accepted since the last manifest in a message of another kind, none misled the device: so demand 3 says of a complete one that its flash has the
   -- manifest's tree, as if there were no kind 4.
   abbrev pub Unmisled : Type 0
-  Unmisled = (d : Device) (flash : List ℕ) (ms : Messages) → pathsSince (accepted step d flash ms) ≡ 0 → Misled H valid step d flash ms → ⊥
+  Unmisled = (d : D) (flash : F) (cs : Growing C) → pathsSince (accepted step d flash part cs) ≡ 0 → Misled H valid part step d flash cs → ⊥
 
   abbrev pub WithoutPaths : Type 0
   WithoutPaths =
-      (d : Device) (flash : List ℕ) (ms : Messages) → FirstHalf H valid step d flash ms → Completed (accepted step d flash ms) → pathsSince (accepted step d flash ms) ≡ 0
-      → Intact H (after step d flash ms .device .manifest) (after step d flash ms .flash)
+      (d : D) (flash : F) (cs : Growing C) → FirstHalf H valid part step d flash cs → Completed (accepted step d flash part cs)
+      → pathsSince (accepted step d flash part cs) ≡ 0 → (let now = after step d flash cs in Intact H (part .device (now .device) .manifest) (part .flash (now .flash)))

@@ -3,7 +3,7 @@ use mathlib.Core.Path.{_≡_}
 use mathlib.Core.Logic.{_⊎_, _↔_}
 use mathlib.Core.Bool.{Bool, true, false}
 use mathlib.Core.List.{List, []}
-use mathlib.Core.Option.{none, some}
+use mathlib.Core.Option.{Option, none, some}
 use Prim.Native.Nat.{ℕ, zero, suc, pred, _^_, max, _≤_, _<_}
 use lib.ListN.{length, take, drop}
 use Rattle.merkle.specs.Shape.{shape, depth}
@@ -23,10 +23,11 @@ use Rattle.machine.specs.declared.state.Stage.the-variants.{Idle, Loading, Comp
 use Rattle.machine.specs.declared.state.Device.{Device}
 use Rattle.machine.specs.declared.state.Answer.{Answer}
 use Rattle.machine.specs.declared.state.Answer.the-variants.{Accepted, Refused}
-use Rattle.machine.specs.Device.{Fresh, heldBy, Outcome}
+use Rattle.machine.specs.Device.{Fresh, heldBy, OutcomeOf, Outcome}
 use Rattle.machine.specs.Readers.{numberOf}
-use Rattle.machine.specs.Step.{answerOf, refusalOf}
-use Rattle.guarantee.specs.Run.{Messages, _▷_, after, answerTo, accepted, lastProgram, blocksSince, lastCarrier, signatureIn, siblingsIn, Completed}
+use Rattle.machine.specs.Step.{answerOf}
+use Rattle.guarantee.specs.Part.{Part, whole}
+use Rattle.guarantee.specs.Run.{Growing, Messages, _▷_, after, answerTo, accepted, lastProgram, blocksSince, lastCarrier, signatureIn, siblingsIn, Completed}
 
 -- The sender writes a manifest for the job: it does not refuse 5, and model and serial have four bytes.
 pub record Sendable (job : Job) : Type 0 where
@@ -58,112 +59,130 @@ module _ (H : List ℕ → List ℕ) where
     pub image : (x : List ℕ) → length x ≡ s .«image_len» → treeOver H s x ≡ s .root
         → (x ≡ take (s .«image_len») f) ⊎ Collision (plain H) (blocksOf s x) (blocksOf s f) 0 (shape (countOf s))
 
-module _ (H : List ℕ → List ℕ) (valid : (key message signature : List ℕ) → Bool) (step : Device → List ℕ → List ℕ → Outcome) (d : Device) (flash : List ℕ) where
-  -- device, flash and accepted messages after a list, and the answer to one message more
-  abbrev deviceAfter : Messages → Device
-  deviceAfter ms = after step d flash ms .device
+module _ (H : List ℕ → List ℕ) (valid : (key message signature : List ℕ) → Bool) {D F C : Type 0} (part : Part D F C) (step : D → F → C → OutcomeOf D F) (d : D) (flash : F) where
+  -- the part's device, flash and accepted messages after a list, and the answer to one call more
+  abbrev deviceAfter : Growing C → Device
+  deviceAfter cs = part .device (after step d flash cs .device)
 
-  abbrev flashAfter : Messages → List ℕ
-  flashAfter ms = after step d flash ms .flash
+  abbrev flashAfter : Growing C → List ℕ
+  flashAfter cs = part .flash (after step d flash cs .flash)
 
-  abbrev acceptedOf : Messages → Messages
-  acceptedOf ms = accepted step d flash ms
+  abbrev acceptedOf : Growing C → Messages
+  acceptedOf cs = accepted step d flash part cs
 
-  abbrev answer : Messages → List ℕ → Answer
-  answer ms m = answerTo step d flash ms m
+  abbrev answer : Growing C → C → Answer
+  answer cs c = answerTo step d flash cs c
 
-  -- One message more after a list.
-  pub record Calls (ms : Messages) : Type 0 where
+  -- it names the part and is accepted
+  abbrev Taken : Growing C → C → Type 0
+  Taken cs c = (part .names c ≡ true) × (answer cs c ≡ Accepted)
+
+  -- the first refusal that applies to it
+  abbrev refusal : Growing C → C → Option Refusal
+  refusal cs c = part .refusal (after step d flash cs .device) (after step d flash cs .flash) c
+
+  -- One call more after a list.
+  pub record Calls (cs : Growing C) : Type 0 where
     -- "Accepted: .. exactly where none of the drive's refusals .. applies"; and otherwise it gets its refusal number
-    pub answers : (m : List ℕ) → answer ms m ≡ answerOf (refusalOf H valid (deviceAfter ms) (flashAfter ms) m)
+    pub answers : (c : C) → answer cs c ≡ answerOf (refusal cs c)
     -- the same by number: 0, or 01's number of the first refusal that applies
-    pub numbers : (m : List ℕ) → numberOf (answer ms m) ≡ elim (refusalOf H valid (deviceAfter ms) (flashAfter ms) m) [ none ↦ 0 | some r ↦ refusalNumber r ]
+    pub numbers : (c : C) → numberOf (answer cs c) ≡ elim (refusal cs c) [ none ↦ 0 | some r ↦ refusalNumber r ]
     -- "a refused one leaves both as they were"
-    pub refused : (m : List ℕ) (r : Refusal) → answer ms m ≡ Refused r → after step d flash (ms ▷ m) ≡ after step d flash ms
+    pub refused : (c : C) (r : Refusal) → answer cs c ≡ Refused r → after step d flash (cs ▷ c) ≡ after step d flash cs
+    -- a call that does not name the part leaves its device and its flash as they were
+    pub leaves : (c : C) → part .names c ≡ false → (deviceAfter (cs ▷ c) ≡ deviceAfter cs) × (flashAfter (cs ▷ c) ≡ flashAfter cs)
     -- "no call changes model or key"
-    pub model : deviceAfter ms .model ≡ d .model
-    pub key : deviceAfter ms .key ≡ d .key
+    pub model : deviceAfter cs .model ≡ part .device d .model
+    pub key : deviceAfter cs .key ≡ part .device d .key
 
   -- The list goes on from `start`, and since then no accepted message of another kind than 4 carried a manifest.
-  pub data Since (start : Messages) : Messages → Type 0 where
+  pub data Since (start : Growing C) : Growing C → Type 0 where
     here : Since start start
-    later : {ms : Messages} {x : List ℕ} → Since start ms → (answer ms x ≡ Accepted → carries (kind x) ≡ true → kind x ≡ PathUpdate) → Since start (ms ▷ x)
+    later : {cs : Growing C} {x : C} → Since start cs
+        → (Taken cs x → carries (kind (part .message x)) ≡ true → kind (part .message x) ≡ PathUpdate) → Since start (cs ▷ x)
 
   -- 02, change 1: "at one of the kind 4 messages taken since the last accepted slip in a message of another kind the tree over the area before it and the message's path held two
-  -- different hash inputs with one digest": the list begins with `before` and that message
-  pub record Misled (ms : Messages) : Type 0 where
-    pub before : Messages
-    pub message : List ℕ
-    pub path : kind message ≡ PathUpdate
-    pub taken : answer before message ≡ Accepted
-    pub since : Since (before ▷ message) ms
-    pub clash : Clash H (flashAfter before) message
+  -- different hash inputs with one digest": the list begins with `before` and the call with that message
+  pub record Misled (cs : Growing C) : Type 0 where
+    pub before : Growing C
+    pub call : C
+    pub path : kind (part .message call) ≡ PathUpdate
+    pub taken : Taken before call
+    pub since : Since (before ▷ call) cs
+    pub clash : Clash H (flashAfter before) (part .message call)
 
   -- A list after which the device is complete with manifest s, and its flash f.
-  pub record Bound (ms : Messages) (s : Manifest) (f : List ℕ) : Type 0 where
+  pub record Bound (cs : Growing C) (s : Manifest) (f : List ℕ) : Type 0 where
     pub carrier : List ℕ
-    pub last : lastCarrier (acceptedOf ms) ≡ some carrier
+    pub last : lastCarrier (acceptedOf cs) ≡ some carrier
     -- "signed means that this message's signature over it is valid under the drive's key"
-    pub signed : valid (d .key) (manifestBytes carrier) (signatureIn carrier) ≡ true
+    pub signed : valid (part .device d .key) (manifestBytes carrier) (signatureIn carrier) ≡ true
     -- "the area must have T bytes"
     pub room : s .«image_len» ≤ length f
     -- "the tree over the area has it, or" a kind 4 message misled the device; 02, change 1: "in this second case no image need equal the area"
-    pub tree : Intact H s f ⊎ Misled ms
+    pub tree : Intact H s f ⊎ Misled cs
 
   -- The first half.
-  pub record FirstHalf (ms : Messages) : Type 0 where
+  pub record FirstHalf (cs : Growing C) : Type 0 where
     -- "The drive's slip is that of the last accepted message that carries one"
-    pub manifest : (m : List ℕ) → lastCarrier (acceptedOf ms) ≡ some m → deviceAfter ms .manifest ≡ manifestIn m
+    pub manifest : (m : List ℕ) → lastCarrier (acceptedOf cs) ≡ some m → deviceAfter cs .manifest ≡ manifestIn m
     -- "The stage is complete exactly then." Before, it is idle while no kind 1 was accepted, and then loading, with the number after the accepted blocks.
-    pub exactly : (deviceAfter ms .stage ≡ Complete) ↔ Completed (acceptedOf ms)
-    pub idle : lastProgram (acceptedOf ms) ≡ none → deviceAfter ms .stage ≡ Idle
-    pub loading : (s : Manifest) → lastProgram (acceptedOf ms) ≡ some s → blocksSince (acceptedOf ms) < countOf s
-        → deviceAfter ms .stage ≡ Loading (suc (blocksSince (acceptedOf ms)))
+    pub exactly : (deviceAfter cs .stage ≡ Complete) ↔ Completed (acceptedOf cs)
+    pub idle : lastProgram (acceptedOf cs) ≡ none → deviceAfter cs .stage ≡ Idle
+    pub loading : (s : Manifest) → lastProgram (acceptedOf cs) ≡ some s → blocksSince (acceptedOf cs) < countOf s
+        → deviceAfter cs .stage ≡ Loading (suc (blocksSince (acceptedOf cs)))
     -- "The area is one throughout"
-    pub one : length (flashAfter ms) ≡ length flash
-    -- "bytes beyond are never written": one message more leaves the byte at T and all behind it, T being of the manifest that the device then has
-    pub beyond : (m : List ℕ) → (let s = deviceAfter (ms ▷ m) .manifest in drop (s .«image_len») (flashAfter (ms ▷ m)) ≡ drop (s .«image_len») (flashAfter ms))
-    pub bound : Completed (acceptedOf ms) → Bound ms (deviceAfter ms .manifest) (flashAfter ms)
+    pub one : length (flashAfter cs) ≡ length (part .flash flash)
+    -- "bytes beyond are never written": one call more leaves the byte at T and all behind it, T being of the manifest that the device then has
+    pub beyond : (c : C) → (let s = deviceAfter (cs ▷ c) .manifest in drop (s .«image_len») (flashAfter (cs ▷ c)) ≡ drop (s .«image_len») (flashAfter cs))
+    pub bound : Completed (acceptedOf cs) → Bound cs (deviceAfter cs .manifest) (flashAfter cs)
 
-  -- "an accepted kind 1 carried exactly the slip that demand 2 has the sender write for an image": message m, after the messages `before`
-  pub record Begun (job : Job) (before : Messages) (m : List ℕ) : Type 0 where
+  -- "an accepted kind 1 carried exactly the slip that demand 2 has the sender write for an image": call c, after the calls `before`
+  pub record Begun (job : Job) (before : Growing C) (c : C) : Type 0 where
     pub sendable : Sendable job
-    pub program : kind m ≡ Program
-    pub carries : manifestBytes m ≡ written (manifestFor H job)
-    pub taken : answer before m ≡ Accepted
+    pub program : kind (part .message c) ≡ Program
+    pub carries : manifestBytes (part .message c) ≡ written (manifestFor H job)
+    pub taken : Taken before c
+
+  -- The call x after the list hands over the sender's block message j + 1, with a budget that suffices.
+  pub record Sends (job : Job) (j : ℕ) (cs : Growing C) (x : C) : Type 0 where
+    pub named : part .names x ≡ true
+    pub block : part .message x ≡ blockFor H (job .image) (suc j)
+    pub enough : part .total (after step d flash cs .device) (after step d flash cs .flash) x ≤ part .budget x
 
   -- "After it the sender's block messages for the same image and values stand in the list in order, from 1 up to some j, j from 0 to n, and every other message
-  -- after that slip was refused."
-  pub data Honest (job : Job) (before : Messages) (m : List ℕ) : ℕ → Messages → Type 0 where
-    begin : Honest job before m 0 (before ▷ m)
-    next : {j : ℕ} {ms : Messages} → j < count (job .image) → Honest job before m j ms → Honest job before m (suc j) (ms ▷ blockFor H (job .image) (suc j))
-    other : {j : ℕ} {ms : Messages} (x : List ℕ) (r : Refusal) → answer ms x ≡ Refused r → Honest job before m j ms → Honest job before m j (ms ▷ x)
+  -- after that slip was refused": of the calls that name the part.
+  pub data Honest (job : Job) (before : Growing C) (c : C) : ℕ → Growing C → Type 0 where
+    begin : Honest job before c 0 (before ▷ c)
+    next : {j : ℕ} {cs : Growing C} {x : C} → j < count (job .image) → Sends job j cs x → Honest job before c j cs → Honest job before c (suc j) (cs ▷ x)
+    other : {j : ℕ} {cs : Growing C} (x : C) (r : Refusal) → answer cs x ≡ Refused r → Honest job before c j cs → Honest job before c j (cs ▷ x)
+    elsewhere : {j : ℕ} {cs : Growing C} (x : C) → part .names x ≡ false → Honest job before c j cs → Honest job before c j (cs ▷ x)
 
   -- "For j = n the stage is then complete with this slip, the area begins with the .. image, and its bytes beyond are as when the slip came", and no hash is held.
-  pub record Loaded (job : Job) (before : Messages) (ms : Messages) : Type 0 where
-    pub stage : deviceAfter ms .stage ≡ Complete
-    pub manifest : deviceAfter ms .manifest ≡ manifestFor H job
-    pub none-held : heldBy (deviceAfter ms) ≡ []
-    pub image : flashAfter ms ≡ atStart (job .image .bytes) (flashAfter before)
+  pub record Loaded (job : Job) (before cs : Growing C) : Type 0 where
+    pub stage : deviceAfter cs .stage ≡ Complete
+    pub manifest : deviceAfter cs .manifest ≡ manifestFor H job
+    pub none-held : heldBy (deviceAfter cs) ≡ []
+    pub image : flashAfter cs ≡ atStart (job .image .bytes) (flashAfter before)
 
-  pub record Loads (job : Job) (before : Messages) (m : List ℕ) (j : ℕ) (ms : Messages) : Type 0 where
+  pub record Loads (job : Job) (before : Growing C) (c : C) (j : ℕ) (cs : Growing C) : Type 0 where
     -- "Then all j were accepted": since the manifest these, and nothing else
-    pub all : acceptedOf ms ≡ thenBlocks H (job .image) (acceptedOf before ▷ m) j
+    pub all : acceptedOf cs ≡ thenBlocks H (job .image) (acceptedOf before ▷ part .message c) j
     -- "the labels held are those of the image's tree at the subtrees named above for i = j"
-    pub held : heldBy (deviceAfter ms) ≡ hashes (plain H) (blocks (job .image)) (frontier 0 (shape (count (job .image))) j)
+    pub held : heldBy (deviceAfter cs) ≡ hashes (plain H) (blocks (job .image)) (frontier 0 (shape (count (job .image))) j)
     -- "never more labels were held than the tree's depth, or one at depth 0"
-    pub few : length (heldBy (deviceAfter ms)) ≤ max 1 (depth (count (job .image)))
-    pub done : j ≡ count (job .image) → Loaded job before ms
+    pub few : length (heldBy (deviceAfter cs)) ≤ max 1 (depth (count (job .image)))
+    pub done : j ≡ count (job .image) → Loaded job before cs
 
   -- The second half: the honest run. "This counts for each beginning of a list as well": it is said of every list, and a beginning is one.
-  pub record SecondHalf (ms : Messages) : Type 0 where
-    pub loads : (job : Job) (before : Messages) (m : List ℕ) (j : ℕ) → Begun job before m → Honest job before m j ms → Loads job before m j ms
+  pub record SecondHalf (cs : Growing C) : Type 0 where
+    pub loads : (job : Job) (before : Growing C) (c : C) (j : ℕ) → Begun job before c → Honest job before c j cs → Loads job before c j cs
 
-  pub record Claim (ms : Messages) : Type 0 where
-    pub calls : Calls ms
-    pub first : FirstHalf ms
-    pub second : SecondHalf ms
+  pub record Claim (cs : Growing C) : Type 0 where
+    pub calls : Calls cs
+    pub first : FirstHalf cs
+    pub second : SecondHalf cs
 
 -- "It starts from a fresh drive with any model and key, and an area of any length and content": every list of messages, "the empty one included".
 abbrev pub Demand3 : (H : List ℕ → List ℕ) (valid : (key message signature : List ℕ) → Bool) (step : Device → List ℕ → List ℕ → Outcome) → Type 0
-Demand3 H valid step = (d : Device) → Fresh d → (flash : List ℕ) (ms : Messages) → Claim H valid step d flash ms
+Demand3 H valid step = (d : Device) → Fresh d → (flash : List ℕ) (ms : Messages) → Claim H valid (whole H valid) step d flash ms

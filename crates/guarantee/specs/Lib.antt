@@ -1,3 +1,4 @@
+pub mod Part
 pub mod Run
 pub mod Demand3
 pub mod Recovery

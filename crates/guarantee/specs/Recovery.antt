@@ -16,6 +16,7 @@ use Rattle.machine.specs.declared.state.Answer.the-variants.{Accepted, Refused}
 use Rattle.machine.specs.Device.{Fresh, serialOf, Outcome}
 use Rattle.machine.specs.Refusals.{senseless}
 use Rattle.machine.specs.Step.{step}
+use Rattle.guarantee.specs.Part.{whole}
 use Rattle.guarantee.specs.Run.{Messages, empty, _▷_, after, answerTo}
 use Rattle.guarantee.specs.Demand3.{Sendable, thenBlocks, Honest, Loaded}
 use Rattle.guarantee.specs.Updates.{Installed}
@@ -34,8 +35,8 @@ module _ (H : List ℕ → List ℕ) (valid : (key message signature : List ℕ)
   -- with none between too.
   pub record Recovers (ms : Messages) (job : Job) (signature : List ℕ) : Type 0 where
     pub taken : answerTo step d flash ms (programFor H job signature) ≡ Accepted
-    pub loaded : (list : Messages) → Honest H valid step d flash job ms (programFor H job signature) (count (job .image)) list → Loaded H valid step d flash job ms list
-    pub none-between : Loaded H valid step d flash job ms (thenBlocks H (job .image) (ms ▷ programFor H job signature) (count (job .image)))
+    pub loaded : (list : Messages) → Honest H valid (whole H valid) step d flash job ms (programFor H job signature) (count (job .image)) list → Loaded H valid (whole H valid) step d flash job ms list
+    pub none-between : Loaded H valid (whole H valid) step d flash job ms (thenBlocks H (job .image) (ms ▷ programFor H job signature) (count (job .image)))
 
 -- after every list of messages to a fresh device
 abbrev pub Recovery : (H : List ℕ → List ℕ) (valid : (key message signature : List ℕ) → Bool) (step : Device → List ℕ → List ℕ → Outcome) → Type 0

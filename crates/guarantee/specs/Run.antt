@@ -1,6 +1,6 @@
 -- Lists of messages, and what a device makes of them (01, 'The list that demand 3 speaks of').
 use mathlib.Core.Path.{_≡_}
-use mathlib.Core.Bool.{cond}
+use mathlib.Core.Bool.{true, false, cond}
 use mathlib.Core.List.{List, []}
 use mathlib.Core.Option.{Option, none, some}
 use Prim.Native.Nat.{ℕ, suc, pred}
@@ -10,31 +10,39 @@ use Rattle.wire.specs.declared.kind.Kind.the-variants.{Program, Block, Update, 
 use Rattle.wire.specs.declared.manifest.Manifest.{Manifest}
 use Rattle.wire.specs.Geometry.{countOf, blockLength}
 use Rattle.wire.specs.Message.{kind, carries, manifestIn, programSignature, updateNumber, updateSignature, pathIn, pathSignature}
-use Rattle.machine.specs.declared.state.Device.{Device}
 use Rattle.machine.specs.declared.state.Answer.{Answer}
 use Rattle.machine.specs.declared.state.Answer.the-variants.{Accepted, Refused}
-use Rattle.machine.specs.Device.{Situation, Outcome}
+use Rattle.machine.specs.Device.{SituationOf, OutcomeOf}
+use Rattle.guarantee.specs.Part.{Part}
 
--- A list as it grows: empty, or a beginning of it and one message more.
+-- A list as it grows: empty, or a beginning of it and one more.
 infixl 25 _▷_
-pub data Messages : Type 0 where
-  empty : Messages
-  _▷_ : Messages → List ℕ → Messages
+pub data Growing (A : Type 0) : Type 0 where
+  empty : Growing A
+  _▷_ : Growing A → A → Growing A
 
--- "Each message, of any kind or none, goes with the state that the call before it returned and the area that it left", from device d and its flash on.
-module _ (step : Device → List ℕ → List ℕ → Outcome) (d : Device) (flash : List ℕ) where
-  unfoldable pub after : Messages → Situation
+abbrev pub Messages : Type 0
+Messages = Growing (List ℕ)
+
+-- "Each message, of any kind or none, goes with the state that the call before it returned and the area that it left", from device d and its flash on: a list of
+-- calls, which have a message each.
+module _ {D F C : Type 0} (step : D → F → C → OutcomeOf D F) (d : D) (flash : F) where
+  unfoldable pub after : Growing C → SituationOf D F
   after empty = record { device = d; flash = flash }
-  after (ms ▷ m) = let o = step (after ms .device) (after ms .flash) m in record { device = o .device; flash = o .flash }
+  after (cs ▷ c) = let o = step (after cs .device) (after cs .flash) c in record { device = o .device; flash = o .flash }
 
-  -- the answer to one message more
-  unfoldable pub answerTo : Messages → List ℕ → Answer
-  answerTo ms m = step (after ms .device) (after ms .flash) m .answer
+  -- the answer to one call more
+  unfoldable pub answerTo : Growing C → C → Answer
+  answerTo cs c = step (after cs .device) (after cs .flash) c .answer
 
-  -- "Accepted: the call gave no refusal number": the messages of the list that were
-  unfoldable pub accepted : Messages → Messages
-  accepted empty = empty
-  accepted (ms ▷ m) = elim (answerTo ms m) [ Accepted ↦ accepted ms ▷ m | Refused r ↦ accepted ms ]
+  -- "Accepted: the call gave no refusal number": the messages of those calls that name the part and were
+  unfoldable pub accepted : Part D F C → Growing C → Messages
+  accepted part empty = empty
+  accepted part (cs ▷ c) =
+      elim (part .names c) [
+        | true ↦ elim (answerTo cs c) [ Accepted ↦ accepted part cs ▷ part .message c | Refused r ↦ accepted part cs ]
+        | false ↦ accepted part cs
+      ]
 
 -- Of a list of accepted messages: the manifest of the last kind 1,
 unfoldable pub lastProgram : Messages → Option Manifest

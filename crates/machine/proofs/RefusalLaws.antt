@@ -216,6 +216,25 @@ module _ (H : List ℕ → List ℕ) (valid : (key message signature : List ℕ)
     took-update : kind m ≡ Update → UpdatePassed → Passed
     took-path : kind m ≡ PathUpdate → PathPassed → Passed
 
+  -- of a message of one kind
+  pub passed-program : kind m ≡ Program → Passed → ProgramPassed
+  passed-program e (took-program q p) = p
+  passed-program e (took-block q p) = absurd (let z : _≡_ {A = ℕ} 0 1 = cc in omega arith)
+  passed-program e (took-update q p) = absurd (let z : _≡_ {A = ℕ} 0 1 = cc in omega arith)
+  passed-program e (took-path q p) = absurd (let z : _≡_ {A = ℕ} 0 1 = cc in omega arith)
+
+  pub passed-block : kind m ≡ Block → Passed → BlockPassed
+  passed-block e (took-program q p) = absurd (let z : _≡_ {A = ℕ} 0 1 = cc in omega arith)
+  passed-block e (took-block q p) = p
+  passed-block e (took-update q p) = absurd (let z : _≡_ {A = ℕ} 0 1 = cc in omega arith)
+  passed-block e (took-path q p) = absurd (let z : _≡_ {A = ℕ} 0 1 = cc in omega arith)
+
+  pub passed-update : kind m ≡ Update → Passed → UpdatePassed
+  passed-update e (took-program q p) = absurd (let z : _≡_ {A = ℕ} 0 1 = cc in omega arith)
+  passed-update e (took-block q p) = absurd (let z : _≡_ {A = ℕ} 0 1 = cc in omega arith)
+  passed-update e (took-update q p) = p
+  passed-update e (took-path q p) = absurd (let z : _≡_ {A = ℕ} 0 1 = cc in omega arith)
+
   -- a new program that the device takes: no test applies
   pub record ProgramDue : Type 0 where
     pub is : kind m ≡ Program

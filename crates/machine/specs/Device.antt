@@ -39,12 +39,18 @@ nextOf t = elim t [ Idle ↦ 0 | Loading i ↦ i | Complete ↦ 0 ]
 unfoldable pub heldBy : Device → List (List ℕ)
 heldBy d = elim (d .stage) [ Idle ↦ [] | Loading i ↦ heldIn (countOf (d .manifest)) (pred i) (d .hashes) | Complete ↦ [] ]
 
--- device and flash (01: area) between two calls, and with the answer after one
-pub record Situation : Type 0 where
-  pub device : Device
-  pub flash : List ℕ
+-- A device's state D and its flash F (01: area) between two calls, and with the answer after one.
+pub record SituationOf (D F : Type 0) : Type 0 where
+  pub device : D
+  pub flash : F
 
-pub record Outcome : Type 0 where
+pub record OutcomeOf (D F : Type 0) : Type 0 where
   pub answer : Answer
-  pub device : Device
-  pub flash : List ℕ
+  pub device : D
+  pub flash : F
+
+abbrev pub Situation : Type 0
+Situation = SituationOf Device (List ℕ)
+
+abbrev pub Outcome : Type 0
+Outcome = OutcomeOf Device (List ℕ)

@@ -16,7 +16,7 @@ use Rattle.machine.specs.declared.state.Stage.the-variants.{Loading, Com
 use Rattle.machine.specs.declared.state.Device.{Device}
 use Rattle.machine.specs.declared.state.Answer.{Answer}
 use Rattle.machine.specs.declared.state.Answer.the-variants.{Accepted, Refused}
-use Rattle.machine.specs.Device.{nextOf, Situation, Outcome}
+use Rattle.machine.specs.Device.{nextOf, SituationOf, OutcomeOf, Situation, Outcome}
 use Rattle.machine.specs.Flash.{stored, updated}
 use Rattle.machine.specs.Refusals.{refusals}
 
@@ -69,7 +69,7 @@ unfoldable pub answerOf : Option Refusal → Answer
 answerOf r = elim r [ none ↦ Accepted | some x ↦ Refused x ]
 
 -- accepted where no refusal applies, with what that does; else the refusal alone, and device and flash as before
-unfoldable pub outcome : Option Refusal → Device → List ℕ → Situation → Outcome
+unfoldable pub outcome : {D F : Type 0} → Option Refusal → D → F → SituationOf D F → OutcomeOf D F
 outcome r d flash then =
     elim r [
       | none ↦ record { answer = Accepted; device = then .device; flash = then .flash }
