@@ -28,7 +28,7 @@ use Rattle.machine.specs.BootCheck.{ofBoot, bootCheck}
 use Rattle.machine.proofs.RefusalLaws.{testOf, ahead, behind, clear, answer-none, answer-some, start, _past_, has-root, lacks-none, Successor, block-passed, update-passed, path-passed, path-block}
 use Rattle.machine.proofs.SenseLaws.{not-complete, complete-size, sense-complete}
 use Rattle.guarantee.specs.Part.{Part, whole}
-use Rattle.guarantee.specs.Run.{Growing, Messages, after, answerTo}
+use Rattle.guarantee.specs.Run.{Trace, Messages, after, answerTo}
 use Rattle.guarantee.specs.Demand3.{Clash, Misled, FirstHalf}
 use Rattle.guarantee.specs.OneCall.{Rooted}
 use Rattle.guarantee.specs.Altered.{BootProves, BootAfter, BootKept, Untouched, NobodyElse}
@@ -151,7 +151,7 @@ module _ (H : List ℕ → List ℕ) (valid : (key message signature : List ℕ)
 module _ (H : List ℕ → List ℕ) (hash-long : (x : List ℕ) → length (H x) ≡ hashLength) (valid : (key message signature : List ℕ) → Bool) {D F C : Type 0} (part : Part D F C)
     (step : D → F → C → OutcomeOf D F) (serves : Serves H valid part step)
     (finds : (d : D) (f : F) (c : C) → part .names c ≡ true → step d f c .answer ≡ Refused refusal.Altered → Found H (part .device d) (part .flash f) (part .message c))
-    (d : D) (fresh : Fresh (part .device d)) (flash : F) (cs : Growing C) where
+    (d : D) (fresh : Fresh (part .device d)) (flash : F) (cs : Trace C) where
   abbrev at : Situation
   at = now H valid part step d flash serves cs
 

@@ -16,7 +16,7 @@ use Rattle.machine.specs.Flash.{stored, updated}
 use Rattle.machine.specs.Step.{acceptProgram, acceptBlock, acceptUpdate, accept}
 use Rattle.machine.proofs.RefusalLaws.{BlockPassed, Successor, path-block, Passed, took-program, took-block, took-update, took-path}
 use Rattle.guarantee.specs.Part.{Part}
-use Rattle.guarantee.specs.Run.{Growing, _▷_}
+use Rattle.guarantee.specs.Run.{Trace, _▷_}
 use Rattle.guarantee.proofs.RunLaws.{Serves, now, more, Does, takes, stays, does}
 
 -- block i, from 1, of k bytes
@@ -54,8 +54,8 @@ module _ (H : List ℕ → List ℕ) (valid : (key message signature : List ℕ)
     kept (took-path q p) = rw q (kept-update (p .successor) (path-block H valid d flash m p))
 
 module _ (H : List ℕ → List ℕ) (valid : (key message signature : List ℕ) → Bool) {D F C : Type 0} (part : Part D F C) (step : D → F → C → OutcomeOf D F) (d : D) (flash : F)
-    (serves : Serves H valid part step) (cs : Growing C) (c : C) where
-  abbrev at : Growing C → Situation
+    (serves : Serves H valid part step) (cs : Trace C) (c : C) where
+  abbrev at : Trace C → Situation
   at cs = now H valid part step d flash serves cs
 
   pub beyond : drop (at (cs ▷ c) .device .manifest .«image_len») (at (cs ▷ c) .flash) ≡ drop (at (cs ▷ c) .device .manifest .«image_len») (at cs .flash)

@@ -14,7 +14,7 @@ use Rattle.machine.specs.Readers.{numberOf}
 use Rattle.machine.specs.Step.{accept, answerOf, outcome}
 use Rattle.machine.proofs.RefusalLaws.{answer-none, answer-some}
 use Rattle.guarantee.specs.Part.{Part}
-use Rattle.guarantee.specs.Run.{Growing, after, answerTo}
+use Rattle.guarantee.specs.Run.{Trace, after, answerTo}
 use Rattle.guarantee.specs.Demand3.{Calls}
 use Rattle.guarantee.proofs.RunLaws.{slot, then, PassedBy, Serves, keeps}
 
@@ -84,7 +84,7 @@ module _ (H : List ℕ → List ℕ) (valid : (key message signature : List ℕ)
           accepts = λ d f c n e. ap seen (left-accepted d f c e) ∙ fits .here d f c n;
         }
 
-    pub calls : (d : D) (flash : F) (cs : Growing C) → Calls H valid part step d flash cs
+    pub calls : (d : D) (flash : F) (cs : Trace C) → Calls H valid part step d flash cs
     unfolding after answerTo left
     calls d flash cs =
         let s = after step d flash cs in

@@ -11,7 +11,7 @@ use Rattle.lms.specs.Lms.{valid}
 use Rattle.machine.specs.Device.{OutcomeOf, Fresh}
 use Rattle.machine.specs.Step.{step}
 use Rattle.guarantee.specs.Part.{Part, whole}
-use Rattle.guarantee.specs.Run.{Growing}
+use Rattle.guarantee.specs.Run.{Trace}
 use Rattle.guarantee.specs.Demand3.{Calls, Claim, Demand3}
 use Rattle.guarantee.proofs.RunLaws.{Serves}
 use Rattle.guarantee.proofs.FirstHalf.{first-half}
@@ -21,7 +21,7 @@ use Rattle.guarantee.proofs.DeviceLaws.{serves, willing, calls}
 -- of one part of any device
 pub claim-for : (H : List ℕ → List ℕ) → ((x : List ℕ) → length (H x) ≡ hashLength) → (verdict : (key message signature : List ℕ) → Bool) {D F C : Type 0} (part : Part D F C)
     (any : D → F → C → OutcomeOf D F) → Serves H verdict part any → (d : D) → Fresh (part .device d) → (flash : F) → Willing H verdict part any d flash
-    → (cs : Growing C) → Calls H verdict part any d flash cs → Claim H verdict part any d flash cs
+    → (cs : Trace C) → Calls H verdict part any d flash cs → Claim H verdict part any d flash cs
 claim-for H hash-long verdict part any serves d fresh flash willing cs calls =
     record { calls = calls; first = first-half H hash-long verdict part any d flash serves fresh cs; second = second-half H hash-long verdict part any d flash serves willing cs }
 

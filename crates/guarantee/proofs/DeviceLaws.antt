@@ -54,7 +54,7 @@ module _ (H : List ℕ → List ℕ) (valid : (key message signature : List ℕ)
   unfolding answerTo
   willing d flash =
       record {
-        takes = λ ms m n w e.
+        takes = λ ms m n w.
             let s = after (step H valid) d flash ms in
             choice.none-accepted H valid (whole H valid) (step H valid) does chosen (s .device) (s .flash) m
             (due-unrefused H valid (s .device) (s .flash) m w);

@@ -28,7 +28,7 @@ use Rattle.machine.specs.declared.state.Device.{Device}
 use Rattle.machine.specs.declared.state.Answer.the-variants.{Accepted}
 use Rattle.machine.specs.Device.{Fresh, OutcomeOf, Situation}
 use Rattle.guarantee.specs.Part.{Part}
-use Rattle.guarantee.specs.Run.{Growing, Messages, _▷_, answerTo, lastProgram, blocksSince, lastCarrier, Completed}
+use Rattle.guarantee.specs.Run.{Trace, Messages, _▷_, answerTo, lastProgram, blocksSince, lastCarrier, Completed}
 use Rattle.guarantee.specs.Demand3.{Clash, here, Misled, Bound, FirstHalf}
 use Rattle.guarantee.proofs.InvariantLaws.{Carried, InComplete, Holds, Invariant, kept}
 use Rattle.guarantee.proofs.MisledLaws.{still-misled}
@@ -103,21 +103,21 @@ module _ (H : List ℕ → List ℕ) (valid : (key message signature : List ℕ)
 
 module _ (H : List ℕ → List ℕ) (hash-long : (x : List ℕ) → length (H x) ≡ hashLength) (valid : (key message signature : List ℕ) → Bool) {D F C : Type 0} (part : Part D F C)
     (step : D → F → C → OutcomeOf D F) (d : D) (flash : F) (serves : Serves H valid part step) where
-  abbrev Misleads : Growing C → Type 0
+  abbrev Misleads : Trace C → Type 0
   Misleads cs = Misled H valid part step d flash cs
 
-  abbrev at : Growing C → Situation
+  abbrev at : Trace C → Situation
   at cs = now H valid part step d flash serves cs
 
-  abbrev list : Growing C → Messages
+  abbrev list : Trace C → Messages
   list cs = taken H valid part step d flash serves cs
 
-  after-path : (cs : Growing C) (c : C) → part .names c ≡ true → answerTo step d flash cs c ≡ Accepted → kind (part .message c) ≡ PathUpdate
+  after-path : (cs : Trace C) (c : C) → part .names c ≡ true → answerTo step d flash cs c ≡ Accepted → kind (part .message c) ≡ PathUpdate
       → Clash H (at cs .flash) (part .message c) ⊎ Misleads cs → Misleads (cs ▷ c)
   after-path cs c n e q (inl x) = record { before = cs; call = c; path = q; taken = (n, e); since = here; clash = x }
   after-path cs c n e q (inr w) = still-misled H valid part step d flash cs c (λ t x. q) w
 
-  pub invariant : Fresh (part .device d) → (cs : Growing C)
+  pub invariant : Fresh (part .device d) → (cs : Trace C)
       → Invariant H valid (part .device d .key) (length (part .flash flash)) (at cs .device) (at cs .flash) (list cs) (Misleads cs)
   unfolding lastProgram lastCarrier
   invariant fresh cs =
@@ -130,7 +130,7 @@ module _ (H : List ℕ → List ℕ) (hash-long : (x : List ℕ) → length (H x
       record { same = v .same; long = v .long; holds = v .holds; tree = λ c. ⊎-elim (λ r. inl r) (λ w. inr (stays w)) (v .tree c) })
       (record { same = refl; long = refl; holds = rw (fresh .idle) (refl, refl); tree = λ c. absurd (let f = fresh .idle in let z : _≡_ {A = ℕ} 0 1 = cc in omega arith) }) cs
 
-  module _ (fresh : Fresh (part .device d)) (cs : Growing C) where
+  module _ (fresh : Fresh (part .device d)) (cs : Trace C) where
     holds : Holds H valid (part .device d .key) (at cs .device .stage) (at cs .device .manifest) (at cs .device .hashes) (at cs .flash) (list cs)
     holds = invariant fresh cs .holds
 

@@ -12,7 +12,7 @@ use Rattle.machine.specs.declared.state.Answer.{Answer}
 use Rattle.machine.specs.declared.state.Answer.the-variants.{Accepted, Refused}
 use Rattle.machine.specs.Device.{OutcomeOf}
 use Rattle.guarantee.specs.Part.{Part}
-use Rattle.guarantee.specs.Run.{Growing, _▷_, after, answerTo, accepted, pathsSince}
+use Rattle.guarantee.specs.Run.{Trace, _▷_, after, answerTo, accepted, pathsSince}
 use Rattle.guarantee.specs.Demand3.{Clash, Since, here, later, Misled}
 use Rattle.guarantee.specs.Claims.{Unmisled, WithoutPaths}
 
@@ -27,12 +27,12 @@ none-less Unknown n e = omega arith
 
 module _ (H : List ℕ → List ℕ) (valid : (key message signature : List ℕ) → Bool) {D F C : Type 0} (part : Part D F C) (any : D → F → C → OutcomeOf D F) (d : D) (flash : F) where
   -- Once misled, a device stays so while no accepted message of another kind carries a manifest.
-  pub still-misled : (cs : Growing C) (c : C)
+  pub still-misled : (cs : Trace C) (c : C)
       → ((part .names c ≡ true) × (answerTo any d flash cs c ≡ Accepted) → carries (kind (part .message c)) ≡ true → kind (part .message c) ≡ PathUpdate)
       → Misled H valid part any d flash cs → Misled H valid part any d flash (cs ▷ c)
   still-misled cs c e w = record { before = w .before; call = w .call; path = w .path; taken = w .taken; since = later (w .since) e; clash = w .clash }
 
-  still-counted : {start cs : Growing C} → Since H valid part any d flash start cs → 0 < pathsSince (accepted any d flash part start) → 0 < pathsSince (accepted any d flash part cs)
+  still-counted : {start cs : Trace C} → Since H valid part any d flash start cs → 0 < pathsSince (accepted any d flash part start) → 0 < pathsSince (accepted any d flash part cs)
   still-counted here p = p
   still-counted (later {cs} {x} s e) p = named (part .names x) refl (still-counted s p)
     where
@@ -45,19 +45,19 @@ module _ (H : List ℕ → List ℕ) (valid : (key message signature : List ℕ)
       named true n p = go n (answerTo any d flash cs x) refl p
       named false n p = unfold accepted in rw (n, accepted) p
 
-  pub none-misled : (cs : Growing C) → pathsSince (accepted any d flash part cs) ≡ 0 → Misled H valid part any d flash cs → ⊥
+  pub none-misled : (cs : Trace C) → pathsSince (accepted any d flash part cs) ≡ 0 → Misled H valid part any d flash cs → ⊥
   unfolding accepted pathsSince
   none-misled cs e w =
       let t : 0 < pathsSince (accepted any d flash part (w .before ▷ w .call)) = rw (w .taken .0, accepted, w .taken .1, accepted, w .path, pathsSince) (omega arith) in
       omega (arith, still-counted (w .since) t)
 
-  newest : {before cs : Growing C} {x c : C} → Since H valid part any d flash (before ▷ x) (cs ▷ c) → Clash H (part .flash (after any d flash before .flash)) (part .message x)
+  newest : {before cs : Trace C} {x c : C} → Since H valid part any d flash (before ▷ x) (cs ▷ c) → Clash H (part .flash (after any d flash before .flash)) (part .message x)
       → Clash H (part .flash (after any d flash cs .flash)) (part .message c) ⊎ Since H valid part any d flash (before ▷ x) cs
   newest here c = inl c
   newest (later s e) c = inr s
 
   -- Nor did the first one since then, where its path does not clash.
-  pub first-path : (cs : Growing C) (c : C) → pathsSince (accepted any d flash part cs) ≡ 0 → (Clash H (part .flash (after any d flash cs .flash)) (part .message c) → ⊥)
+  pub first-path : (cs : Trace C) (c : C) → pathsSince (accepted any d flash part cs) ≡ 0 → (Clash H (part .flash (after any d flash cs .flash)) (part .message c) → ⊥)
       → Misled H valid part any d flash (cs ▷ c) → ⊥
   first-path cs c e n w =
       ⊎-elim n (λ s. none-misled cs e (record { before = w .before; call = w .call; path = w .path; taken = w .taken; since = s; clash = w .clash }))

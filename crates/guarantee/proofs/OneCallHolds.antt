@@ -14,7 +14,7 @@ use Rattle.machine.specs.declared.state.Device.{Device}
 use Rattle.machine.specs.declared.state.Answer.the-variants.{Accepted}
 use Rattle.machine.specs.Device.{nextOf, OutcomeOf, Situation}
 use Rattle.machine.specs.Flash.{stored}
-use Rattle.machine.specs.Step.{acceptProgram, acceptBlock, acceptUpdate, accept, step}
+use Rattle.machine.specs.Step.{acceptProgram, acceptBlock, acceptUpdate, accept, refusalOf, step}
 use Rattle.machine.proofs.RefusalLaws.{alike-lengths, BlockPassed, UpdatePassed, Passed, took-program, took-block, took-update, took-path, passed-block, passed-update}
 use Rattle.guarantee.specs.Part.{Part, whole}
 use Rattle.guarantee.specs.Run.{empty, after, answerTo}
@@ -22,7 +22,7 @@ use Rattle.guarantee.specs.Behind.{goesBy}
 use Rattle.guarantee.specs.OneCall.{Rooted, EachCall}
 use Rattle.guarantee.proofs.InvariantLaws.{complete-last, length-placed, length-updated}
 use Rattle.guarantee.proofs.RunLaws.{goes-by, slot, Serves}
-use Rattle.guarantee.proofs.DeviceLaws.{serves, calls}
+use Rattle.guarantee.proofs.DeviceLaws.{serves, calls, answered}
 
 module _ (H : List ℕ → List ℕ) (valid : (key message signature : List ℕ) → Bool) (d : Device) (flash m : List ℕ) where
   length-stored : BlockPassed H valid d flash m → length (stored (d .manifest) (nextOf (d .stage)) flash m) ≡ length flash
@@ -72,11 +72,12 @@ pub part-leaves : (H : List ℕ → List ℕ) (valid : (key message signature : 
 part-leaves H valid part any serves d flash c n a =
     subst (Leaves H valid (part .device d) (part .flash flash) (part .message c)) (sym (serves .accepts d flash c n a)) (leaves H valid (part .device d) (part .flash flash) (part .message c) (serves .passes d flash c n a))
 
-pub each-call : (H : List ℕ → List ℕ) (valid : (key message signature : List ℕ) → Bool) → EachCall H (step H valid)
+pub each-call : (H : List ℕ → List ℕ) (valid : (key message signature : List ℕ) → Bool) → EachCall H (refusalOf H valid) (step H valid)
 unfolding after answerTo
 each-call H valid d flash m =
     let l = part-leaves H valid (whole H valid) (step H valid) (serves H valid) d flash m refl in
     record {
+      answers = answered H valid d flash m;
       refused = λ r e. let s = calls H valid d flash empty .refused m r e in (ap (λ (x : Situation). x .device) s, ap (λ (x : Situation). x .flash) s);
       manifest = λ a. l a .manifest;
       before = λ k a. l a .before k;

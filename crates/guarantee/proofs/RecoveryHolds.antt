@@ -33,8 +33,8 @@ use Rattle.machine.specs.Step.{acceptProgram, accept, answerOf, refusalOf, step
 use Rattle.machine.proofs.RefusalLaws.{answer-none, Successor, Passed, took-program, took-block, took-update, took-path, passed}
 use Rattle.machine.proofs.SenseLaws.{sound, not-complete, sense-idle, sense-loading, sense-complete}
 use Rattle.guarantee.specs.Part.{Part, whole}
-use Rattle.guarantee.specs.Run.{Growing, Messages, empty, _▷_, after, answerTo, accepted, lastProgram, blocksSince, lastCarrier, signatureIn, Completed}
-use Rattle.guarantee.specs.Demand3.{thenBlocks, Calls, Begun, Sends, Honest, begin, next, Loaded, Claim, FirstHalf, SecondHalf, Demand3}
+use Rattle.guarantee.specs.Run.{Trace, Messages, empty, _▷_, after, answerTo, accepted, lastProgram, blocksSince, lastCarrier, signatureIn, Completed}
+use Rattle.guarantee.specs.Demand3.{thenBlocks, Calls, Begun, Honest, begin, next, Loaded, Claim, FirstHalf, SecondHalf, Demand3}
 use Rattle.guarantee.specs.Claims.{MakesSense}
 use Rattle.guarantee.specs.Recovery.{Offered, Recovers, Recovery, RecoveryFrom, SameAgain, PutBack}
 use Rattle.guarantee.specs.Updates.{Installed}
@@ -64,16 +64,16 @@ not-done t e q = true≢false (rw q at e)
 
 -- One part of any step, of which the first half holds and whose accepted messages passed their tests.
 module _ (H : List ℕ → List ℕ) (valid : (key message signature : List ℕ) → Bool) {D F C : Type 0} (part : Part D F C) (any : D → F → C → OutcomeOf D F) (d : D) (flash : F)
-    (first : (cs : Growing C) → FirstHalf H valid part any d flash cs)
-    (passes : (cs : Growing C) (c : C) → part .names c ≡ true → answerTo any d flash cs c ≡ Accepted
+    (first : (cs : Trace C) → FirstHalf H valid part any d flash cs)
+    (passes : (cs : Trace C) (c : C) → part .names c ≡ true → answerTo any d flash cs c ≡ Accepted
     → (let s = after any d flash cs in Passed H valid (part .device (s .device)) (part .flash (s .flash)) (part .message c))) where
-  abbrev at : Growing C → Situation
+  abbrev at : Trace C → Situation
   at cs = slot part (after any d flash cs .device) (after any d flash cs .flash)
 
-  abbrev taken : Growing C → Messages
+  abbrev taken : Trace C → Messages
   taken cs = accepted any d flash part cs
 
-  sense-of : (cs : Growing C) → Standing (taken cs) → senseless (at cs .device) ≡ false
+  sense-of : (cs : Trace C) → Standing (taken cs) → senseless (at cs .device) ≡ false
   sense-of cs (nothing e) = sense-idle (at cs .device) (first cs .idle e)
   sense-of cs (loading s m e c i v z h) =
       let k = first cs .manifest m c in
@@ -82,17 +82,17 @@ module _ (H : List ℕ → List ℕ) (valid : (key message signature : List ℕ)
       let k = first cs .manifest m c in
       sense-complete (at cs .device) (rw k v) (rw k z) (first cs .exactly .1 (record { manifest = s; last = e; all = h }))
 
-  abbrev is-complete : (cs : Growing C) (s : Manifest) → lastProgram (taken cs) ≡ some s → blocksSince (taken cs) ≡ countOf s → at cs .device .stage ≡ Complete
+  abbrev is-complete : (cs : Trace C) (s : Manifest) → lastProgram (taken cs) ≡ some s → blocksSince (taken cs) ≡ countOf s → at cs .device .stage ≡ Complete
   is-complete cs s e h = first cs .exactly .1 (record { manifest = s; last = e; all = h })
 
-  after-update : (cs : Growing C) (m : List ℕ) {least : ℕ} {signature : List ℕ} → Successor H valid (at cs .device) (at cs .flash) m least signature
+  after-update : (cs : Trace C) (m : List ℕ) {least : ℕ} {signature : List ℕ} → Successor H valid (at cs .device) (at cs .flash) m least signature
       → (lastProgram (taken cs ▷ m) ≡ lastProgram (taken cs)) × (blocksSince (taken cs ▷ m) ≡ blocksSince (taken cs)) × (lastCarrier (taken cs ▷ m) ≡ some m) × (signatureIn m ≡ signature)
       → Standing (taken cs ▷ m)
   after-update cs m p a =
       let c : Completed (taken cs) = first cs .exactly .0 (not-complete (at cs .device .stage) (p .complete)) in
       complete (c .manifest) m (a .0 ∙ c .last) (a .2) (p .version) (p .size) (a .1 ∙ c .all)
 
-  more : (cs : Growing C) (m : List ℕ) → Passed H valid (at cs .device) (at cs .flash) m → Standing (taken cs) → Standing (taken cs ▷ m)
+  more : (cs : Trace C) (m : List ℕ) → Passed H valid (at cs .device) (at cs .flash) m → Standing (taken cs) → Standing (taken cs ▷ m)
   more cs m (took-program k p) t =
       let a = with-program (taken cs) m k in
       loading (manifestIn m) m (a .0) (a .2) refl (p .version) (p .size) (rw (a .1) (unfold countOf in p .size .first))
@@ -109,7 +109,7 @@ module _ (H : List ℕ → List ℕ) (valid : (key message signature : List ℕ)
   more cs m (took-update k p) t = after-update cs m (p .successor) (with-update (taken cs) m k)
   more cs m (took-path k p) t = after-update cs m (p .successor) (with-path (taken cs) m k)
 
-  standing : (cs : Growing C) → Standing (taken cs)
+  standing : (cs : Trace C) → Standing (taken cs)
   unfolding accepted lastProgram
   standing empty = nothing refl
   standing (cs ▷ c) = named (part .names c) refl (standing cs)
@@ -123,7 +123,7 @@ module _ (H : List ℕ → List ℕ) (valid : (key message signature : List ℕ)
       named false n t = rw (n, accepted) t
 
   -- refusal 1 never applies to the part
-  pub sense : (cs : Growing C) → senseless (at cs .device) ≡ false
+  pub sense : (cs : Trace C) → senseless (at cs .device) ≡ false
   sense cs = sense-of cs (standing cs)
 
 -- Where demand 3 holds refusal 1 never applies.
@@ -135,14 +135,11 @@ makes-sense H valid any meets d fresh flash =
 -- A device that makes sense takes the program that it is offered, and then its blocks.
 module _ (H : List ℕ → List ℕ) (hash-long : (x : List ℕ) → length (H x) ≡ hashLength) (valid : (key message signature : List ℕ) → Bool)
     (any : Device → List ℕ → List ℕ → Outcome) (d : Device) (flash : List ℕ) (ms : Messages) (job : Job) (signature : List ℕ) where
-  sends : (j : ℕ) (list : Messages) → Sends H valid (whole H valid) any d flash job j list (blockFor H (job .image) (suc j))
-  sends j list = record { named = refl; block = refl; enough = omega arith }
-
   -- the list with nothing between
   plain : (j : ℕ) → j ≤ count (job .image) → Honest H valid (whole H valid) any d flash job ms (programFor H job signature) j (thenBlocks H (job .image) (ms ▷ programFor H job signature) j)
   unfolding thenBlocks
   plain zero h = begin
-  plain (suc j) h = next h (sends j (thenBlocks H (job .image) (ms ▷ programFor H job signature) j)) (plain j (omega arith))
+  plain (suc j) h = next h refl refl (plain j (omega arith))
 
   recovers : Calls H valid (whole H valid) any d flash ms → length (after any d flash ms .flash) ≡ length flash → ((list : Messages) → SecondHalf H valid (whole H valid) any d flash list)
       → senseless (after any d flash ms .device) ≡ false → Offered H valid any d flash ms job signature → Recovers H valid any d flash ms job signature

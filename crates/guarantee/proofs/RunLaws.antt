@@ -15,7 +15,7 @@ use Rattle.machine.specs.Device.{SituationOf, OutcomeOf, Situation}
 use Rattle.machine.specs.Step.{acceptProgram, acceptBlock, acceptUpdate, accept}
 use Rattle.machine.proofs.RefusalLaws.{Passed}
 use Rattle.guarantee.specs.Part.{Part}
-use Rattle.guarantee.specs.Run.{Growing, Messages, empty, _▷_, after, answerTo, accepted}
+use Rattle.guarantee.specs.Run.{Trace, Messages, empty, _▷_, after, answerTo, accepted}
 
 pub accept-keeps : (k : Kind) (d : Device) (flash m : List ℕ) → (accept k d flash m .device .model ≡ d .model) × (accept k d flash m .device .key ≡ d .key)
 unfolding accept acceptProgram acceptBlock acceptUpdate
@@ -57,19 +57,19 @@ module _ (H : List ℕ → List ℕ) (valid : (key message signature : List ℕ)
 
 module _ (H : List ℕ → List ℕ) (valid : (key message signature : List ℕ) → Bool) {D F C : Type 0} (part : Part D F C) (step : D → F → C → OutcomeOf D F) (d : D) (flash : F)
     (serves : Serves H valid part step) where
-  abbrev pub state : Growing C → SituationOf D F
+  abbrev pub state : Trace C → SituationOf D F
   state cs = after step d flash cs
 
-  abbrev pub now : Growing C → Situation
+  abbrev pub now : Trace C → Situation
   now cs = slot part (state cs .device) (state cs .flash)
 
-  abbrev pub taken : Growing C → Messages
+  abbrev pub taken : Trace C → Messages
   taken cs = accepted step d flash part cs
 
-  abbrev pub accepting : Growing C → C → Situation
+  abbrev pub accepting : Trace C → C → Situation
   accepting cs c = accept (kind (part .message c)) (now cs .device) (now cs .flash) (part .message c)
 
-  module _ (cs : Growing C) (c : C) where
+  module _ (cs : Trace C) (c : C) where
     pub record More : Type 0 where
       pub passed : PassedBy H valid part step (state cs .device) (state cs .flash) c
       pub after-is : now (cs ▷ c) ≡ accepting cs c
@@ -116,23 +116,30 @@ module _ (H : List ℕ → List ℕ) (valid : (key message signature : List ℕ)
         named true n = answered n (answerTo step d flash cs c) refl
         named false n = stays (λ t a. true≢false (sym t ∙ n)) (away n)
 
+    pub untaken : ((part .names c ≡ true) × (answerTo step d flash cs c ≡ Accepted) → ⊥) → Same
+    untaken n = go does
+      where
+        go : Does → Same
+        go (takes m e) = absurd (n (m, e))
+        go (stays m s) = s
+
   -- What an accepted message for the part keeps, and a call that leaves the part, every list keeps.
-  module _ (P : Situation → Messages → Growing C → Type 0)
-      (keep : (cs : Growing C) (c : C) → part .names c ≡ true → answerTo step d flash cs c ≡ Accepted → P (now cs) (taken cs) cs → P (accepting cs c) (taken cs ▷ part .message c) (cs ▷ c))
-      (stay : (cs : Growing C) (c : C) → (part .names c ≡ true → answerTo step d flash cs c ≡ Accepted → ⊥) → P (now cs) (taken cs) cs → P (now cs) (taken cs) (cs ▷ c)) where
-    one-more : (cs : Growing C) (c : C) → P (now cs) (taken cs) cs → P (now (cs ▷ c)) (taken (cs ▷ c)) (cs ▷ c)
+  module _ (P : Situation → Messages → Trace C → Type 0)
+      (keep : (cs : Trace C) (c : C) → part .names c ≡ true → answerTo step d flash cs c ≡ Accepted → P (now cs) (taken cs) cs → P (accepting cs c) (taken cs ▷ part .message c) (cs ▷ c))
+      (stay : (cs : Trace C) (c : C) → (part .names c ≡ true → answerTo step d flash cs c ≡ Accepted → ⊥) → P (now cs) (taken cs) cs → P (now cs) (taken cs) (cs ▷ c)) where
+    one-more : (cs : Trace C) (c : C) → P (now cs) (taken cs) cs → P (now (cs ▷ c)) (taken (cs ▷ c)) (cs ▷ c)
     one-more cs c p = go (does cs c)
       where
         go : Does cs c → P (now (cs ▷ c)) (taken (cs ▷ c)) (cs ▷ c)
         go (takes n e) = let a = more cs c n e in rw (a .after-is, a .taken-is) (keep cs c n e p)
         go (stays n a) = rw (a .after-is, a .taken-is) (stay cs c n p)
 
-    pub every-list : P (slot part d flash) empty empty → (cs : Growing C) → P (now cs) (taken cs) cs
+    pub every-list : P (slot part d flash) empty empty → (cs : Trace C) → P (now cs) (taken cs) cs
     unfolding after accepted
     every-list start empty = start
     every-list start (cs ▷ c) = one-more cs c (every-list start cs)
 
-  pub keeps : (cs : Growing C) → (now cs .device .model ≡ part .device d .model) × (now cs .device .key ≡ part .device d .key)
+  pub keeps : (cs : Trace C) → (now cs .device .model ≡ part .device d .model) × (now cs .device .key ≡ part .device d .key)
   keeps cs =
       every-list (λ s taken list. (s .device .model ≡ part .device d .model) × (s .device .key ≡ part .device d .key))
       (λ cs c n e p. let a = accept-keeps (kind (part .message c)) (now cs .device) (now cs .flash) (part .message c) in (a .0 ∙ p .0, a .1 ∙ p .1)) (λ cs c n p. p) (refl, refl) cs

@@ -1,5 +1,5 @@
 -- Wrong devices that break what is said of one call (specs/OneCall). Where the comment says 'alone', all other clauses hold of the device, by reading. Demand 3 does
--- not see `late`, `believing` and `adopting`: they differ from the right device only where a block is refused 19, and in a list none is (`nobody-else` in AlteredHolds).
+-- not see `nodding`, `late`, `believing` and `adopting`: they differ from the right device only where a block is refused 19, and in a list none is (`nobody-else` in AlteredHolds).
 use mathlib.Core.Path.{_≡_, refl, sym, ap, _∙_}
 use mathlib.Core.Logic.{⊎-elim}
 use mathlib.Core.Bool.{Bool, cond, _&&_}
@@ -22,7 +22,7 @@ use Rattle.machine.specs.declared.state.Answer.the-variants.{Accepted, Refused}
 use Rattle.machine.specs.Device.{nextOf}
 use Rattle.machine.specs.Refusals.{lacksRoot, refusals}
 use Rattle.machine.specs.Readers.{numberOf}
-use Rattle.machine.specs.Step.{acceptBlock, accept, outcome}
+use Rattle.machine.specs.Step.{acceptBlock, accept, outcome, refusalOf}
 use Rattle.machine.proofs.RefusalLaws.{ahead, behind}
 use Rattle.guarantee.specs.Run.{empty, _▷_, after}
 use Rattle.guarantee.specs.Behind.{goesBy}
@@ -54,13 +54,24 @@ worn = replicate 130 1
 pub misplaced : List ℕ
 misplaced = replicate 64 1 ++ replicate 64 5
 
+-- one in which the fives are loaded, and nines stand where the threes belong, so that the root is right only with them
+pub untidy : List ℕ
+untidy = replicate 64 5 ++ replicate 64 9
+
 -- a device that refuses by other tests
 judging : (Device → (flash m : List ℕ) → List (Refusal × Bool)) → Step
 judging tests d f m = outcome (firstThatApplies (tests d f m)) d f (accept (kind m) d f m)
 
+-- what is said of one call of such a device, and of each
+abbrev Of : Step → Device → (flash m : List ℕ) → Type 0
+Of wrong d f m = OneCall weak (refusalOf weak any) wrong d f m
+
+abbrev Meets : Step → Type 0
+Meets wrong = EachCall weak (refusalOf weak any) wrong
+
 -- what the calls compute with
 calling : ℕ
-unfolding computing weakHash weak device pair before waiting threes finished fours worn misplaced judging ahead behind
+unfolding computing weakHash weak device pair before waiting threes finished fours worn misplaced untidy judging ahead behind
 calling = 0
 
 -- the right device finds the worn flash altered, at the last block and at an update
@@ -68,13 +79,25 @@ pub finds-altered : (device waiting worn threes .answer ≡ Refused refusal.Alte
 unfolding calling
 finds-altered = (refl, refl)
 
+-- Where the right one says 19 at the last block it says accepted, and changes nothing: caught at `answers`, alone.
+pub nodding : Step
+nodding = byKind device (λ d f m.
+    let o = device d f m in
+    record { answer = cond (eqb (numberOf (o .answer)) (refusalNumber refusal.Altered)) Accepted (o .answer); device = o .device; flash = o .flash }) device device
+
+pub nodding-caught : Of nodding waiting worn threes → ⊥
+unfolding calling nodding
+nodding-caught h =
+    let z : _≡_ {A = ℕ} 0 19 = ap numberOf (h .answers) in
+    omega arith
+
 -- It looks for 19 once the block is stored, and leaves it there: caught at `refused`, alone.
 pub late : Step
 late = byKind device (λ d f m.
     let o = device d f m in
     record { answer = o .answer; device = o .device; flash = cond (eqb (numberOf (o .answer)) (refusalNumber refusal.Altered)) (acceptBlock d f m .flash) (o .flash) }) device device
 
-pub late-caught : OneCall weak late waiting worn threes → ⊥
+pub late-caught : Of late waiting worn threes → ⊥
 unfolding calling late
 late-caught h =
     let z : _≡_ {A = ℕ} 3 1 = ap (λ (l : List ℕ). getD l 64 0) (h .refused refusal.Altered refl .1) in
@@ -84,17 +107,17 @@ late-caught h =
 pub stale : Step
 stale = byKind device device (λ d f m. but (device d f m) d) device
 
-pub stale-caught : OneCall weak stale finished (pair .image .bytes) fours → ⊥
+pub stale-caught : Of stale finished (pair .image .bytes) fours → ⊥
 unfolding calling stale goesBy
 stale-caught h =
     let z : _≡_ {A = ℕ} 1 2 = ap (λ (s : Manifest). s .serial) (h .manifest refl) in
     omega arith
 
--- It has no 19 at an update: caught at `before`, alone.
+-- It has no 19 at an update: caught at `before`, and at `answers`.
 pub incurious : Step
 incurious = byKind device device (judging (λ d f m. let es = refusals weak any Update d f m in ahead refusal.Altered es ++ behind refusal.Altered es)) device
 
-pub incurious-caught : OneCall weak incurious finished worn fours → ⊥
+pub incurious-caught : Of incurious finished worn fours → ⊥
 unfolding calling incurious
 incurious-caught h =
     let z : _≡_ {A = ℕ} 1 5 = ap (λ (l : List ℕ). getD l 1 0) (h .before refl refl .root) in
@@ -104,7 +127,7 @@ incurious-caught h =
 pub withholding : Step
 withholding = byKind device device (λ d f m. butFlash (device d f m) f) device
 
-pub withholding-caught : OneCall weak withholding finished (pair .image .bytes) fours → ⊥
+pub withholding-caught : Of withholding finished (pair .image .bytes) fours → ⊥
 unfolding calling withholding
 withholding-caught h =
     let z : _≡_ {A = ℕ} 5 4 = ap (λ (l : List ℕ). getD l 1 0) (h .update refl refl .root) in
@@ -112,41 +135,51 @@ withholding-caught h =
 
 -- A last block that is taken, and the program complete, where the root is 3 and the manifest's 5.
 three-for-five : (wrong : Step) (f : List ℕ) → wrong waiting f threes .answer ≡ Accepted → wrong waiting f threes .device .stage ≡ Complete
-    → getD (treeOver weak (waiting .manifest) (wrong waiting f threes .flash)) 1 0 ≡ 3 → OneCall weak wrong waiting f threes → ⊥
+    → getD (treeOver weak (waiting .manifest) (wrong waiting f threes .flash)) 1 0 ≡ 3 → Of wrong waiting f threes → ⊥
 unfolding calling
 three-for-five wrong f a c e h =
     let z : _≡_ {A = ℕ} 3 5 = sym e ∙ ap (λ (l : List ℕ). getD l 1 0) (h .last refl a c .root) in
     omega arith
 
--- It trusts the hashes held and has no 19 at the last block: caught at `last`, alone.
+-- It trusts the hashes held and has no 19 at the last block: caught at `last`, and at `answers`.
 pub believing : Step
 believing = byKind device (judging (λ d f m. ahead refusal.Altered (refusals weak any Block d f m))) device device
 
-pub believing-caught : OneCall weak believing waiting worn threes → ⊥
+pub believing-caught : Of believing waiting worn threes → ⊥
 unfolding calling believing
 believing-caught = three-for-five believing worn refl refl refl
 
--- At the last block it looks at the flash as handed in, without that block: caught at `last`, alone.
+-- At the last block it looks at the flash as handed in, without that block: caught at `last`, and at `answers`.
 pub shortsighted : Step
 shortsighted = byKind device (judging (λ d f m.
     let s = d .manifest in
     ahead refusal.Altered (refusals weak any Block d f m) ++ ((refusal.Altered, eqb (nextOf (d .stage)) (countOf s) && lacksRoot weak s f) ∷ []))) device device
 
-pub shortsighted-caught : OneCall weak shortsighted waiting misplaced threes → ⊥
+pub shortsighted-caught : Of shortsighted waiting misplaced threes → ⊥
 unfolding calling shortsighted
 shortsighted-caught = three-for-five shortsighted misplaced refl refl refl
+
+-- It takes the last block and does not store it: caught at `last`, alone.
+pub dropping : Step
+dropping = byKind device (λ d f m. butFlash (device d f m) f) device device
+
+pub dropping-caught : Of dropping waiting untidy threes → ⊥
+unfolding calling dropping
+dropping-caught h =
+    let z : _≡_ {A = ℕ} 9 5 = ap (λ (l : List ℕ). getD l 1 0) (h .last refl refl refl .root) in
+    omega arith
 
 -- It is complete as soon as it takes a new program: caught at `only`, alone.
 pub waking : Step
 waking = byKind (λ d f m. let o = device d f m in but o (at Complete (o .device))) device device device
 
-pub waking-caught : OneCall weak waking fresh flash (programFor weak pair []) → ⊥
+pub waking-caught : Of waking fresh flash (programFor weak pair []) → ⊥
 unfolding calling waking at
 waking-caught h =
     ⊎-elim (λ (e : Program ≡ Block). let z : _≡_ {A = ℕ} 0 1 = cc in omega arith)
     (λ r. ⊎-elim (λ (e : Program ≡ Update). let z : _≡_ {A = ℕ} 0 1 = cc in omega arith) (λ (e : Program ≡ PathUpdate). let z : _≡_ {A = ℕ} 0 1 = cc in omega arith) r) (h .only refl refl)
 
--- Where the right one says 19 at the last block it takes that, and the root that it finds: caught at `last`, and at `manifest`.
+-- Where the right one says 19 at the last block it takes that, and the root that it finds: caught at `last`, and at `answers` and `manifest`.
 pub adopting : Step
 adopting = byKind device (λ d f m.
     let o = device d f m in
@@ -154,30 +187,34 @@ adopting = byKind device (λ d f m.
     cond (eqb (numberOf (o .answer)) (refusalNumber refusal.Altered))
     (record { answer = Accepted; device = withManifest (d .manifest .serial) (treeOver weak (d .manifest) (t .flash)) (t .device); flash = t .flash }) o) device device
 
-pub adopting-caught : OneCall weak adopting waiting worn threes → ⊥
+pub adopting-caught : Of adopting waiting worn threes → ⊥
 unfolding calling adopting withManifest
 adopting-caught = three-for-five adopting worn refl refl refl
 
-pub none-meets-each-call : (EachCall weak late → ⊥)
-    × (EachCall weak stale → ⊥)
-    × (EachCall weak incurious → ⊥)
-    × (EachCall weak withholding → ⊥)
-    × (EachCall weak believing → ⊥)
-    × (EachCall weak shortsighted → ⊥)
-    × (EachCall weak waking → ⊥)
-    × (EachCall weak adopting → ⊥)
+pub none-meets-each-call : (Meets nodding → ⊥)
+    × (Meets late → ⊥)
+    × (Meets stale → ⊥)
+    × (Meets incurious → ⊥)
+    × (Meets withholding → ⊥)
+    × (Meets believing → ⊥)
+    × (Meets shortsighted → ⊥)
+    × (Meets dropping → ⊥)
+    × (Meets waking → ⊥)
+    × (Meets adopting → ⊥)
 none-meets-each-call = (
+  λ c. nodding-caught (c _ _ _),
   λ c. late-caught (c _ _ _),
   λ c. stale-caught (c _ _ _),
   λ c. incurious-caught (c _ _ _),
   λ c. withholding-caught (c _ _ _),
   λ c. believing-caught (c _ _ _),
   λ c. shortsighted-caught (c _ _ _),
+  λ c. dropping-caught (c _ _ _),
   λ c. waking-caught (c _ _ _),
   λ c. adopting-caught (c _ _ _),
 )
 
 -- The right device does, with the same hash function and verdicts.
-pub right-meets : EachCall weak device
+pub right-meets : Meets device
 unfolding device
 right-meets = each-call weak any

@@ -14,17 +14,13 @@ use Rattle.machine.specs.declared.state.Device.{Device}
 use Rattle.machine.specs.declared.state.Answer.the-variants.{Accepted}
 use Rattle.machine.specs.Device.{nextOf}
 use Rattle.guarantee.specs.Run.{Messages, empty, _▷_, answerTo, blocksSince}
-use Rattle.guarantee.specs.Demand3.{Begun, Sends, begin, next, SecondHalf}
+use Rattle.guarantee.specs.Demand3.{Begun, begin, next, SecondHalf}
 use Rattle.guarantee.proofs.Toy.{Step, toy, any, part, job, fresh, flash, program, right, refusing, but, butFlash, byKind, computing, loaded, at}
 
 -- The honest run of the job, as far as the wrong device takes the manifest.
 begun-by : (wrong : Step) → answerTo wrong fresh flash empty program ≡ Accepted → Begun toy any part wrong fresh flash job empty program
 unfolding computing
 begun-by wrong e = record { sendable = record { size = refl; model = lit< tt; serial = lit< tt }; program = refl; carries = refl; taken = (refl, e) }
-
--- a call hands over the sender's next block
-sent : {wrong : Step} {f : List ℕ} {from : Job} {j : ℕ} {ms : Messages} → Sends toy any part wrong fresh f from j ms (blockFor toy (from .image) (suc j))
-sent = record { named = refl; block = refl; enough = omega arith }
 
 -- It takes manifests and refuses each block.
 pub deaf : Step
@@ -33,7 +29,7 @@ deaf = byKind right refusing right right
 pub deaf-caught : SecondHalf toy any part deaf fresh flash (empty ▷ program ▷ blockFor toy (job .image) 1) → ⊥
 unfolding computing deaf
 deaf-caught h =
-    let r = h .loads job empty program 1 (begun-by deaf refl) (next (lit< tt) sent begin) .all in
+    let r = h .loads job empty program 1 (begun-by deaf refl) (next (lit< tt) refl refl begin) .all in
     let z : _≡_ {A = ℕ} 0 1 = ap blocksSince r in
     omega arith
 
@@ -55,7 +51,7 @@ hoarding = byKind right (λ d f m. let o = right d f m in but o (at (o .device .
 pub hoarding-caught : SecondHalf toy any part hoarding fresh flash (empty ▷ program ▷ blockFor toy (job .image) 1) → ⊥
 unfolding computing hoarding at
 hoarding-caught h =
-    let r = h .loads job empty program 1 (begun-by hoarding refl) (next (lit< tt) sent begin) .held in
+    let r = h .loads job empty program 1 (begun-by hoarding refl) (next (lit< tt) refl refl begin) .held in
     let z : _≡_ {A = ℕ} 1 3 = ap (λ (l : List (List ℕ)). number (take 1 (drop 1 (joined l)))) r in
     omega arith
 
@@ -66,7 +62,7 @@ skipping = byKind right (λ d f m. let o = right d f m in but o (at (Loading 3) 
 pub skipping-caught : SecondHalf toy any part skipping fresh flash (empty ▷ program ▷ blockFor toy (job .image) 1) → ⊥
 unfolding computing skipping at
 skipping-caught h =
-    let r = h .loads job empty program 1 (begun-by skipping refl) (next (lit< tt) sent begin) .held in
+    let r = h .loads job empty program 1 (begun-by skipping refl) (next (lit< tt) refl refl begin) .held in
     let z : _≡_ {A = ℕ} 0 1 = ap (λ (l : List (List ℕ)). length l) r in
     omega arith
 
@@ -92,7 +88,7 @@ mislaying-begun = record { sendable = record { size = refl; model = lit< tt; ser
 pub mislaying-caught : SecondHalf toy any part mislaying fresh (replicate 192 5) (empty ▷ programFor toy three [] ▷ blockFor toy (three .image) 1) → ⊥
 unfolding computing three flipped mislaying mislaid
 mislaying-caught h =
-    let r = h .loads three empty (programFor toy three []) 1 mislaying-begun (next (lit< tt) sent begin) .held in
+    let r = h .loads three empty (programFor toy three []) 1 mislaying-begun (next (lit< tt) refl refl begin) .held in
     let z : _≡_ {A = ℕ} 2 3 = ap (λ (l : List (List ℕ)). number (drop 63 (joined l))) r in
     omega arith
 
@@ -103,6 +99,6 @@ garbling = byKind right (λ d f m. let o = right d f m in butFlash o (set (o .fl
 pub garbling-caught : SecondHalf toy any part garbling fresh flash loaded → ⊥
 unfolding computing garbling
 garbling-caught h =
-    let r = h .loads job empty program 2 (begun-by garbling refl) (next (lit< tt) sent (next (lit< tt) sent begin)) .done refl .image in
+    let r = h .loads job empty program 2 (begun-by garbling refl) (next (lit< tt) refl refl (next (lit< tt) refl refl begin)) .done refl .image in
     let z : _≡_ {A = ℕ} 9 3 = ap (λ (l : List ℕ). number (take 1 l)) r in
     omega arith

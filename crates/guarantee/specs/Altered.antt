@@ -15,7 +15,7 @@ use Rattle.machine.specs.Device.{Fresh, OutcomeOf}
 use Rattle.machine.specs.Step.{step}
 use Rattle.machine.specs.BootCheck.{bootCheck}
 use Rattle.guarantee.specs.Part.{Part}
-use Rattle.guarantee.specs.Run.{Growing, after, answerTo}
+use Rattle.guarantee.specs.Run.{Trace, after, answerTo}
 use Rattle.guarantee.specs.Demand3.{Clash, Intact, Misled}
 
 -- What answer 0 of the boot check proves of any state and any flash: the device is complete, and every image of its program's length with the manifest's root is the
@@ -45,11 +45,11 @@ module _ (H : List ℕ → List ℕ) (valid : (key message signature : List ℕ)
 module _ (H : List ℕ → List ℕ) (valid : (key message signature : List ℕ) → Bool) {D F C : Type 0} (part : Part D F C) (step : D → F → C → OutcomeOf D F) where
   -- In a list from a fresh device, where nobody else writes: no block is refused 19, so the honest run never meets it; an update is, or the boot check fails, only
   -- where a kind 4 misled the device (`Misled`).
-  pub record Untouched (d : D) (flash : F) (cs : Growing C) : Type 0 where
+  pub record Untouched (d : D) (flash : F) (cs : Trace C) : Type 0 where
     pub block : (c : C) → part .names c ≡ true → kind (part .message c) ≡ Block → answerTo step d flash cs c ≡ Refused refusal.Altered → ⊥
     pub update : (c : C) → part .names c ≡ true → answerTo step d flash cs c ≡ Refused refusal.Altered → Misled H valid part step d flash cs
     pub boot : (let s = after step d flash cs in
         part .device (s .device) .stage ≡ Complete → (bootCheck H (part .device (s .device)) (part .flash (s .flash)) ≡ Accepted) ⊎ Misled H valid part step d flash cs)
 
   abbrev pub NobodyElse : Type 0
-  NobodyElse = (d : D) → Fresh (part .device d) → (flash : F) (cs : Growing C) → Untouched d flash cs
+  NobodyElse = (d : D) → Fresh (part .device d) → (flash : F) (cs : Trace C) → Untouched d flash cs

@@ -1,4 +1,4 @@
--- Demand 3, of any device: for any hash function H, any verdict on signatures, and any step of the device.
+-- Demand 3, of any device: for any hash function H, any verdict on signatures, any step of the device, and one part of it (specs/Part).
 use mathlib.Core.Path.{_≡_}
 use mathlib.Core.Logic.{_⊎_, _↔_}
 use mathlib.Core.Bool.{Bool, true, false}
@@ -27,7 +27,7 @@ use Rattle.machine.specs.Device.{Fresh, heldBy, OutcomeOf, Outcome}
 use Rattle.machine.specs.Readers.{numberOf}
 use Rattle.machine.specs.Step.{answerOf}
 use Rattle.guarantee.specs.Part.{Part, whole}
-use Rattle.guarantee.specs.Run.{Growing, Messages, _▷_, after, answerTo, accepted, lastProgram, blocksSince, lastCarrier, signatureIn, siblingsIn, Completed}
+use Rattle.guarantee.specs.Run.{Trace, Messages, _▷_, after, answerTo, accepted, lastProgram, blocksSince, lastCarrier, signatureIn, siblingsIn, Completed}
 
 -- The sender writes a manifest for the job: it does not refuse 5, and model and serial have four bytes.
 pub record Sendable (job : Job) : Type 0 where
@@ -61,28 +61,28 @@ module _ (H : List ℕ → List ℕ) where
 
 module _ (H : List ℕ → List ℕ) (valid : (key message signature : List ℕ) → Bool) {D F C : Type 0} (part : Part D F C) (step : D → F → C → OutcomeOf D F) (d : D) (flash : F) where
   -- the part's device, flash and accepted messages after a list, and the answer to one call more
-  abbrev deviceAfter : Growing C → Device
+  abbrev deviceAfter : Trace C → Device
   deviceAfter cs = part .device (after step d flash cs .device)
 
-  abbrev flashAfter : Growing C → List ℕ
+  abbrev flashAfter : Trace C → List ℕ
   flashAfter cs = part .flash (after step d flash cs .flash)
 
-  abbrev acceptedOf : Growing C → Messages
+  abbrev acceptedOf : Trace C → Messages
   acceptedOf cs = accepted step d flash part cs
 
-  abbrev answer : Growing C → C → Answer
+  abbrev answer : Trace C → C → Answer
   answer cs c = answerTo step d flash cs c
 
-  -- it names the part and is accepted
-  abbrev Taken : Growing C → C → Type 0
+  -- the call is taken for the part: it names the part and is accepted
+  abbrev Taken : Trace C → C → Type 0
   Taken cs c = (part .names c ≡ true) × (answer cs c ≡ Accepted)
 
-  -- the first refusal that applies to it
-  abbrev refusal : Growing C → C → Option Refusal
+  -- the first refusal that applies to the call, if any
+  abbrev refusal : Trace C → C → Option Refusal
   refusal cs c = part .refusal (after step d flash cs .device) (after step d flash cs .flash) c
 
   -- One call more after a list.
-  pub record Calls (cs : Growing C) : Type 0 where
+  pub record Calls (cs : Trace C) : Type 0 where
     -- "Accepted: .. exactly where none of the drive's refusals .. applies"; and otherwise it gets its refusal number
     pub answers : (c : C) → answer cs c ≡ answerOf (refusal cs c)
     -- the same by number: 0, or 01's number of the first refusal that applies
@@ -96,15 +96,15 @@ module _ (H : List ℕ → List ℕ) (valid : (key message signature : List ℕ)
     pub key : deviceAfter cs .key ≡ part .device d .key
 
   -- The list goes on from `start`, and since then no accepted message of another kind than 4 carried a manifest.
-  pub data Since (start : Growing C) : Growing C → Type 0 where
+  pub data Since (start : Trace C) : Trace C → Type 0 where
     here : Since start start
-    later : {cs : Growing C} {x : C} → Since start cs
+    later : {cs : Trace C} {x : C} → Since start cs
         → (Taken cs x → carries (kind (part .message x)) ≡ true → kind (part .message x) ≡ PathUpdate) → Since start (cs ▷ x)
 
   -- 02, change 1: "at one of the kind 4 messages taken since the last accepted slip in a message of another kind the tree over the area before it and the message's path held two
   -- different hash inputs with one digest": the list begins with `before` and the call with that message
-  pub record Misled (cs : Growing C) : Type 0 where
-    pub before : Growing C
+  pub record Misled (cs : Trace C) : Type 0 where
+    pub before : Trace C
     pub call : C
     pub path : kind (part .message call) ≡ PathUpdate
     pub taken : Taken before call
@@ -112,7 +112,7 @@ module _ (H : List ℕ → List ℕ) (valid : (key message signature : List ℕ)
     pub clash : Clash H (flashAfter before) (part .message call)
 
   -- A list after which the device is complete with manifest s, and its flash f.
-  pub record Bound (cs : Growing C) (s : Manifest) (f : List ℕ) : Type 0 where
+  pub record Bound (cs : Trace C) (s : Manifest) (f : List ℕ) : Type 0 where
     pub carrier : List ℕ
     pub last : lastCarrier (acceptedOf cs) ≡ some carrier
     -- "signed means that this message's signature over it is valid under the drive's key"
@@ -123,7 +123,7 @@ module _ (H : List ℕ → List ℕ) (valid : (key message signature : List ℕ)
     pub tree : Intact H s f ⊎ Misled cs
 
   -- The first half.
-  pub record FirstHalf (cs : Growing C) : Type 0 where
+  pub record FirstHalf (cs : Trace C) : Type 0 where
     -- "The drive's slip is that of the last accepted message that carries one"
     pub manifest : (m : List ℕ) → lastCarrier (acceptedOf cs) ≡ some m → deviceAfter cs .manifest ≡ manifestIn m
     -- "The stage is complete exactly then." Before, it is idle while no kind 1 was accepted, and then loading, with the number after the accepted blocks.
@@ -138,34 +138,28 @@ module _ (H : List ℕ → List ℕ) (valid : (key message signature : List ℕ)
     pub bound : Completed (acceptedOf cs) → Bound cs (deviceAfter cs .manifest) (flashAfter cs)
 
   -- "an accepted kind 1 carried exactly the slip that demand 2 has the sender write for an image": call c, after the calls `before`
-  pub record Begun (job : Job) (before : Growing C) (c : C) : Type 0 where
+  pub record Begun (job : Job) (before : Trace C) (c : C) : Type 0 where
     pub sendable : Sendable job
     pub program : kind (part .message c) ≡ Program
     pub carries : manifestBytes (part .message c) ≡ written (manifestFor H job)
     pub taken : Taken before c
 
-  -- The call x after the list hands over the sender's block message j + 1, with a budget that suffices.
-  pub record Sends (job : Job) (j : ℕ) (cs : Growing C) (x : C) : Type 0 where
-    pub named : part .names x ≡ true
-    pub block : part .message x ≡ blockFor H (job .image) (suc j)
-    pub enough : part .total (after step d flash cs .device) (after step d flash cs .flash) x ≤ part .budget x
-
   -- "After it the sender's block messages for the same image and values stand in the list in order, from 1 up to some j, j from 0 to n, and every other message
-  -- after that slip was refused": of the calls that name the part.
-  pub data Honest (job : Job) (before : Growing C) (c : C) : ℕ → Growing C → Type 0 where
+  -- after that slip was refused": of the calls that name the part, those with these messages are `next`, and of all others none is taken.
+  pub data Honest (job : Job) (before : Trace C) (c : C) : ℕ → Trace C → Type 0 where
     begin : Honest job before c 0 (before ▷ c)
-    next : {j : ℕ} {cs : Growing C} {x : C} → j < count (job .image) → Sends job j cs x → Honest job before c j cs → Honest job before c (suc j) (cs ▷ x)
-    other : {j : ℕ} {cs : Growing C} (x : C) (r : Refusal) → answer cs x ≡ Refused r → Honest job before c j cs → Honest job before c j (cs ▷ x)
-    elsewhere : {j : ℕ} {cs : Growing C} (x : C) → part .names x ≡ false → Honest job before c j cs → Honest job before c j (cs ▷ x)
+    next : {j : ℕ} {cs : Trace C} {x : C} → j < count (job .image) → part .names x ≡ true → part .message x ≡ blockFor H (job .image) (suc j) → Honest job before c j cs
+        → Honest job before c (suc j) (cs ▷ x)
+    other : {j : ℕ} {cs : Trace C} {x : C} → (Taken cs x → ⊥) → Honest job before c j cs → Honest job before c j (cs ▷ x)
 
   -- "For j = n the stage is then complete with this slip, the area begins with the .. image, and its bytes beyond are as when the slip came", and no hash is held.
-  pub record Loaded (job : Job) (before cs : Growing C) : Type 0 where
+  pub record Loaded (job : Job) (before cs : Trace C) : Type 0 where
     pub stage : deviceAfter cs .stage ≡ Complete
     pub manifest : deviceAfter cs .manifest ≡ manifestFor H job
     pub none-held : heldBy (deviceAfter cs) ≡ []
     pub image : flashAfter cs ≡ atStart (job .image .bytes) (flashAfter before)
 
-  pub record Loads (job : Job) (before : Growing C) (c : C) (j : ℕ) (cs : Growing C) : Type 0 where
+  pub record Loads (job : Job) (before : Trace C) (c : C) (j : ℕ) (cs : Trace C) : Type 0 where
     -- "Then all j were accepted": since the manifest these, and nothing else
     pub all : acceptedOf cs ≡ thenBlocks H (job .image) (acceptedOf before ▷ part .message c) j
     -- "the labels held are those of the image's tree at the subtrees named above for i = j"
@@ -175,10 +169,10 @@ module _ (H : List ℕ → List ℕ) (valid : (key message signature : List ℕ)
     pub done : j ≡ count (job .image) → Loaded job before cs
 
   -- The second half: the honest run. "This counts for each beginning of a list as well": it is said of every list, and a beginning is one.
-  pub record SecondHalf (cs : Growing C) : Type 0 where
-    pub loads : (job : Job) (before : Growing C) (c : C) (j : ℕ) → Begun job before c → Honest job before c j cs → Loads job before c j cs
+  pub record SecondHalf (cs : Trace C) : Type 0 where
+    pub loads : (job : Job) (before : Trace C) (c : C) (j : ℕ) → Begun job before c → Honest job before c j cs → Loads job before c j cs
 
-  pub record Claim (cs : Growing C) : Type 0 where
+  pub record Claim (cs : Trace C) : Type 0 where
     pub calls : Calls cs
     pub first : FirstHalf cs
     pub second : SecondHalf cs

@@ -3,6 +3,7 @@
 use mathlib.Core.Path.{_≡_}
 use mathlib.Core.Logic.{_⊎_}
 use mathlib.Core.List.{List}
+use mathlib.Core.Option.{Option}
 use Prim.Native.Nat.{ℕ, _≤_}
 use lib.ListN.{length}
 use Rattle.wire.specs.declared.kind.Kind.the-variants.{Block, Update, PathUpdate}
@@ -14,6 +15,7 @@ use Rattle.machine.specs.declared.state.Stage.the-variants.{Complete}
 use Rattle.machine.specs.declared.state.Device.{Device}
 use Rattle.machine.specs.declared.state.Answer.the-variants.{Accepted, Refused}
 use Rattle.machine.specs.Device.{Outcome}
+use Rattle.machine.specs.Step.{answerOf}
 use Rattle.guarantee.specs.Behind.{goesBy}
 
 -- The flash has the bytes that the manifest needs, and the tree over it has the manifest's root.
@@ -21,8 +23,10 @@ pub record Rooted (H : List ℕ → List ℕ) (s : Manifest) (flash : List ℕ) 
   pub room : s .«image_len» ≤ length flash
   pub root : treeOver H s flash ≡ s .root
 
--- Message m to device d, over this flash.
-pub record OneCall (H : List ℕ → List ℕ) (step : Device → List ℕ → List ℕ → Outcome) (d : Device) (flash m : List ℕ) : Type 0 where
+-- Message m to device d, over this flash; `refusal` gives the first refusal that applies, if any.
+pub record OneCall (H : List ℕ → List ℕ) (refusal : Device → List ℕ → List ℕ → Option Refusal) (step : Device → List ℕ → List ℕ → Outcome) (d : Device) (flash m : List ℕ) : Type 0 where
+  -- it is accepted where none of the refusals applies, 19 among them, and otherwise gets the first that does
+  pub answers : step d flash m .answer ≡ answerOf (refusal d flash m)
   -- a refused call leaves both as they were
   pub refused : (r : Refusal) → step d flash m .answer ≡ Refused r → (step d flash m .device ≡ d) × (step d flash m .flash ≡ flash)
   -- an accepted one leaves the manifest that it goes by: its own, or else the device's
@@ -35,5 +39,5 @@ pub record OneCall (H : List ℕ → List ℕ) (step : Device → List ℕ → L
   -- besides these kinds only a path update leaves the stage complete
   pub only : step d flash m .answer ≡ Accepted → step d flash m .device .stage ≡ Complete → (kind m ≡ Block) ⊎ ((kind m ≡ Update) ⊎ (kind m ≡ PathUpdate))
 
-abbrev pub EachCall : (H : List ℕ → List ℕ) (step : Device → List ℕ → List ℕ → Outcome) → Type 0
-EachCall H step = (d : Device) (flash m : List ℕ) → OneCall H step d flash m
+abbrev pub EachCall : (H : List ℕ → List ℕ) (refusal : Device → List ℕ → List ℕ → Option Refusal) (step : Device → List ℕ → List ℕ → Outcome) → Type 0
+EachCall H refusal step = (d : Device) (flash m : List ℕ) → OneCall H refusal step d flash m

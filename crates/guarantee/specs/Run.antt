@@ -17,26 +17,26 @@ use Rattle.guarantee.specs.Part.{Part}
 
 -- A list as it grows: empty, or a beginning of it and one more.
 infixl 25 _▷_
-pub data Growing (A : Type 0) : Type 0 where
-  empty : Growing A
-  _▷_ : Growing A → A → Growing A
+pub data Trace (A : Type 0) : Type 0 where
+  empty : Trace A
+  _▷_ : Trace A → A → Trace A
 
 abbrev pub Messages : Type 0
-Messages = Growing (List ℕ)
+Messages = Trace (List ℕ)
 
 -- "Each message, of any kind or none, goes with the state that the call before it returned and the area that it left", from device d and its flash on: a list of
 -- calls, which have a message each.
 module _ {D F C : Type 0} (step : D → F → C → OutcomeOf D F) (d : D) (flash : F) where
-  unfoldable pub after : Growing C → SituationOf D F
+  unfoldable pub after : Trace C → SituationOf D F
   after empty = record { device = d; flash = flash }
   after (cs ▷ c) = let o = step (after cs .device) (after cs .flash) c in record { device = o .device; flash = o .flash }
 
   -- the answer to one call more
-  unfoldable pub answerTo : Growing C → C → Answer
+  unfoldable pub answerTo : Trace C → C → Answer
   answerTo cs c = step (after cs .device) (after cs .flash) c .answer
 
   -- "Accepted: the call gave no refusal number": the messages of those calls that name the part and were
-  unfoldable pub accepted : Part D F C → Growing C → Messages
+  unfoldable pub accepted : Part D F C → Trace C → Messages
   accepted part empty = empty
   accepted part (cs ▷ c) =
       elim (part .names c) [
