@@ -13,7 +13,7 @@
  * 4,400 (signature type 4, height 5) or 600 (type 3, height 10), at the device a block takes those of its bytes and two for each hash that it carries, the
  * last one those of the whole image besides, a path update those of two blocks and four for each hash, an update those of the whole image twice; the boot
  * check (lertxuno_intact) and the sender's functions take those of the whole image, lertxuno_path_update twice as many, and lertxuno_block those of the part
- * that its hashes stand for. Measured time: README; stack and code of each function: docs/INTEGRATION.md.
+ * that its hashes stand for. Measured time: docs/MEASURED.md; stack and code of each function: docs/INTEGRATION.md.
  *
  * Words: a program is an image, cut into blocks, and its manifest, which is signed. Numbers are big-endian.
  */
@@ -38,7 +38,7 @@ enum lertxuno_refusal {
     LERTXUNO_SERIAL = 7,    /* the manifest's serial is not above the device's */
     LERTXUNO_AREA = 8,      /* flash or output buffer too short */
     LERTXUNO_UNSIGNED = 9,  /* the signature is not valid */
-    LERTXUNO_STAGE = 10,    /* a block or its length and not loading; an update of either kind or lertxuno_intact and not complete */
+    LERTXUNO_STAGE = 10,    /* a block or its length and not loading; an update of either kind or the boot check and not complete */
     LERTXUNO_TURN = 11,     /* not the next block; for updates and sender: no block of the image */
     LERTXUNO_LENGTH = 12,   /* block: not the length due; update: shorter than its block and hashes need. A longer update is one with a longer signature: 9 */
     LERTXUNO_UNLIKE = 13,   /* the update's block length or image length differs from the complete one's */
@@ -47,7 +47,7 @@ enum lertxuno_refusal {
     LERTXUNO_TEXT = 16,     /* Intel HEX: a broken line, or no end record */
     LERTXUNO_PLACE = 17,    /* Intel HEX: a byte outside the image */
     LERTXUNO_TWICE = 18,    /* Intel HEX: a byte named a second time */
-    LERTXUNO_ALTERED = 19   /* update of kind 3, last block (with it in place), lertxuno_intact: the tree over the flash lacks the root held before the call */
+    LERTXUNO_ALTERED = 19   /* update of kind 3, last block (with it in place), boot check: the tree over the flash lacks the root held before the call */
 };
 
 /* An answer's word, for logs: "accepted" for 0, and "unknown" for a number that no function returns. */
@@ -145,7 +145,7 @@ uint32_t lertxuno_block(const uint8_t *image, size_t image_length, uint32_t bloc
 uint32_t lertxuno_update(const uint8_t *image, size_t image_length, uint32_t block_length, uint32_t model, uint32_t serial, uint32_t number,
                          const uint8_t *signature, size_t signature_length, uint8_t *out, size_t room, size_t *written);
 
-/* Kind 4, path update: the same update for a device that is to read that one block of its flash, and not the whole of it. */
+/* Kind 4, path update: the same update for a device whose answer is to depend on that one block of its flash, and not on the whole of it. */
 uint32_t lertxuno_path_update(const uint8_t *image, size_t image_length, uint32_t block_length, uint32_t model, uint32_t serial, uint32_t number,
                               const uint8_t *signature, size_t signature_length, uint8_t *out, size_t room, size_t *written);
 
@@ -171,7 +171,7 @@ enum {
     LERTXUNO_STATE_MODEL = 0,
     LERTXUNO_STATE_KEY = 4,
     LERTXUNO_STATE_STAGE = LERTXUNO_STATE_KEY + LERTXUNO_KEY_LENGTH,         /* 2 bytes, enum lertxuno_stage */
-    LERTXUNO_STATE_NEXT = LERTXUNO_STATE_STAGE + 2,                          /* 2 bytes, next block while loading, from 1; else written as 0, not looked at */
+    LERTXUNO_STATE_NEXT = LERTXUNO_STATE_STAGE + 2,                          /* 2 bytes, next block while loading, from 1; else written as 0, means nothing */
     LERTXUNO_STATE_MANIFEST = LERTXUNO_STATE_NEXT + 2,                       /* means nothing while idle */
     LERTXUNO_STATE_HASHES = LERTXUNO_STATE_MANIFEST + LERTXUNO_MANIFEST_LENGTH, /* the held hashes, at the end and in block order; how many follows from
                                                                                 manifest and next number. What stands before them means nothing: a new
@@ -186,9 +186,11 @@ enum lertxuno_stage { LERTXUNO_IDLE = 0, LERTXUNO_LOADING = 1, LERTXUNO_COMPLETE
 void lertxuno_fresh(uint32_t model, const uint8_t key[LERTXUNO_KEY_LENGTH], uint8_t state[LERTXUNO_STATE_LENGTH]);
 
 /* Hands a whole message to the device. Accepted: state and flash are those after it. Refused: both are as before. Bytes that encode no state (another
- * length, another stage than 0, 1, 2) are refused with LERTXUNO_STATE. Of the flash no byte from the manifest's image length on is ever written, the
- * manifest being that of the state after the call. Writes are plain stores: memory that needs programming commands needs a copy in RAM, programmed from that
- * after the call; what is judged is then that copy (docs/INTEGRATION.md, 'One message'). */
+ * length, another stage than 0, 1, 2) are refused with LERTXUNO_STATE. Every byte of the flash from the manifest's image length on is as before, the manifest
+ * being that of the state after the call. The contract compares memory before and after the call; that nothing is written before the last test has passed
+ * follows from the types: the functions that judge are handed flash and hashes read-only. Writes are plain stores: memory that needs programming commands
+ * needs a copy in RAM, programmed from that after the call; what is judged is then that copy (docs/INTEGRATION.md, 'One message'). An update needs such a copy
+ * in any case, if a power cut is not to lose the program (there, 'Power loss'). */
 uint32_t lertxuno_receive(uint8_t *state, size_t state_length, uint8_t *flash, size_t flash_length, const uint8_t *message, size_t message_length);
 
 /* What a state holds, as numbers, by their place in the array that lertxuno_status writes. */
