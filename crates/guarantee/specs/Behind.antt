@@ -1,5 +1,5 @@
 -- What stands behind the program (02, change 2: "a drive .. that keeps travel heights straight after its program"). In a list no message writes it:
--- `FirstHalf.beyond`. Here it is said of the device's own step, from every state, reached by a list or not, that it is neither read nor written.
+-- `FirstHalf.beyond`. Here it is said of the device's own step, from every state, reached by a list or not, that it stays as it was and that nothing else depends on it.
 use mathlib.Core.Path.{_≡_}
 use mathlib.Core.Bool.{Bool, cond}
 use mathlib.Core.List.{List}
@@ -11,7 +11,7 @@ use Rattle.machine.specs.declared.state.Device.{Device}
 use Rattle.machine.specs.Device.{Outcome}
 use Rattle.machine.specs.Step.{step}
 
--- the manifest that a message goes by: its own, or else the device's
+-- The manifest that a message goes by: its own, or else the device's.
 unfoldable pub goesBy : Device → List ℕ → Manifest
 goesBy d m = cond (carries (kind m)) (manifestIn m) (d .manifest)
 
@@ -22,7 +22,7 @@ pub record Alike (T : ℕ) (f g : List ℕ) (a b : Outcome) : Type 0 where
   pub program : take T (a .flash) ≡ take T (b .flash)
   pub behind : (drop T (a .flash) ≡ drop T f) × (drop T (b .flash) ≡ drop T g)
 
--- So has a message over two flashes of one length with the same first T bytes.
+-- A message has such outcomes over any two flashes of one length with the same first T bytes.
 abbrev pub BehindUnread : (H : List ℕ → List ℕ) (valid : (key message signature : List ℕ) → Bool) → Type 0
 BehindUnread H valid =
     (d : Device) (f g m : List ℕ) → length f ≡ length g

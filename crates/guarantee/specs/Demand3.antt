@@ -35,7 +35,7 @@ pub record Sendable (job : Job) : Type 0 where
   pub model : job .model < 2 ^ 32
   pub serial : job .serial < 2 ^ 32
 
--- the list, and after it the sender's block messages from 1 to j
+-- A list of messages, and after it the sender's block messages from 1 to j.
 unfoldable pub thenBlocks : (List ℕ → List ℕ) → Image → Messages → ℕ → Messages
 thenBlocks H image ms zero = ms
 thenBlocks H image ms (suc j) = thenBlocks H image ms j ▷ blockFor H image (suc j)

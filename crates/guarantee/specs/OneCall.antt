@@ -25,18 +25,18 @@ pub record Rooted (H : List ℕ → List ℕ) (s : Manifest) (flash : List ℕ) 
 
 -- Message m to device d, over this flash; `refusal` gives the first refusal that applies, if any.
 pub record OneCall (H : List ℕ → List ℕ) (refusal : Device → List ℕ → List ℕ → Option Refusal) (step : Device → List ℕ → List ℕ → Outcome) (d : Device) (flash m : List ℕ) : Type 0 where
-  -- it is accepted where none of the refusals applies, 19 among them, and otherwise gets the first that does
+  -- It is accepted where none of the refusals applies, and otherwise gets the first that does: so 19 is given where it applies.
   pub answers : step d flash m .answer ≡ answerOf (refusal d flash m)
-  -- a refused call leaves both as they were
+  -- A refused call leaves device and flash as they were.
   pub refused : (r : Refusal) → step d flash m .answer ≡ Refused r → (step d flash m .device ≡ d) × (step d flash m .flash ≡ flash)
-  -- an accepted one leaves the manifest that it goes by: its own, or else the device's
+  -- An accepted one leaves the manifest that it goes by: its own, or else the device's.
   pub manifest : step d flash m .answer ≡ Accepted → step d flash m .device .manifest ≡ goesBy d m
   -- "Kind 3 now first works out the tree over the area as handed in": that had the root of the manifest held before
   pub before : kind m ≡ Update → step d flash m .answer ≡ Accepted → Rooted H (d .manifest) flash
-  -- after it the flash has the new manifest's root, and after a block that makes the stage complete that of the manifest held
+  -- After an accepted update the flash has the new manifest's root; after an accepted block that makes the stage complete, that of the device's manifest.
   pub update : kind m ≡ Update → step d flash m .answer ≡ Accepted → Rooted H (manifestIn m) (step d flash m .flash)
   pub last : kind m ≡ Block → step d flash m .answer ≡ Accepted → step d flash m .device .stage ≡ Complete → Rooted H (d .manifest) (step d flash m .flash)
-  -- besides these kinds only a path update leaves the stage complete
+  -- Besides a block and an update only a path update leaves the stage complete.
   pub only : step d flash m .answer ≡ Accepted → step d flash m .device .stage ≡ Complete → (kind m ≡ Block) ⊎ ((kind m ≡ Update) ⊎ (kind m ≡ PathUpdate))
 
 abbrev pub EachCall : (H : List ℕ → List ℕ) (refusal : Device → List ℕ → List ℕ → Option Refusal) (step : Device → List ℕ → List ℕ → Outcome) → Type 0

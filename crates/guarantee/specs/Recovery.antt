@@ -38,7 +38,7 @@ module _ (H : List ℕ → List ℕ) (valid : (key message signature : List ℕ)
     pub loaded : (list : Messages) → Honest H valid (whole H valid) step d flash job ms (programFor H job signature) (count (job .image)) list → Loaded H valid (whole H valid) step d flash job ms list
     pub none-between : Loaded H valid (whole H valid) step d flash job ms (thenBlocks H (job .image) (ms ▷ programFor H job signature) (count (job .image)))
 
--- after every list of messages to a fresh device
+-- Recovery, after every list of messages to a fresh device.
 abbrev pub Recovery : (H : List ℕ → List ℕ) (valid : (key message signature : List ℕ) → Bool) (step : Device → List ℕ → List ℕ → Outcome) → Type 0
 Recovery H valid step =
     (d : Device) → Fresh d → (flash : List ℕ) (ms : Messages) (job : Job) (signature : List ℕ) → Offered H valid step d flash ms job signature

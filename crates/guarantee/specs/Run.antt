@@ -1,4 +1,4 @@
--- Lists of messages, and what a device makes of them (01, 'The list that demand 3 speaks of').
+-- Lists of calls, and what a device makes of them (01, 'The list that demand 3 speaks of').
 use mathlib.Core.Path.{_≡_}
 use mathlib.Core.Bool.{true, false, cond}
 use mathlib.Core.List.{List, []}
@@ -15,7 +15,7 @@ use Rattle.machine.specs.declared.state.Answer.the-variants.{Accepted, Refused}
 use Rattle.machine.specs.Device.{SituationOf, OutcomeOf}
 use Rattle.guarantee.specs.Part.{Part}
 
--- A list as it grows: empty, or a beginning of it and one more.
+-- A list as it grows: empty, or a beginning of it and one more element.
 infixl 25 _▷_
 pub data Trace (A : Type 0) : Type 0 where
   empty : Trace A
@@ -24,8 +24,8 @@ pub data Trace (A : Type 0) : Type 0 where
 abbrev pub Messages : Type 0
 Messages = Trace (List ℕ)
 
--- "Each message, of any kind or none, goes with the state that the call before it returned and the area that it left", from device d and its flash on: a list of
--- calls, which have a message each.
+-- "Each message, of any kind or none, goes with the state that the call before it returned and the area that it left": state and flash after a list of calls, from
+-- the state d and the flash on.
 module _ {D F C : Type 0} (step : D → F → C → OutcomeOf D F) (d : D) (flash : F) where
   unfoldable pub after : Trace C → SituationOf D F
   after empty = record { device = d; flash = flash }
@@ -44,27 +44,27 @@ module _ {D F C : Type 0} (step : D → F → C → OutcomeOf D F) (d : D) (flas
         | false ↦ accepted part cs
       ]
 
--- Of a list of accepted messages: the manifest of the last kind 1,
+-- The manifest of the last kind 1 among accepted messages.
 unfoldable pub lastProgram : Messages → Option Manifest
 lastProgram empty = none
 lastProgram (ms ▷ m) = elim (kind m) [ Program ↦ some (manifestIn m) | Block ↦ lastProgram ms | Update ↦ lastProgram ms | PathUpdate ↦ lastProgram ms | Unknown ↦ lastProgram ms ]
 
--- how many kind 2 came since that,
+-- How many kind 2 messages were accepted since the last kind 1.
 unfoldable pub blocksSince : Messages → ℕ
 blocksSince empty = 0
 blocksSince (ms ▷ m) = elim (kind m) [ Program ↦ 0 | Block ↦ suc (blocksSince ms) | Update ↦ blocksSince ms | PathUpdate ↦ blocksSince ms | Unknown ↦ blocksSince ms ]
 
--- how many kind 4 came since the last message of another kind that carries a manifest,
+-- How many kind 4 messages were accepted since the last one of another kind that carries a manifest.
 unfoldable pub pathsSince : Messages → ℕ
 pathsSince empty = 0
 pathsSince (ms ▷ m) = elim (kind m) [ Program ↦ 0 | Block ↦ pathsSince ms | Update ↦ 0 | PathUpdate ↦ suc (pathsSince ms) | Unknown ↦ pathsSince ms ]
 
--- and the last message that carries a manifest.
+-- The last accepted message that carries a manifest.
 unfoldable pub lastCarrier : Messages → Option (List ℕ)
 lastCarrier empty = none
 lastCarrier (ms ▷ m) = cond (carries (kind m)) (some m) (lastCarrier ms)
 
--- the signature of a message that carries a manifest
+-- The signature of a message that carries a manifest.
 unfoldable pub signatureIn : List ℕ → List ℕ
 signatureIn m =
     let s = manifestIn m in
@@ -77,7 +77,7 @@ signatureIn m =
       | Unknown ↦ []
     ]
 
--- the siblings of a kind 4 message
+-- The siblings of a kind 4 message.
 abbrev pub siblingsIn : List ℕ → List (List ℕ)
 siblingsIn m =
     let s = manifestIn m in
