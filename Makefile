@@ -10,6 +10,6 @@ demo:
 test:
 	@tests/all
 
-# The tables of the README.
+# The tables of docs/MEASURED.md.
 bench:
 	@bench/run
