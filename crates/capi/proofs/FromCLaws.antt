@@ -31,12 +31,12 @@ use Rattle.capi.proofs.StateLaws.{decode-encode}
 use Rattle.capi.proofs.StatusLaws.{sensible-decoded, status-is, length-is}
 use Rattle.capi.proofs.RunLaws.{fresh-fits, runs}
 
-zero-accepted : (a : Answer) {n : ℕ} → n ≡ numberOf a → (n ≡ 0) ↔ (a ≡ Accepted)
+pub zero-accepted : (a : Answer) {n : ℕ} → n ≡ numberOf a → (n ≡ 0) ↔ (a ≡ Accepted)
 zero-accepted Accepted e = (λ z. refl, λ z. e)
 zero-accepted (Refused r) e = (λ z. absurd (omega (arith, above-zero r)), λ z. cc)
 
 -- the boot check of bytes that encode a device
-intact-decoded : (b : List ℕ) {d : Device} → decode b ≡ some d → (lent : List ℕ) → intact b lent ≡ numberOf (bootCheck digest d lent)
+pub intact-decoded : (b : List ℕ) {d : Device} → decode b ≡ some d → (lent : List ℕ) → intact b lent ≡ numberOf (bootCheck digest d lent)
 unfolding intact
 intact-decoded b e lent = rw (e, intact)
 

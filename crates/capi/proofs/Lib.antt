@@ -3,3 +3,4 @@ pub mod CallLaws
 pub mod StatusLaws
 pub mod RunLaws
 pub mod FromCLaws
+pub mod BootLaws

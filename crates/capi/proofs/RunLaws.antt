@@ -75,7 +75,7 @@ module _ (d : Device) (flash m : List ℕ) (bytes : Bytes m) (f : Fits d) where
   fits-kept PathUpdate e a = fits-update (omega (arith, path-passed digest valid d flash m e a .successor .long))
   fits-kept Unknown e a = f
 
-  fits-step : Fits (step digest valid d flash m .device)
+  pub fits-step : Fits (step digest valid d flash m .device)
   unfolding step outcome
   fits-step = go (refusalOf digest valid d flash m) refl
     where

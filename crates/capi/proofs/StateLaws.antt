@@ -102,7 +102,7 @@ module _ (d : Device) (f : Fits d) where
   unfolding encode
   field = stands lengths fields fields-long
 
-  stage-encode : stageIn (encode d) ≡ some (d .stage)
+  pub stage-encode : stageIn (encode d) ≡ some (d .stage)
   stage-encode =
       right-length (encode d) length-encode (sym (number-back 2 (stageNumber (d .stage)) (field 2) (small (d .stage)))) (sym (number-back 2 (nextOf (d .stage)) (field 3) (f .next)))
       ∙ stage-back (d .stage)

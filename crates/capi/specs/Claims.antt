@@ -1,20 +1,25 @@
 -- What is shown of the interface for C (in proofs/).
 use mathlib.Core.Path.{_≡_}
+use mathlib.Core.Logic.{_⊎_}
 use mathlib.Core.List.{List}
 use mathlib.Core.Option.{some}
 use Prim.Native.Nat.{ℕ, _^_, _<_}
 use lib.ListN.{length}
+use Rattle.octets.specs.Octets.{Bytes}
 use Rattle.sha256.specs.Sha256.{digest}
 use Rattle.merkle.specs.Limits.{heldBytes}
 use Rattle.lms.specs.Lms.{keyLength, valid}
+use Rattle.wire.specs.declared.kind.Kind.the-variants.{Block, Update}
 use Rattle.wire.specs.Manifest as manifest
+use Rattle.wire.specs.Message.{kind}
+use Rattle.machine.specs.declared.state.Stage.the-variants.{Complete}
 use Rattle.machine.specs.declared.state.Device.{Device}
 use Rattle.machine.specs.Device.{freshWith, nextOf}
 use Rattle.machine.specs.Readers.{numberOf}
 use Rattle.machine.specs.Step.{step}
 use Rattle.guarantee.specs.Run.{Messages, after, answerTo}
 use Rattle.guarantee.specs.Altered.{Booted}
-use Rattle.capi.specs.State.{encode, decode}
+use Rattle.capi.specs.State.{encode, stageIn, decode}
 use Rattle.capi.specs.Call.{called, receive, intact}
 use Rattle.capi.specs.Run.{callsAfter, returned, AllBytes}
 
@@ -40,6 +45,17 @@ IsStep = (d : Device) (flash m : List ℕ) → Fits d → receive (encode d) fla
 -- What 0 of the boot check proves of bytes and memory, whoever wrote them.
 abbrev pub IntactProves : Type 0
 IntactProves = (state flash : List ℕ) → intact state flash ≡ 0 → (d : Device) × (decode state ≡ some d) × Booted digest d flash
+
+-- The fields of every device that bytes encode fit their bytes.
+abbrev pub DecodedFits : Type 0
+DecodedFits = (state : List ℕ) → Bytes state → (d : Device) → decode state ≡ some d → Fits d
+
+-- The boot check returns 0 right after each call that reports a program complete, an accepted update of kind 3 or last block, whatever bytes and memory that call was given.
+abbrev pub PassesAfter : Type 0
+PassesAfter =
+    (state flash m : List ℕ) → Bytes state → Bytes m
+    → (let c = receive state flash m in
+    c .answer ≡ 0 → (kind m ≡ Update) ⊎ ((kind m ≡ Block) × (stageIn (c .state) ≡ some Complete)) → intact (c .state) (c .flash) ≡ 0)
 
 -- A caller that keeps state and flash from call to call runs the device that demand 3 speaks of: after a list of messages the bytes are those of that device and
 -- its flash, and the number that one call more returns is that of its answer.
