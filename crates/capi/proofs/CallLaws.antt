@@ -9,6 +9,7 @@ use lib.Dec.{eqb}
 use lib.ListN.{length}
 use borrow.Author.Tests.{eqb-true}
 use Rattle.sha256.specs.Sha256.{digest}
+use Rattle.merkle.specs.Limits.{heldBytes}
 use Rattle.lms.specs.Lms.{valid}
 use Rattle.machine.specs.declared.state.Stage.{Stage}
 use Rattle.machine.specs.declared.state.Device.{Device}
@@ -19,6 +20,8 @@ use Rattle.machine.specs.Device.{Situation, Outcome}
 use Rattle.machine.specs.Readers.{numberOf}
 use Rattle.machine.specs.Step.{outcome, refusalOf, step}
 use Rattle.machine.specs.BootCheck.{bootCheck}
+use Rattle.device.specs.Fields.{stepInPlace}
+use Rattle.device.proofs.AcceptLaws.{held-step}
 use Rattle.capi.specs.declared.state.Found.{Found}
 use Rattle.capi.specs.declared.state.Found.the-variants.{At, Nothing}
 use Rattle.capi.specs.Found.{found}
@@ -73,15 +76,18 @@ module _ (b : List ℕ) {f : Found} (e : f ≡ found (stageIn b)) where
     unknown g = rw (decode-none b (found-none (stageIn b) (sym e ∙ g)), receive)
 
     -- a state, and what the device made of it
-    module _ {t : Stage} {d : Device} {o : Outcome} (g : f ≡ At t) (de : d ≡ deviceIn b t) (se : step digest valid d flash m ≡ o) where
+    module _ {t : Stage} {d : Device} {o : Outcome} (g : f ≡ At t) (de : d ≡ deviceIn b t) (l : length (d .hashes) ≡ heldBytes) (se : stepInPlace d flash m ≡ o) where
+      stepped : step digest valid d flash m ≡ o
+      stepped = sym (held-step d flash m l) ∙ se
+
       taken : receive b flash m ≡ called o b
       unfolding receive
-      taken = rw (decode-some b (found-some (stageIn b) (sym e ∙ g)), receive) (ap (λ (x : Device). called (step digest valid x flash m) b) (sym de) ∙ ap (λ (x : Outcome). called x b) se)
+      taken = rw (decode-some b (found-some (stageIn b) (sym e ∙ g)), receive) (ap (λ (x : Device). called (step digest valid x flash m) b) (sym de) ∙ ap (λ (x : Outcome). called x b) stepped)
 
       -- a refusal leaves the device as it was
       pub unchanged : {x : Refusal} → o .answer ≡ Refused x → o .device ≡ d
       unfolding step
-      unchanged z = sym (ap (λ (y : Outcome). y .device) se) ∙ keeps (refusalOf digest valid d flash m) d flash _ (ap (λ (y : Outcome). y .answer) se ∙ z)
+      unchanged z = sym (ap (λ (y : Outcome). y .device) stepped) ∙ keeps (refusalOf digest valid d flash m) d flash _ (ap (λ (y : Outcome). y .answer) stepped ∙ z)
 
       pub refused : {x : Refusal} {n : ℕ} {b′ : List ℕ} → o .answer ≡ Refused x → n ≡ numberOf (o .answer) → b′ ≡ b → receive b flash m ≡ record { answer = n; state = b′; flash = o .flash }
       unfolding called stateAfter

@@ -6,11 +6,16 @@ use mathlib.Core.Option.{Option, none, some}
 use Prim.Native.Nat.{ℕ, _+_, _-_, _≤_, _<_}
 use native.Mathlib.Numerals.{add-one}
 use native.Mathlib.Omega.{arith}
-use borrow.Author.Tests.{lt-ltb, le-ltb}
+use lib.ListN.{length}
+use borrow.Author.Tests.{lt-ltb, le-ltb, eq-eqb, ne-eqb}
+use Rattle.sha256.specs.Sha256.{digest}
+use Rattle.merkle.specs.Limits.{heldBytes}
 use Rattle.merkle.specs.Held.{advanced}
+use Rattle.lms.specs.Lms.{valid}
 use Rattle.wire.specs.declared.kind.Kind.{Kind}
 use Rattle.wire.specs.declared.manifest.Manifest.{Manifest}
 use Rattle.wire.specs.declared.refusal.Refusal.{Refusal}
+use Rattle.wire.specs.declared.refusal.Refusal.the-variants.{State}
 use Rattle.wire.specs.Refusal.{firstThatApplies}
 use Rattle.wire.specs.Geometry.{countOf, blockLength, withBlock}
 use Rattle.wire.specs.Message.{kind, manifestIn, blockIn, hashesAfter, updateNumber, updateBlock}
@@ -23,6 +28,7 @@ use Rattle.machine.specs.Device.{nextOf, Situation}
 use Rattle.machine.specs.Flash.{stored, updated}
 use Rattle.machine.specs.Refusals.{refusals}
 use Rattle.machine.specs.Step.{stageAfter, acceptBlock, acceptUpdate, accept, answerOf, outcome, refusalOf, step}
+use Rattle.device.specs.Fields.{stepInPlace}
 use Rattle.device.proofs.ConditionLaws.{before-is}
 use Rattle.machine.proofs.RefusalLaws.{answer-none}
 
@@ -81,3 +87,13 @@ module _ (H : List ℕ → List ℕ) (valid : (key message signature : List ℕ)
   step-accepted z q =
       outcome-accepted (refusalOf H valid d flash m) d flash (accept (kind m) d flash m) answered z
       ∙ ap (λ (t : Situation). record { answer = a; device = t .device; flash = t .flash }) (rw is at q)
+
+-- The step by the length of the hashes.
+module _ (d : Device) (flash m : List ℕ) where
+  pub held-step : length (d .hashes) ≡ heldBytes → stepInPlace d flash m ≡ step digest valid d flash m
+  unfolding stepInPlace
+  held-step l = rw (eq-eqb (length (d .hashes)) heldBytes l)
+
+  pub no-step : (length (d .hashes) ≡ heldBytes → ⊥) → stepInPlace d flash m ≡ record { answer = Refused State; device = d; flash = flash }
+  unfolding stepInPlace
+  no-step h = rw (ne-eqb (length (d .hashes)) heldBytes h)

@@ -14,14 +14,13 @@ use machine::Stage;
 pub use readers::accepted_blocks;
 pub use readers::answer_number;
 use wire::Manifest;
+use wire::Refusal;
 ghost use mathlib.Core.Path.{_≡_};
-ghost use lib.ListN.{length};
 ghost use Rattle.sha256.specs.Sha256.{digest};
-ghost use Rattle.merkle.specs.Limits.{heldBytes};
 ghost use Rattle.lms.specs.Lms.{valid};
 ghost use Rattle.machine.specs.Device.{freshWith};
 ghost use Rattle.machine.specs.Step.{step};
-ghost use Rattle.device.specs.Fields.{deviceOf};
+ghost use Rattle.device.specs.Fields.{deviceOf, stepInPlace};
 
 // A fresh device: idle, with this model and key.
 pub fn fresh(model: u32, key: [u8; lms::KEY_LEN]) -> Device
@@ -51,8 +50,8 @@ pub struct Answered {
     pub manifest: Manifest,
 }
 
-// Answers a message; key and hashes stay where the caller keeps them. A refusal leaves state and flash as they were; nothing is written before the last test
-// has passed. Only our own crates call this, and hand it hashes of the array's length.
+// Answers a message; key and hashes stay where the caller keeps them. Hashes of another length than the array's are no device's: refused 1. A refusal leaves
+// state and flash as they were; nothing is written before the last test has passed.
 pub fn receive_in_place(
     model: u32,
     key: &[u8],
@@ -62,9 +61,15 @@ pub fn receive_in_place(
     flash: &mut [u8],
     message: &[u8],
 ) -> Answered
-    requires { ⌜ length (now hashes) ≡ heldBytes ⌝ }
-    ensures { λ r. ⌜ step digest valid (deviceOf model (now (key .entry)) stage manifest (now (hashes .entry))) (now (flash .entry)) (now (message .entry)) ≡ record { answer = r .answer; device = deviceOf model (now (key .entry)) (r .stage) (r .manifest) (now (hashes .exit)); flash = now (flash .exit) } ⌝ }
+    ensures { λ r. ⌜ stepInPlace (deviceOf model (now (key .entry)) stage manifest (now (hashes .entry))) (now (flash .entry)) (now (message .entry)) ≡ record { answer = r .answer; device = deviceOf model (now (key .entry)) (r .stage) (r .manifest) (now (hashes .exit)); flash = now (flash .exit) } ⌝ }
 {
+    if hashes.len() != merkle::HELD_LEN {
+        return Answered {
+            answer: Answer::Refused(Refusal::State),
+            stage,
+            manifest,
+        };
+    }
     let kind = wire::kind_of(message);
     let answer = judge::judge(model, key, stage, manifest, hashes, kind, flash, message);
     let Answer::Accepted = answer else {

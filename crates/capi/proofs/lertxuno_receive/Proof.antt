@@ -26,8 +26,11 @@ bytes c = c .before .before .before .before .before .before .before .before .bef
 enough : (c : tie.After-receive-in-place) → hashesAt ≤ length (bytes c)
 enough c = let l = long (c .before .before .before .before .before .before .before .before .before .before) in omega arith
 
-held-long : (b : List ℕ) → length b ≡ stateLength → length (take (length b - hashesAt) (drop hashesAt b)) ≡ heldBytes
-held-long b l = length-take-le (length b - hashesAt) (drop hashesAt b) (rw (length-drop hashesAt b) (omega arith)) ∙ omega arith
+-- the hashes handed on have the array's length
+held : (c : tie.After-receive-in-place) → length (take (length (bytes c) - hashesAt) (drop hashesAt (bytes c))) ≡ heldBytes
+held c =
+    let l = long (c .before .before .before .before .before .before .before .before .before .before) in
+    length-take-le (length (bytes c) - hashesAt) (drop hashesAt (bytes c)) (rw (length-drop hashesAt (bytes c)) (omega arith)) ∙ omega arith
 
 -- what was handed on is the device that they encode
 is-device : (c : tie.After-receive-in-place)
@@ -82,7 +85,7 @@ part-receive-in-place-end : tie.Need-part-receive-in-place-end
 part-receive-in-place-end c = search needs
 
 receive-in-place-requires : tie.Need-receive-in-place-requires
-receive-in-place-requires c κs = held-long (c .before .before .before .before .before .before .before .before .before .before .before .before .before .before .before .before .before .args .state .now) (long (c .before .before .before .before .before .before .before .before .before))
+receive-in-place-requires c κs = search needs
 
 enum-told-2 : tie.Need-enum-told-2
 enum-told-2 c = search needs
@@ -106,8 +109,8 @@ returns-2 : tie.Need-returns-2
 returns-2 c =
     let r = c .before .before .before .before .before .before .before .before in
     let z = c .before .before .enum-told3 .given .1 in
-    refused _ (r .before .before .before .before .before .before .before .before .before .before .before .before .before .stage-in .ensures) _ _ (r .before .before .before .before .before .before .before .before .before .before .before .stage .given .1) (is-device r) (r .receive-in-place .ensures) z (c .wide .ensures ∙ c .before .answer-number .ensures)
-    (end-same (bytes r) hashesAt (enough r) (ap (λ (d : Device). d .hashes) (unchanged _ (r .before .before .before .before .before .before .before .before .before .before .before .before .before .stage-in .ensures) _ _ (r .before .before .before .before .before .before .before .before .before .before .before .stage .given .1) (is-device r) (r .receive-in-place .ensures) z)))
+    refused _ (r .before .before .before .before .before .before .before .before .before .before .before .before .before .stage-in .ensures) _ _ (r .before .before .before .before .before .before .before .before .before .before .before .stage .given .1) (is-device r) (held r) (r .receive-in-place .ensures) z (c .wide .ensures ∙ c .before .answer-number .ensures)
+    (end-same (bytes r) hashesAt (enough r) (ap (λ (d : Device). d .hashes) (unchanged _ (r .before .before .before .before .before .before .before .before .before .before .before .before .before .stage-in .ensures) _ _ (r .before .before .before .before .before .before .before .before .before .before .before .stage .given .1) (is-device r) (held r) (r .receive-in-place .ensures) z)))
 
 slice-relend-prefix-put-head : tie.Need-slice-relend-prefix-put-head
 slice-relend-prefix-put-head c = let r = c .before .before .before .before .before .before .before in front-room (bytes r) hashesAt (enough r) _
@@ -130,7 +133,7 @@ same-length-5 c = search needs
 returns-3 : tie.Need-returns-3
 returns-3 c =
     let r = c .before .before .before .before .before .before .before .before .before .before .before .before in
-    accepted _ (r .before .before .before .before .before .before .before .before .before .before .before .before .before .stage-in .ensures) _ _ (r .before .before .before .before .before .before .before .before .before .before .before .stage .given .1) (is-device r) (r .receive-in-place .ensures) (c .before .before .before .before .before .before .enum-told2 .given .1)
+    accepted _ (r .before .before .before .before .before .before .before .before .before .before .before .before .before .stage-in .ensures) _ _ (r .before .before .before .before .before .before .before .before .before .before .before .stage .given .1) (is-device r) (held r) (r .receive-in-place .ensures) (c .before .before .before .before .before .before .enum-told2 .given .1)
     (encode-is _ (c .before .before .put-head .ensures) (end-put (bytes r) hashesAt (enough r) _))
 
 pub lertxuno-receive-spec : {M : Type 1} → statement M
