@@ -73,6 +73,8 @@ starred = (
   refl,
   refl,
   refl,
+  refl,
+  refl,
   λ image e. not-refused (inBlocks image 256) (ap (wrongSize 256) e),
   λ image e. refused (inBlocks image 256) (ap (wrongSize 256) e),
   refl,

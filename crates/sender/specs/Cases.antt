@@ -1,6 +1,7 @@
 -- Cases worked out by hand: document 01's, with the limit of change 6 of 02, and one for change 2.
 use mathlib.Core.Path.{_≡_}
 use mathlib.Core.Logic.{_≢_}
+use mathlib.Core.Bool.{true, false}
 use mathlib.Core.List.{List, [], _∷_, _++_}
 use Prim.Native.Nat.{ℕ, zero, suc}
 use lib.ListN.{length, drop}
@@ -8,6 +9,7 @@ use Rattle.sha256.specs.Sha256.{digest}
 use Rattle.merkle.specs.Blocks.{blockCount}
 use Rattle.merkle.specs.Hash.{plain, rootOver}
 use Rattle.merkle.specs.Frontier.{carriedCount, heldCount}
+use Rattle.wire.specs.Size.{wrongSize}
 use Rattle.wire.specs.Geometry.{blockLength}
 use Rattle.wire.specs.Message.{dueLength, leastUpdate, leastPath}
 use Rattle.sender.specs.Job.{Image, inBlocks, job, blockFor}
@@ -31,7 +33,8 @@ pub record Answers (these : ℕ → Type 0) (x : Image) : Type 0 where
   pub path : (model serial i : ℕ) (signature out : List ℕ) → these (sentNumber (sendPath (job x model serial) i signature out .answer))
 
 -- "Counts worked out by hand. Marked * for proof": messages are counted from 1, held hashes after 0, 1, .. blocks; eight blocks of 256 bytes are 2,048 bytes.
--- 02, change 6: "T = 393,216 with L = 256 passes and 393,217 is refused 5": every image of that length.
+-- 02, change 6: "T = 393,216 with L = 256 passes and 393,217 is refused 5". `wrongSize` is the test of refusal 5, for the device and for the sender; of the sender
+-- then every image of these lengths.
 abbrev pub Starred : Type 0
 Starred =
     (values 1 1 (carriedCount 1) ≡ 0 ∷ [])
@@ -43,6 +46,8 @@ Starred =
     × (values 4 0 (heldCount 3) ≡ 1 ∷ 2 ∷ 1 ∷ 0 ∷ [])
     × (blockCount 256 256 ≡ 1)
     × (blockCount 256 257 ≡ 2)
+    × (wrongSize 256 393216 ≡ false)
+    × (wrongSize 256 393217 ≡ true)
     × ((image : List ℕ) → length image ≡ 393216 → Answers (λ number. number ≢ 5) (inBlocks image 256))
     × ((image : List ℕ) → length image ≡ 393217 → Answers (λ number. number ≡ 5) (inBlocks image 256))
     × (blockCount 256 2048 ≡ 8)
