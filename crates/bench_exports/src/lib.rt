@@ -13,7 +13,7 @@ pub extern "C" fn bench_digest(message: &[u8], out: &mut [u8; 32])
     *out = d;
 }
 
-// The same, fed in pieces of the given length; 0 counts as 1.
+// The digest of a message that is fed in pieces of the given length; 0 counts as 1.
 #[no_mangle]
 pub extern "C" fn bench_pieces(message: &[u8], piece: usize, out: &mut [u8; 32])
     ensures { λ _. ⌜ now (out .exit) ≡ digest (now (message .entry)) ⌝ }

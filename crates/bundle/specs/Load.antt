@@ -38,12 +38,12 @@ pub record Printed : Type 0 where
   pub device : Device
   pub flash : List ℕ
 
--- a text, and then what follows
+-- what p prints, with the text before it
 infixr 15 _before_
 unfoldable pub _before_ : List ℕ → Printed → Printed
 text before p = record { text = text ++ p .text; device = p .device; flash = p .flash }
 
--- nothing more
+-- nothing is printed; device and flash are these
 abbrev pub stop : Device → List ℕ → Printed
 stop d flash = record { text = []; device = d; flash = flash }
 

@@ -29,6 +29,6 @@ programAt b = trailerAt b - distance b
 unfoldable pub programIn : List ℕ → List ℕ
 programIn b = part (programAt b) (distance b) b
 
--- what stands before it: block messages and filler
+-- what stands before the kind 1 message: block messages and filler
 unfoldable pub beforeProgram : List ℕ → List ℕ
 beforeProgram b = take (programAt b) b

@@ -32,7 +32,7 @@ pub record Written (out : List ℕ) (at : ℕ) (out' : List ℕ) (next : ℕ) (t
   pub end : next ≡ at + length text
   pub bytes : out' ≡ paste out at text (length text)
 
--- The same with the device and the flash at the end.
+-- The text of p stands in the buffer (`Written`), and d and f are the device and the flash at its end.
 pub record Ran (p : Printed) (out : List ℕ) (at : ℕ) (out' : List ℕ) (next : ℕ) (d : Device) (f : List ℕ) : Type 0 where
   pub written : Written out at out' next (p .text)
   pub device : d ≡ p .device

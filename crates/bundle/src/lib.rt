@@ -28,7 +28,7 @@ pub const OUT_LEN: usize = 65536;
 // The bytes of key.bin: a key, and a model's four bytes.
 pub const KEY_FILE_LEN: usize = KEY_LEN + 4;
 
-// The first bytes, which are the key.
+// The key: the first bytes of key.bin.
 fn key_of(key: &[u8]) -> [u8; KEY_LEN]
     requires { ⌜ keyLength ≤ length (now key) ⌝ }
     ensures { λ r. ⌜ r ≡ take keyLength (now (key .entry)) ⌝ }

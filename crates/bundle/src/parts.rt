@@ -13,7 +13,7 @@ pub enum Start {
     Nowhere,
 }
 
-// Read from the trailer: the distance back from its first byte.
+// The start, read from the trailer: the distance back from its first byte.
 pub fn start_of(bundle: &[u8]) -> Start
     ensures { λ r. ⌜ r ≡ startOf (now (bundle .entry)) ⌝ }
 {

@@ -39,7 +39,7 @@ module _ (model : ℕ) (key flash : List ℕ) (ms : Messages) where
     pub runs : Runs fresh flash ms
     -- read back, the bytes kept are the device
     pub state : decode kept ≡ some device
-    -- neither reader refuses them 1: lertxuno_status gives the device's numbers, lertxuno_block_message_length what is due, if a block is
+    -- neither reader answers 1 for the bytes kept: lertxuno_status gives the device's numbers, lertxuno_block_message_length what is due, if a block is
     pub reads : (out : List ℕ) → status kept out ≡ record { answer = 0; out = statusOf device }
     pub due : (before : ℕ) → blockMessageLength kept before ≡ dueOf before device
     -- over any memory lent as flash lertxuno_intact gives the number of this device's boot check

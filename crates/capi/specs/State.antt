@@ -14,7 +14,7 @@ use Rattle.machine.specs.declared.state.Stage.the-variants.{Idle, Loading, Comp
 use Rattle.machine.specs.declared.state.Device.{Device}
 use Rattle.machine.specs.Device.{nextOf}
 
--- Where its fields start: model (4 bytes), key, stage (2), next number (2), manifest, held hashes.
+-- Where a state's fields start: model (4 bytes), key, stage (2), next number (2), manifest, held hashes.
 abbrev pub keyAt : ℕ
 keyAt = 4
 
@@ -41,7 +41,7 @@ unfoldable pub encode : Device → List ℕ
 encode d =
     joined (bytes 4 (d .model) ∷ d .key ∷ bytes 2 (stageNumber (d .stage)) ∷ bytes 2 (nextOf (d .stage)) ∷ written (d .manifest) ∷ d .hashes ∷ [])
 
--- the stage with this number, and with this next number if it is loading; there are no others
+-- the stage that a number stands for, with this next number if it is loading; no number above 2 stands for one
 unfoldable pub stageFrom : ℕ → ℕ → Option Stage
 stageFrom k next = cond (eqb k 0) (some Idle) (cond (eqb k 1) (some (Loading next)) (cond (eqb k 2) (some Complete) none))
 

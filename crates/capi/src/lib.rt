@@ -1,5 +1,5 @@
-// The interface for C (include/lertxuno.h). A slice crosses as a pointer and a length, a reference to an array or a number as a pointer. Those that
-// return a number give 0 or that of a refusal; what they write through a pointer is as before where they refuse, but for the line that lertxuno_ihex
+// The interface for C (include/lertxuno.h). A slice crosses as a pointer and a length, a reference to an array or a number as a pointer. A function
+// that returns a number gives 0 or that of a refusal; where it refuses, what it writes through a pointer is as before, but for the line that lertxuno_ihex
 // refuses at.
 mod state;
 mod status;

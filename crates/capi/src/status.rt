@@ -12,7 +12,7 @@ ghost use Rattle.capi.specs.Status.{statusOf};
 
 pub const STATUS_LEN: usize = 7;
 
-// Of a device that makes sense. Those of the manifest are 0 while it is idle.
+// The numbers of a device that makes sense. Those that follow from the manifest are 0 while it is idle.
 pub fn status_of(device: Device) -> [u32; STATUS_LEN]
     requires { ⌜ senseless device ≡ false ⌝ }
     ensures { λ r. ⌜ r ≡ statusOf device ⌝ }
@@ -26,7 +26,7 @@ pub fn status_of(device: Device) -> [u32; STATUS_LEN]
     }
 }
 
-// Of a device that has a manifest, with the numbers of its stage.
+// The numbers of a device that has a manifest; `at` and `next` are those of its stage.
 fn with_manifest(device: Device, at: u32, next: u32) -> [u32; STATUS_LEN]
     requires { ⌜ wrongSize (device .manifest .«block_len») (device .manifest .«image_len») ≡ false ⌝ }
     ensures { λ r. ⌜ r ≡ at ∷ next ∷ countOf (device .manifest) ∷ device .model ∷ device .manifest .serial ∷ device .manifest .«image_len» ∷ device .manifest .«block_len» ∷ [] ⌝ }

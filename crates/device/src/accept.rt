@@ -72,7 +72,7 @@ fn write_block(flash: &mut [u8], len: usize, number: u16, block: &[u8])
     octets::copy(flash, (number as usize - 1) * len, block);
 }
 
-// After block `number` of n.
+// The stage after block `number` of n.
 fn stage_after(n: usize, number: u16) -> Stage
     requires { ⌜ n ≤ maxBlocks ⌝ }
     ensures { λ r. ⌜ r ≡ stageAfter n number ⌝ }

@@ -1,5 +1,5 @@
-// The first refusal that applies, if any: the tests of each kind in the papers' order. Nothing is written here. A function is handed the device's fields that
-// its tests look at. What one requires its callers meet: they stand here, but for that of `judge`, which is `receive_in_place`.
+// The first refusal that applies, if any: the tests of each kind, in the papers' order. Nothing is written here. A function is handed those fields of the
+// device that its tests look at. Its callers meet its `requires`: `receive_in_place` calls `judge`, and all other calls stand in this file.
 use crate::conditions::cut_path;
 use crate::conditions::cut_update;
 use crate::conditions::lacks_root;

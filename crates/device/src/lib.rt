@@ -95,7 +95,7 @@ pub struct Reply {
     pub device: Device,
 }
 
-// The same for a device that is handed over whole.
+// Answers a message to a device that is handed over whole.
 pub fn receive(device: Device, flash: &mut [u8], message: &[u8]) -> Reply
     ensures { λ r. ⌜ step digest valid device (now (flash .entry)) (now (message .entry)) ≡ record { answer = r .answer; device = r .device; flash = now (flash .exit) } ⌝ }
 {

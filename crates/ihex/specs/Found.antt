@@ -87,7 +87,7 @@ pub record Steps (base k u : ℕ) (x : Option Line) (before : List ℕ) (r : Ste
 abbrev pub Placeable : (base k u : ℕ) → Option Line → Type 0
 Placeable base k u x = (wrongLength base k ≡ false) × (anyOutside base k (namedBy u x) ≡ false)
 
--- Its bytes were added to the image of those named before.
+-- The bytes of a line x were added to the image of those named before.
 pub record Places (base k u : ℕ) (x : Option Line) (before : List ℕ) (r : ℕ) (after : List ℕ) : Type 0 where
   pub upper : r ≡ upperAfter u x
   pub image : (bs : List Byte) → anyRepeated bs (namedBy u x) ≡ false → before ≡ imageOf base k bs → after ≡ imageOf base k (bs ++ namedBy u x)

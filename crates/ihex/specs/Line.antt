@@ -39,7 +39,7 @@ byteAnd (some h) none rest = none
 byteAnd (some h) (some l) none = none
 byteAnd (some h) (some l) (some bs) = some ((16 * h + l) ∷ bs)
 
--- the bytes of pairs of digits, if it is pairs of digits
+-- the bytes that pairs of digits stand for, if all characters are such pairs
 unfoldable pub octets : List ℕ → Option (List ℕ)
 octets [] = some []
 octets (h ∷ []) = none
@@ -77,6 +77,6 @@ meaning r =
     (cond (eqb (r .type) 1 && eqb (length (r .bytes)) 0) (some end01)
     (cond (eqb (r .type) 4 && eqb (length (r .bytes)) 2) (some (upper04 (number (r .bytes)))) none))
 
--- none: a broken line
+-- what a line says, if it is not broken
 unfoldable pub lineOf : List ℕ → Option Line
 lineOf l = bind (recordIn l) meaning

@@ -54,7 +54,7 @@ abbrev pub isBroken : Option Line → Bool
 isBroken none = true
 isBroken (some x) = false
 
--- after a line that is not refused, and so does not stand behind the end record
+-- what is left after one line more, which is not refused, and so does not stand behind the end record
 unfoldable pub after : Before → Option Line → Before
 after b x = record { upper = upperAfter (b .upper) x; named = b .named ++ namedBy (b .upper) x; ended = isEnd x }
 
@@ -81,7 +81,7 @@ pub record Outcome : Type 0 where
   pub answer : Answer
   pub buffer : List ℕ
 
--- the image at the start of the buffer, "bytes beyond it stay"; after a refusal all do
+-- the image at the start of the buffer, "bytes beyond it stay"; after a refusal all bytes stay
 unfoldable pub outcome : (base k : ℕ) → List ℕ → Judged → Outcome
 outcome base k buffer j =
     elim j [

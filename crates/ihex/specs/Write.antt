@@ -26,7 +26,7 @@ recordLine address type s =
     let bs = length s ∷ bytes 2 address ++ (type ∷ s) in
     colon ∷ hexDigits (bs ++ (checksum bs ∷ [])) ++ (LF ∷ [])
 
--- from address a on, with u the last 04 value; k, no less than the length, only bounds the recursion
+-- the text for bytes from address a on, with u the last 04 value; k, no less than their number, only bounds the recursion
 unfoldable pub textFrom : (k u a : ℕ) → List ℕ → List ℕ
 textFrom zero u a s = recordLine 0 1 []
 textFrom (suc k) u a [] = recordLine 0 1 []

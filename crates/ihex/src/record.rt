@@ -15,7 +15,7 @@ const COLON: u8 = 58;
 
 pub struct Record {
     pub address: u16,
-    // Its type.
+    // The record's type.
     pub kind: u8,
     // How many data bytes there are: bytes 4 to 3 + count of the record.
     pub count: u8,

@@ -17,10 +17,10 @@ ofTypes ots tree n = elim (table1 ots) [ none ↦ false | some t ↦ elim (table
 unfoldable pub ofOts : (ots n : ℕ) → Bool
 ofOts ots n = ofTypes ots 5 n || ofTypes ots 6 n || ofTypes ots 7 n || ofTypes ots 8 n || ofTypes ots 9 n
 
--- those of some types
+-- whether signatures of some types have n bytes
 unfoldable pub possibleLength : ℕ → Bool
 possibleLength n = ofOts 3 n || ofOts 4 n
 
--- Every valid signature has such a length.
+-- Every valid signature has a possible length.
 abbrev pub LengthPossible : Type 0
 LengthPossible = (key message signature : List ℕ) → valid key message signature ≡ true → possibleLength (length signature) ≡ true

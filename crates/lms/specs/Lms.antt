@@ -34,7 +34,7 @@ validAt t h key message signature =
     && ltb q (2 ^ h)
     && equal (Tc h I q K (part (4 + otsBytes t + 4) (32 * h) signature)) (part 24 32 key)
 
--- whether it is valid; not for a key of another length or of types that the tables do not have
+-- whether a signature is valid; none is for a key of another length or of types that the tables do not have
 unfoldable pub valid : (key message signature : List ℕ) → Bool
 valid key message signature =
     eqb (length key) keyLength

@@ -16,7 +16,7 @@ pub record Fresh (d : Device) : Type 0 where
   pub idle : d .stage ≡ Idle
   pub array : length (d .hashes) ≡ heldBytes
 
--- one with this model and key; manifest and array mean nothing while it is idle
+-- a fresh device with this model and key; manifest and array mean nothing while it is idle
 unfoldable pub freshWith : ℕ → List ℕ → Device
 freshWith model key =
     record {

@@ -5,7 +5,7 @@ use wire::Refusal;
 // 01: the stage.
 pub enum Stage {
     Idle,
-    // With the number of the next block, from 1.
+    // The number of the next block, from 1.
     Loading(u16),
     Complete,
 }
@@ -21,7 +21,7 @@ pub struct Device {
     pub hashes: [u8; merkle::HELD_LEN],
 }
 
-// To a message.
+// The answer to a message.
 pub enum Answer {
     Accepted,
     Refused(Refusal),

@@ -14,6 +14,6 @@ blockCount L T = (T + (L - 1)) / L
 unfoldable pub cut : (L : ℕ) (bytes : List ℕ) (before : ℕ) → List ℕ
 cut L bytes before = take L (drop (before * L) bytes)
 
--- The same blocks but for one.
+-- Blocks with one of them replaced.
 unfoldable pub overlay : (blocks : ℕ → List ℕ) (at : ℕ) (block : List ℕ) (before : ℕ) → List ℕ
 overlay blocks at block before = cond (eqb before at) block (blocks before)

@@ -11,7 +11,7 @@ pub record Hashing : Type 0 where
   pub leafPrefix : List ℕ
   pub nodePrefix : List ℕ
 
--- As 01 makes them: the function is SHA-256, and nothing goes before.
+-- Hashes as 01 makes them: the function is SHA-256, and nothing goes before.
 abbrev pub plain : (List ℕ → List ℕ) → Hashing
 plain function = record { function = function; leafPrefix = []; nodePrefix = [] }
 
@@ -47,7 +47,7 @@ module _ (H : Hashing) where
   input blocks o leaf = leafInput (blocks o)
   input blocks o (node l r) = nodeInput (hash blocks o l) (hash blocks (o + size l) r)
 
-  -- From a hash up over right siblings, lowest first.
+  -- The hash that a hash leads to over right siblings, lowest first.
   unfoldable pub climbFrom : List ℕ → List (List ℕ) → List ℕ
   climbFrom x [] = x
   climbFrom x (y ∷ siblings) = climbFrom (nodeHash x y) siblings

@@ -17,11 +17,11 @@ pathSiblings o (node l r) i =
     cond (ltb i (size l)) (pathSiblings o l i ++ ((o + size l, r) ∷ []))
     (pathSiblings (o + size l) r (i - size l) ++ ((o, l) ∷ []))
 
--- How many these are: the depth of the block's leaf, i blocks before it. For n = 3: 2, 2, 1.
+-- The depth of the leaf of the block with i blocks before it: so many siblings are on its way. For n = 3: 2, 2, 1.
 unfoldable pub leafDepth : (n i : ℕ) → ℕ
 leafDepth n i = length (pathSiblings 0 (shape n) i)
 
--- The nodes above the block, lowest first, and for each whether the sibling below it stands on the right.
+-- The nodes above a block, lowest first, and for each whether the sibling below it stands on the right.
 unfoldable pub way : ℕ → Shape → ℕ → List (Place × Bool)
 way o leaf i = []
 way o (node l r) i =

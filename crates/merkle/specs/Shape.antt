@@ -9,7 +9,7 @@ pub data Shape : Type 0 where
   leaf : Shape
   node : Shape → Shape → Shape
 
--- The number of its blocks.
+-- The number of a tree's blocks.
 unfoldable pub size : Shape → ℕ
 size leaf = 1
 size (node l r) = size l + size r

@@ -15,7 +15,7 @@ ghost use Rattle.merkle.specs.Frontier.{carriedCount};
 ghost use Rattle.merkle.specs.Held as spec;
 ghost use Rattle.merkle.specs.Held.{heldStart, begun, advanced};
 
-// Before the first block: the root alone.
+// Before the first block the root alone is held.
 pub fn begin(hashes: &mut [u8], root: &[u8])
     requires { ⌜ (length (now hashes) ≡ heldBytes) × (length (now root) ≡ hashLength) ⌝ }
     ensures { λ _. ⌜ now (hashes .exit) ≡ begun (now (root .entry)) ⌝ }
@@ -45,7 +45,7 @@ pub fn fits(hashes: &[u8], n: usize, before: usize, block: &[u8], siblings: &[u8
     equal(&hashes[start..end], &x)
 }
 
-// The siblings take the place of that one.
+// The siblings of the block after `before` of n take the place of the next hash needed.
 pub fn advance(hashes: &mut [u8], n: usize, before: usize, siblings: &[u8])
     requires { ⌜ (length (now hashes) ≡ heldBytes) × (before < n) × (n ≤ maxBlocks) × (length (now siblings) ≡ hashLength * carriedCount n (before + 1)) ⌝ }
     ensures { λ _. ⌜ now (hashes .exit) ≡ advanced n before (now (hashes .entry)) (now (siblings .entry)) ⌝ }

@@ -42,9 +42,9 @@ fn pair(hashes: &[u8], at: usize) -> [u8; 32]
     digest(&hashes[at..end])
 }
 
-// Puts the hash of the subtree over n blocks of len bytes to index `to`. What stands behind it up to NEW_AT is lost. The rest is what the bytes have from the
-// subtree's first block on, and the answer is the same for all bytes that go on so. The replaced block comes `skip` blocks after that one, modulo 2^64, so that
-// `skip` is 0 at the replaced block alone.
+// Puts the hash of the subtree over n blocks of len bytes to index `to`. What stands behind that hash, up to NEW_AT, is lost. `rest` are the bytes from the
+// subtree's first block on; those before it do not count. The replaced block comes `skip` blocks after the first one, modulo 2^64. So `skip` is 0 where the
+// first block is the replaced one, and n or more where the replaced one is outside the subtree.
 fn put_hash(hashes: &mut [u8; ROOM], to: usize, rest: &[u8], len: usize, n: usize, skip: u64)
     requires { ⌜ (0 < n) × (to + hashLength * depth n ≤ heldBytes) × ((n - 1) * len ≤ length (now rest)) ⌝ }
     ensures kept { λ _. ⌜ (take to (now (hashes .exit)) ≡ take to (now (hashes .entry))) × (drop (heldBytes + hashLength) (now (hashes .exit)) ≡ drop (heldBytes + hashLength) (now (hashes .entry))) ⌝ }
@@ -74,7 +74,7 @@ fn put_hash(hashes: &mut [u8; ROOM], to: usize, rest: &[u8], len: usize, n: usiz
     copy(hashes, to, &x);
 }
 
-// The same hash with no block replaced: n blocks after the first one the subtree has ended.
+// The hash of the subtree over n blocks of len bytes, none replaced: with `skip` n the replaced block is outside it.
 fn subtree_hash(rest: &[u8], len: usize, n: usize) -> [u8; 32]
     requires { ⌜ (0 < n) × (n ≤ maxBlocks) × ((n - 1) * len ≤ length (now rest)) ⌝ }
     ensures { λ r. ⌜ ((bytes : List ℕ) (first : ℕ) → first + n < 2 ^ 64 → drop (first * len) bytes ≡ now (rest .entry) → r ≡ hash (plain sha.digest) (cut len bytes) first (shape n)) ⌝ }
@@ -96,7 +96,7 @@ pub fn root_with(bytes: &[u8], len: usize, n: usize, at: usize, block: &[u8]) ->
     bytes32_at(&hashes, 0)
 }
 
-// The same with no block replaced.
+// The hash of the tree over n blocks of len bytes, none replaced.
 pub fn root(bytes: &[u8], len: usize, n: usize) -> [u8; 32]
     requires { ⌜ (0 < n) × (n ≤ maxBlocks) × ((n - 1) * len ≤ length (now bytes)) ⌝ }
     ensures { λ r. ⌜ r ≡ rootOver (plain sha.digest) (cut len (now (bytes .entry))) n ⌝ }

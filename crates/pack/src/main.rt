@@ -92,7 +92,7 @@ fn with_image(image: &[u8], len: u32, model: u32, serial: u32) {
     if !made.done {
         return;
     }
-    // A longer one fits no bundle.
+    // A longer signature fits no bundle.
     let mut signature = [0u8; bundle::BUNDLE_LEN];
     let input = files::read(b"signature.bin", &mut signature);
     let n = input.len;

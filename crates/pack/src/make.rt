@@ -9,7 +9,7 @@ ghost use Rattle.sender.specs.Send.{Does, sendManifest};
 ghost use Rattle.bundle.specs.Bundle.{sendBundle};
 ghost use Rattle.pack.specs.Make.{made};
 
-// So many bytes, or, where nothing is done, none.
+// How many bytes were made: none where nothing is done.
 pub struct Made {
     pub len: usize,
     pub done: bool,

@@ -14,7 +14,7 @@ use Rattle.sender.specs.Job.{Job, count, manifestFor, programFor, blockF
 pub record Lengths (j : Job) : Type 0 where
   pub manifest : length (written (manifestFor digest j)) ≡ manifestLength
   pub program : (signature : List ℕ) → length (programFor digest j signature) ≡ leastLength Program + length signature
-  -- of an image that is not refused 5, and a number that is not refused 11
+  -- messages with a number, where neither the image is refused 5 nor the number 11
   pub block : wrongSize (j .image .«block_len») (length (j .image .bytes)) ≡ false → (i : ℕ) → outside (count (j .image)) i ≡ false
       → length (blockFor digest (j .image) i) ≡ dueLength (j .image .«block_len») (length (j .image .bytes)) i
   pub update : wrongSize (j .image .«block_len») (length (j .image .bytes)) ≡ false → (i : ℕ) → outside (count (j .image)) i ≡ false → (signature : List ℕ)

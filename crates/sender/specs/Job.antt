@@ -26,17 +26,17 @@ pub record Job : Type 0 where
 abbrev pub job : Image → ℕ → ℕ → Job
 job image model serial = record { image = image; model = model; serial = serial }
 
--- n
+-- an image's block count n
 unfoldable pub count : Image → ℕ
 count x = blockCount (x .«block_len») (length (x .bytes))
 
--- its blocks, by the number of blocks before; the last one ends with the image
+-- an image's blocks, by the number of blocks before; the last one ends with the image
 unfoldable pub blocks : Image → ℕ → List ℕ
 blocks x = cut (x .«block_len») (x .bytes)
 
 -- H is SHA-256; the tree's laws hold for any hash function
 module _ (H : List ℕ → List ℕ) where
-  -- the root of the tree over them
+  -- the root of the tree over an image's blocks
   unfoldable pub rootOf : Image → List ℕ
   rootOf x = rootOver (plain H) (blocks x) (count x)
 
@@ -48,14 +48,14 @@ module _ (H : List ℕ → List ℕ) where
   unfoldable pub programFor : Job → List ℕ → List ℕ
   programFor j signature = programMessage (manifestFor j) signature
 
-  -- message i, from 1
+  -- block message i, from 1
   unfoldable pub blockFor : Image → ℕ → List ℕ
   blockFor x i = blockMessage i (blocks x (pred i)) (sent (plain H) (count x) (blocks x) (pred i))
 
-  -- the update to this image of block i, from 1
+  -- the update, kind 3, to this image of block i, from 1
   unfoldable pub updateFor : Job → ℕ → List ℕ → List ℕ
   updateFor j i signature = updateMessage (manifestFor j) i (blocks (j .image) (pred i)) signature
 
-  -- the same by a path, kind 4
+  -- the path update, kind 4, to this image of block i, from 1
   unfoldable pub pathFor : Job → ℕ → List ℕ → List ℕ
   pathFor j i signature = let x = j .image in pathMessage (manifestFor j) i (blocks x (pred i)) (sentPath (plain H) (count x) (blocks x) (pred i)) signature

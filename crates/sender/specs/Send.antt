@@ -31,16 +31,16 @@ abbrev pub sentNumber : Sent → ℕ
 sentNumber (Written k) = 0
 sentNumber (Refused r) = refusalNumber r
 
--- The answer and the buffer at exit are those of the result. `form` is the form in which the caller gets the answer.
+-- A function does what s says: it returns the answer of s, in the form that its caller gets, and it leaves the buffer of s.
 pub record Does {A : Type 0} (form : Sent → A) (s : Result) (answer : A) (buffer : List ℕ) : Type 0 where
   pub answered : answer ≡ form (s .answer)
   pub left : buffer ≡ s .buffer
 
--- the answer itself
+-- the form of our own crates: the answer itself
 abbrev pub asIs : Sent → Sent
 asIs answer = answer
 
--- the bytes at the start of the buffer and nothing else written; after a refusal nothing
+-- the bytes are written to the start of the buffer, and nothing else is; after a refusal nothing is written
 unfoldable pub send : List (Refusal × Bool) → (bytes buffer : List ℕ) → Result
 send refusals bytes buffer =
     elim (firstThatApplies refusals) [

@@ -26,7 +26,7 @@ ghost use Rattle.sender.specs.Job.{inBlocks, job};
 ghost use Rattle.sender.specs.Send.{Does, asIs, sendManifest, sendProgram, sendBlock, sendUpdate, sendPath};
 
 pub enum Sent {
-    // So many bytes.
+    // How many bytes were written.
     Written(usize),
     Refused(Refusal),
 }
@@ -69,7 +69,7 @@ pub fn program(
 
 // What the tests of a message with a number leave.
 enum Numbered {
-    // n.
+    // The block count (01: n).
     Blocks(usize),
     Refused(Refusal),
 }
@@ -164,7 +164,7 @@ pub fn update(
     successor(false, image, len, model, serial, number, signature, out)
 }
 
-// Kind 4, the same update with the siblings of its block.
+// Kind 4, the update to this image of block `number`, from 1, with the siblings of that block.
 pub fn path_update(
     image: &[u8],
     len: u32,

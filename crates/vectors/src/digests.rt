@@ -36,7 +36,7 @@ fn counted() -> [u8; 120]
     bytes
 }
 
-// The first n of them.
+// The line on the first n bytes of `counted`.
 fn prefix(name: &[u8], n: usize)
     requires { ⌜ n ≤ 120 ⌝ }
 {

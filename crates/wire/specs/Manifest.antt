@@ -10,7 +10,7 @@ use Rattle.wire.specs.declared.manifest.Manifest.{Manifest}
 abbrev pub manifestLength : ℕ
 manifestLength = 48
 
--- its bytes, and the manifest that bytes stand for
+-- a manifest's bytes, and the manifest that bytes stand for
 unfoldable pub written : Manifest → List ℕ
 written s = joined (bytes 2 (s .version) ∷ bytes 2 (s .«block_len») ∷ bytes 4 (s .model) ∷ bytes 4 (s .serial) ∷ bytes 4 (s .«image_len») ∷ s .root ∷ [])
 

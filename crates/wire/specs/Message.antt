@@ -93,7 +93,7 @@ updateBlock k m = part (leastLength Update) k m
 unfoldable pub updateSignature : ℕ → List ℕ → List ℕ
 updateSignature k m = drop (leastLength Update + k) m
 
--- In kind 4 first come d siblings.
+-- Kind 4: behind the block come d siblings, and the rest is the signature.
 unfoldable pub pathIn : (k d : ℕ) → List ℕ → List ℕ
 pathIn k d m = part (leastLength Update + k) (hashLength * d) m
 
@@ -112,7 +112,7 @@ messagesLength L T = let n = blockCount L T in leastLength Block * n + T + hashL
 unfoldable pub leastUpdate : (L T i : ℕ) → ℕ
 leastUpdate L T i = leastLength Update + blockLength L T i
 
--- Kind 4: besides, 32 bytes for each node above the block's leaf.
+-- Kind 4: a path update of block i has at least the bytes of an update, and 32 for each node above the block's leaf.
 unfoldable pub leastPath : (L T i : ℕ) → ℕ
 leastPath L T i = leastUpdate L T i + hashLength * leafDepth (blockCount L T) (pred i)
 

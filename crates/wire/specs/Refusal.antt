@@ -6,7 +6,7 @@ use Prim.Native.Nat.{ℕ}
 use Rattle.wire.specs.declared.refusal.Refusal.{Refusal}
 use Rattle.wire.specs.declared.refusal.Refusal.the-variants.{State, Kind, Short, Version, Size, Model, Serial, Area, Unsigned, Stage, Turn, Length, Unlike, Mismatch, Path, Text, Place, Twice, Altered}
 
--- the number of each
+-- the papers' number of each refusal
 abbrev pub refusalNumber : Refusal → ℕ
 refusalNumber State = 1
 refusalNumber Kind = 2

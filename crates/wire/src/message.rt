@@ -133,7 +133,7 @@ pub fn path_in(message: &[u8], len: usize, depth: usize) -> &[u8]
     &message[from..end]
 }
 
-// Kind 4: the signature behind these.
+// Kind 4: the signature behind a block of `len` bytes and the siblings for a leaf of this depth.
 pub fn path_signature(message: &[u8], len: usize, depth: usize) -> &[u8]
     requires { ⌜ leastLength Update + len + hashLength * depth ≤ length (now message) ⌝ }
     ensures { λ r. ⌜ now r ≡ pathSignature len depth (now (message .entry)) ⌝ }
@@ -168,7 +168,7 @@ pub fn least_update(block_len: usize, image_len: usize, number: usize) -> usize
     UPDATE_LEAST + block_length(block_len, image_len, number)
 }
 
-// Refusal 12, kind 4: the same with the siblings of its leaf.
+// Refusal 12, kind 4: the least bytes of a path update of block `number`, with the siblings of its leaf.
 pub fn least_path(block_len: usize, image_len: usize, number: usize) -> usize
     requires { ⌜ (wrongSize «block_len» «image_len» ≡ false) × (0 < number) × (number ≤ blockCount «block_len» «image_len») ⌝ }
     ensures { λ r. ⌜ r ≡ leastPath «block_len» «image_len» number ⌝ }

@@ -24,7 +24,7 @@ pub enum Refusal {
     Altered,
 }
 
-// Its number there.
+// The papers' number of a refusal.
 pub fn refusal_number(refusal: Refusal) -> u8
     ensures { λ r. ⌜ r ≡ spec.refusalNumber refusal ⌝ }
 {
