@@ -20,7 +20,7 @@ static inline void take_blocks(device_memory *d, const messages *m, uint32_t cou
         take(d, &m->blocks[i]);
 }
 
-static inline void check_boot(const device_memory *d) { accepted(lertxuno_intact(d->state, sizeof d->state, d->flash, sizeof d->flash)); }
+static inline void pass_boot_check(const device_memory *d) { accepted(lertxuno_boot_check(d->state, sizeof d->state, d->flash, sizeof d->flash)); }
 
 /* Puts back what an update replaced: the program's manifest, and the old block. */
 static inline void undo_update(device_memory *d, const messages *m) {

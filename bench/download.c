@@ -34,7 +34,7 @@ static void last_block(const void *with) {
 
 static void boot_check(const void *with) {
     (void)with;
-    check_boot(&device);
+    pass_boot_check(&device);
 }
 
 static void print(const char *name, double seconds, size_t count, double digest_seconds) {

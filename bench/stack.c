@@ -34,7 +34,7 @@ static void take_most_blocks(void) { take_blocks(&device, &made, made.n - 1); }
 
 static void take_last_block(void) { take(&device, &made.blocks[made.n - 1]); }
 
-static void check(void) { check_boot(&device); }
+static void boot_check(void) { pass_boot_check(&device); }
 
 static void take_update(void) { take_update_again(&device, &made, &made.update); }
 
@@ -107,7 +107,7 @@ int main(void) {
     measure("device, block_message_length", read_length, NONE);
     measure("device, all blocks but the last", take_most_blocks, PROGRAM_OR_BLOCK);
     measure("device, last block", take_last_block, PROGRAM_OR_BLOCK);
-    measure("device, intact", check, NONE);
+    measure("device, boot check", boot_check, NONE);
     measure("device, update", take_update, UPDATE);
     measure("device, path update", take_path_update, UPDATE);
     measure("sender, manifest", send_manifest, SENDER);

@@ -101,7 +101,7 @@ static void take_block(uint32_t i) {
 }
 
 /* What firmware asks at each start, before it runs the program. */
-static uint32_t check(void) { return lertxuno_intact(state, sizeof state, flash, IMAGE_LENGTH); }
+static uint32_t boot_check(void) { return lertxuno_boot_check(state, sizeof state, flash, IMAGE_LENGTH); }
 
 /* The board was swapped while the last block was on its way: the other blocks are not there, and the program does not become complete. With the board put back
  * it goes on. */
@@ -115,11 +115,11 @@ static void swap_board(void) {
 
 /* A byte of the program is not what it was: the device is complete still, and the boot check finds it. */
 static void touch_board(void) {
-    expect("device, boot check", check(), LERTXUNO_ACCEPTED);
+    expect("device, boot check", boot_check(), LERTXUNO_ACCEPTED);
     flash[0] ^= 1;
-    expect("device, a byte altered", check(), LERTXUNO_ALTERED);
+    expect("device, a byte altered", boot_check(), LERTXUNO_ALTERED);
     flash[0] ^= 1;
-    expect("device, and put back", check(), LERTXUNO_ACCEPTED);
+    expect("device, and put back", boot_check(), LERTXUNO_ACCEPTED);
 }
 
 /* The image's last byte changes, and so its last block. The device reads that block of its flash, and no other. */
@@ -144,7 +144,7 @@ int main(void) {
     lertxuno_fresh(MODEL, sample_key, state);
     report(LERTXUNO_IDLE, 0);
     expect("device, program", receive(BLOCKS), LERTXUNO_ACCEPTED);
-    expect("device, boot check", check(), LERTXUNO_STAGE);
+    expect("device, boot check", boot_check(), LERTXUNO_STAGE);
     for (uint32_t i = 0; i < BLOCKS; i++) {
         if (i + 1 == BLOCKS)
             swap_board();

@@ -7,13 +7,13 @@
  * The caller's part: a pointer is not null, also where its length is 0; it has as many bytes as its length, or its array type, says; and memory that a
  * function writes (out, written, line, length, state, flash) overlaps no other argument. What firmware must do around the calls is in docs/INTEGRATION.md.
  *
- * The library is for x86-64 Linux. Stack of a call there, at most about: 3.6 KB for lertxuno_receive, lertxuno_intact and the sender's functions,
+ * The library is for x86-64 Linux. Stack of a call there, at most about: 3.6 KB for lertxuno_receive, lertxuno_boot_check and the sender's functions,
  * 4.5 KB for lertxuno_ihex, 2 KB for lertxuno_verify, 1 KB for lertxuno_digest, 100 bytes for the others. The time of lertxuno_ihex grows with its text,
  * which it reads twice. Otherwise time goes into SHA-256 compressions, one for each 64 bytes hashed: a signature's verdict takes about
  * 4,400 (signature type 4, height 5) or 600 (type 3, height 10), at the device a block takes those of its bytes and two for each hash that it carries, the
  * last one those of the whole image besides, a path update those of two blocks and four for each hash, an update those of the whole image twice; the boot
- * check (lertxuno_intact) and the sender's functions take those of the whole image, lertxuno_path_update twice as many, and lertxuno_block those of the part
- * that its hashes stand for. Measured time: docs/MEASURED.md; stack and code of each function: docs/INTEGRATION.md.
+ * check (lertxuno_boot_check) and the sender's functions take those of the whole image, lertxuno_path_update twice as many, and lertxuno_block those of the
+ * part that its hashes stand for. Measured time: docs/MEASURED.md; stack and code of each function: docs/INTEGRATION.md.
  *
  * Words: a program is an image, cut into blocks, and its manifest, which is signed. Numbers are big-endian.
  */
@@ -43,11 +43,11 @@ enum lertxuno_refusal {
     LERTXUNO_LENGTH = 12,   /* block: not the length due; update: shorter than its block and hashes need. A longer update is one with a longer signature: 9 */
     LERTXUNO_UNLIKE = 13,   /* the update's block length or image length differs from the complete one's */
     LERTXUNO_MISMATCH = 14, /* the hash worked out differs from the one held or signed */
-    LERTXUNO_PATH = 15,     /* path update: the old block with the message's hashes does not lead to the root held */
+    LERTXUNO_PATH = 15,     /* path update: the old block with the message's hashes does not lead to the current root */
     LERTXUNO_TEXT = 16,     /* Intel HEX: a broken line, or no end record */
     LERTXUNO_PLACE = 17,    /* Intel HEX: a byte outside the image */
     LERTXUNO_TWICE = 18,    /* Intel HEX: a byte named a second time */
-    LERTXUNO_ALTERED = 19   /* update of kind 3, last block (with it in place), boot check: the tree over the flash lacks the root held before the call */
+    LERTXUNO_ALTERED = 19   /* update of kind 3, last block (with it in place), boot check: the tree over the flash lacks the current root */
 };
 
 /* An answer's word, for logs: "accepted" for 0, and "unknown" for a number that no function returns. */
@@ -215,7 +215,7 @@ uint32_t lertxuno_block_message_length(const uint8_t *state, size_t state_length
 /* The boot check: 0 where the device is complete and the tree over its flash has the root of its manifest, whoever wrote the flash. Else the first that
  * applies of LERTXUNO_STATE as above, LERTXUNO_STAGE where the device is not complete, LERTXUNO_AREA where the flash is shorter than the image, and
  * LERTXUNO_ALTERED. State and flash are only read. What 0 proves, and when to call this: docs/INTEGRATION.md. */
-uint32_t lertxuno_intact(const uint8_t *state, size_t state_length, const uint8_t *flash, size_t flash_length);
+uint32_t lertxuno_boot_check(const uint8_t *state, size_t state_length, const uint8_t *flash, size_t flash_length);
 
 #ifdef __cplusplus
 }

@@ -90,7 +90,7 @@ pub fn with_state(pair: &Pair, at: usize, bytes: &[u8]) -> Pair {
 }
 
 pub fn expect_boot(what: &str, pair: &Pair, due: u32) -> Compared<()> {
-    expect(&format!("boot check, {what}"), pair.intact()?, due)
+    expect(&format!("boot check, {what}"), pair.boot_check()?, due)
 }
 
 fn expect_same(what: &str, pair: &Pair, due: &Pair) -> Compared<()> {

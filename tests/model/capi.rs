@@ -95,7 +95,7 @@ unsafe extern "C" {
         state_length: usize,
         length: *mut usize,
     ) -> u32;
-    fn lertxuno_intact(
+    fn lertxuno_boot_check(
         state: *const u8,
         state_length: usize,
         flash: *const u8,
@@ -204,7 +204,7 @@ pub fn block_message_length(state: &[u8], length: &mut usize) -> u32 {
     unsafe { lertxuno_block_message_length(s, sl, length) }
 }
 
-pub fn intact(state: &Lent, flash: &Lent) -> u32 {
+pub fn boot_check(state: &Lent, flash: &Lent) -> u32 {
     let ((s, sl), (f, fl)) = (state.parts(), flash.parts());
-    unsafe { lertxuno_intact(s, sl, f, fl) }
+    unsafe { lertxuno_boot_check(s, sl, f, fl) }
 }

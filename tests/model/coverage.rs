@@ -71,7 +71,7 @@ pub const SENDER: usize = 5;
 pub const VERIFY: usize = 10;
 pub const STATUS: usize = 11;
 pub const DUE: usize = 12;
-pub const INTACT: usize = 13;
+pub const BOOT_CHECK: usize = 13;
 
 /// Messages that an untouched flash would take, by the one region that others have touched:
 /// refused, and accepted. Kind 1 has all of its image for its block; behind the last block is none.
@@ -92,7 +92,7 @@ const TOUCHED: [[(&str, &[usize]); 5]; 2] = [
     ],
 ];
 
-/// Messages over a flash that others have touched within the held image, by the answer that an
+/// Messages over a flash that others have touched within the current image, by the answer that an
 /// untouched one would give: where it was the same, and where another came, which in a sound list
 /// is 19, or 15 for kind 4. That kind 4 gets 14 all the same is too rare to be due.
 const INSTEAD: [[(&str, &[u32]); 5]; 2] = [

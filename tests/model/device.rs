@@ -89,7 +89,7 @@ impl Device {
     }
 
     /// The boot check: complete, and the flash has the manifest's root. 1, 10, 8, 19.
-    pub fn intact(&self, flash: &[u8]) -> Outcome<()> {
+    pub fn boot_check(&self, flash: &[u8]) -> Outcome<()> {
         self.check_state()?;
         let Stage::Complete { manifest } = &self.stage else {
             return Err(STAGE);
@@ -230,8 +230,8 @@ fn tree(manifest: &Manifest, flash: &[u8]) -> Hash {
 }
 
 /// Refusal 19: "if that tree lacks the held slip's root"
-fn check_tree(held: &Manifest, flash: &[u8]) -> Outcome<()> {
-    refuse_if(tree(held, flash) != held.root, ALTERED)
+fn check_tree(current: &Manifest, flash: &[u8]) -> Outcome<()> {
+    refuse_if(tree(current, flash) != current.root, ALTERED)
 }
 
 /// The flash "with that block in place"

@@ -36,7 +36,7 @@ fn expect_readers(pair: &Pair, due: [u32; 3]) -> Compared<()> {
     let answers = [
         readers::status(&pair.state)?,
         readers::due(&pair.state)?,
-        pair.intact()?,
+        pair.boot_check()?,
     ];
     expect("status, length due and boot check", answers, due)
 }

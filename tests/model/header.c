@@ -185,8 +185,8 @@ static void fields(size_t stage, size_t next, size_t serial) {
 
 static uint32_t receive(size_t flash_length) { return lertxuno_receive(state, LERTXUNO_STATE_LENGTH, flash, flash_length, out, written); }
 
-static uint32_t intact(size_t flash_length) {
-    return lertxuno_intact(state, LERTXUNO_STATE_LENGTH, flash, flash_length);
+static uint32_t boot_check(size_t flash_length) {
+    return lertxuno_boot_check(state, LERTXUNO_STATE_LENGTH, flash, flash_length);
 }
 
 /* The message that the sender has just written: refused for a flash of a byte less than the image, then taken. */
@@ -210,12 +210,12 @@ static void altered(const char *what, size_t flash_length) {
 
 /* The boot check of a complete device. */
 static void booted(size_t flash_length) {
-    expect("boot check", intact(flash_length), LERTXUNO_ACCEPTED);
-    expect("boot check, a byte too little flash", intact(IMAGE_LENGTH - 1), LERTXUNO_AREA);
+    expect("boot check", boot_check(flash_length), LERTXUNO_ACCEPTED);
+    expect("boot check, a byte too little flash", boot_check(IMAGE_LENGTH - 1), LERTXUNO_AREA);
     expect("boot check, a state of a byte less",
-           lertxuno_intact(state, LERTXUNO_STATE_LENGTH - 1, flash, flash_length), LERTXUNO_STATE);
+           lertxuno_boot_check(state, LERTXUNO_STATE_LENGTH - 1, flash, flash_length), LERTXUNO_STATE);
     flash[0] ^= 1;
-    expect("boot check, altered", intact(flash_length), LERTXUNO_ALTERED);
+    expect("boot check, altered", boot_check(flash_length), LERTXUNO_ALTERED);
     flash[0] ^= 1;
 }
 
@@ -225,7 +225,7 @@ static void block(uint32_t number, size_t flash_length) {
     expect_true("block's place in its message", out[LERTXUNO_BLOCK_HEAD] == image[(number - 1) * BLOCK_LENGTH]);
     expect("length due", lertxuno_block_message_length(state, LERTXUNO_STATE_LENGTH, &due), LERTXUNO_ACCEPTED);
     expect("length due", due, written);
-    expect("boot check while loading", intact(flash_length), LERTXUNO_STAGE);
+    expect("boot check while loading", boot_check(flash_length), LERTXUNO_STAGE);
     if (number == BLOCKS)
         altered("last block over an altered flash", flash_length);
     taken("block", flash_length);

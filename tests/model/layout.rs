@@ -68,8 +68,8 @@ fn write(state: &mut [u8], stage: &Stage) {
 }
 
 /// The boot check: 0, or the refusal.
-pub fn intact(state: &[u8], flash: &[u8]) -> u32 {
-    let verdict = read(state).and_then(|device| device.intact(flash));
+pub fn boot_check(state: &[u8], flash: &[u8]) -> u32 {
+    let verdict = read(state).and_then(|device| device.boot_check(flash));
     verdict.err().unwrap_or(0)
 }
 

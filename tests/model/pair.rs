@@ -3,7 +3,7 @@
 
 use crate::capi;
 use crate::compare::{Compared, same, same_answer};
-use crate::coverage::{Coverage, INTACT};
+use crate::coverage::{BOOT_CHECK, Coverage};
 use crate::damage::damage_state;
 use crate::device::Device;
 use crate::edge;
@@ -56,7 +56,7 @@ impl Pair {
         let answer = layout::receive(&mut self.state, &mut self.flash, message);
         let library = capi::receive(&mut self.library_state, &mut self.library_flash, message);
         same_answer(library, answer)?;
-        coverage.count(INTACT, self.intact()?);
+        coverage.count(BOOT_CHECK, self.boot_check()?);
         readers::compare(&self.state, coverage)?;
         if let Some(device) = &before {
             edge::count(device, message, answer, coverage);
@@ -90,11 +90,11 @@ impl Pair {
     }
 
     /// The boot check, and behind it a look at state and flash, which it must leave as they are.
-    pub fn intact(&self) -> Compared<u32> {
-        let library = capi::intact(&self.library_state, &self.library_flash);
+    pub fn boot_check(&self) -> Compared<u32> {
+        let library = capi::boot_check(&self.library_state, &self.library_flash);
         same("state", &self.library_state, &self.state)?;
         same("flash", &self.library_flash, &self.flash)?;
-        let answer = layout::intact(&self.state, &self.flash);
+        let answer = layout::boot_check(&self.state, &self.flash);
         same_answer(library, answer).map_err(|what| format!("boot check: {what}"))?;
         Ok(answer)
     }

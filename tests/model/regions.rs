@@ -30,7 +30,7 @@ pub struct Meeting {
     row: usize,
     /// The one region that is touched, if it is one.
     region: Option<usize>,
-    /// Whether the part that the held manifest speaks of is touched.
+    /// Whether the part that the current manifest speaks of is touched.
     within: bool,
     /// The answer that the message would get over the untouched flash.
     without: u32,
@@ -49,13 +49,13 @@ impl Meeting {
             flash[part.clone()] != untouched[part]
         });
         let (first, second) = (touched.next(), touched.next());
-        let held = device.manifest().map_or(0, |m| m.image_length as usize);
-        let held = held.min(flash.len());
+        let length = device.manifest().map_or(0, |m| m.image_length as usize);
+        let length = length.min(flash.len());
         let without = device.receive(untouched, message);
         Some(Meeting {
             row: row(device, message)?,
             region: if second.is_none() { first } else { None },
-            within: flash[..held] != untouched[..held],
+            within: flash[..length] != untouched[..length],
             without: without.err().unwrap_or(0),
         })
     }

@@ -1,5 +1,5 @@
 pub mod TextLaws
-pub mod WrittenLaws
+pub mod AppendedLaws
 pub mod PartLaws
 pub mod RunLaws
 pub mod MessageLaws

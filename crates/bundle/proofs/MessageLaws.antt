@@ -28,9 +28,9 @@ use Rattle.machine.proofs.RefusalLaws.{program-passed, block-passed, update-pas
 use Rattle.bundle.specs.Text.{slipLine}
 use Rattle.bundle.specs.Parts.{trailerLength, nowhere, programIn, beforeProgram}
 use Rattle.bundle.specs.Load.{Printed, _before_, stop, ifAccepted, blocks, messages}
-use Rattle.bundle.specs.Steps.{Written, Ran}
+use Rattle.bundle.specs.Steps.{Appended, Ran}
 use Rattle.bundle.proofs.PartLaws.{Somewhere}
-use Rattle.bundle.proofs.WrittenLaws.{joined}
+use Rattle.bundle.proofs.AppendedLaws.{joined}
 use Rattle.bundle.proofs.RunLaws.{before-stop, if-accepted, if-refused, ran}
 
 size-right : (L T : ℕ) → Sized L T → wrongSize L T ≡ false
@@ -74,7 +74,7 @@ module _ (d : Device) (flash b : List ℕ) where
   unfolding messages
   with-program e = rw (e, messages)
 
-  pub ran-nowhere : {out out' : List ℕ} {at next : ℕ} → nowhere b ≡ true → Written out at out' next (slipLine 3) → Ran (messages d flash b) out at out' next d flash
+  pub ran-nowhere : {out out' : List ℕ} {at next : ℕ} → nowhere b ≡ true → Appended out at out' next (slipLine 3) → Ran (messages d flash b) out at out' next d flash
   ran-nowhere e w = ran (sym (before-stop _ d flash) ∙ sym (no-program e)) w
 
   module _ (start : ℕ) (z : Somewhere b start) (o : Outcome) (done : step digest valid d flash (take (length b - trailerLength - start) (drop start b)) ≡ o) (answer : ℕ)
@@ -87,12 +87,12 @@ module _ (d : Device) (flash b : List ℕ) where
         ∙ ap₂ {C = Printed} (λ (x : Outcome) (f : List ℕ). after x (numberOf (x .answer)) f) (sym q) (z .front)
         ∙ sym (with-program (z .there))
 
-    pub ran-refused : {out out' : List ℕ} {at next : ℕ} → Written out at out' next (slipLine answer) → (r : Refusal) → o .answer ≡ Refused r
+    pub ran-refused : {out out' : List ℕ} {at next : ℕ} → Appended out at out' next (slipLine answer) → (r : Refusal) → o .answer ≡ Refused r
         → Ran (messages d flash b) out at out' next (o .device) (o .flash)
     ran-refused w r e =
         ran (sym (before-stop _ (o .device) (o .flash)) ∙ ap (λ (p : Printed). slipLine answer before p) (sym (if-refused o _ r e)) ∙ follows) w
 
-    pub ran-on : {out out' out'' f : List ℕ} {at next last : ℕ} {d' : Device} → Written out at out' next (slipLine answer) → o .answer ≡ Accepted
+    pub ran-on : {out out' out'' f : List ℕ} {at next last : ℕ} {d' : Device} → Appended out at out' next (slipLine answer) → o .answer ≡ Accepted
         → Ran (blocks (o .device) (o .flash) (take start b)) out' next out'' last d' f
         → at + length (slipLine answer) + length (blocks (o .device) (o .flash) (take start b) .text) ≤ length out
         → Ran (messages d flash b) out at out'' last d' f
@@ -102,4 +102,4 @@ module _ (d : Device) (flash b : List ℕ) where
         let all : slipLine answer before p ≡ messages d flash b = ap (λ (p : Printed). slipLine answer before p) (sym (if-accepted o _ e)) ∙ follows in
         let same : record { text = slipLine answer ++ p .text; device = d'; flash = f } ≡ slipLine answer before p =
         ap₂ {C = Printed} (λ (x : Device) (y : List ℕ). record { text = slipLine answer ++ p .text; device = x; flash = y }) (r .device) (r .flash) in
-        ran (same ∙ all) (joined w (r .written) room)
+        ran (same ∙ all) (joined w (r .appended) room)

@@ -1,4 +1,4 @@
--- Where messages are cut, and where the kind 1 message starts.
+-- Where messages end, and where the kind 1 message starts.
 use mathlib.Core.Path.{_≡_, refl, sym, ap, ap₂, _∙_}
 use mathlib.Core.Bool.{Bool, true, false, _||_}
 use mathlib.Core.List.{List}
@@ -12,16 +12,16 @@ use Rattle.wire.proofs.SizeLaws.{or-false}
 use Rattle.octets.specs.Octets.{number, part}
 use Rattle.bundle.specs.declared.parts.Start.the-variants.{At, Nowhere}
 use Rattle.bundle.specs.Parts.{trailerLength, trailerAt, distance, nowhere, programAt, programIn, beforeProgram}
-use Rattle.bundle.specs.Steps.{startOf, Cut}
+use Rattle.bundle.specs.Steps.{startOf, MessageEnd}
 
 -- the whole message is there, or the bytes end before it does
-pub cut-whole : (b : List ℕ) (from len : ℕ) → from + len ≤ length b → Cut b from len (from + len)
-cut-whole b from len h =
+pub end-whole : (b : List ℕ) (from len : ℕ) → from + len ≤ length b → MessageEnd b from len (from + len)
+end-whole b from len h =
     let e : from + len - from ≡ len = omega arith in
     record { after = omega arith; within = h; message = ap (λ (n : ℕ). take n (drop from b)) e; rest = sym (drop-drop len from b) }
 
-pub cut-short : (b : List ℕ) (from len : ℕ) → from ≤ length b → length b ≤ from + len → Cut b from len (length b)
-cut-short b from len h g =
+pub end-short : (b : List ℕ) (from len : ℕ) → from ≤ length b → length b ≤ from + len → MessageEnd b from len (length b)
+end-short b from len h g =
     let l : length (drop from b) ≡ length b - from = length-drop from b in
     record {
       after = h;

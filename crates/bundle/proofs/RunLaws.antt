@@ -21,9 +21,9 @@ use Rattle.machine.specs.Step.{step}
 use Rattle.machine.specs.Readers.{numberOf}
 use Rattle.bundle.specs.Text.{ascii, blockLine}
 use Rattle.bundle.specs.Load.{Printed, _before_, stop, ifAccepted, blocksFrom, blocks}
-use Rattle.bundle.specs.Steps.{Cut, Written, Ran}
+use Rattle.bundle.specs.Steps.{MessageEnd, Appended, Ran}
 use Rattle.bundle.proofs.TextLaws.{message-short}
-use Rattle.bundle.proofs.WrittenLaws.{written-none, length-kept, retold, joined}
+use Rattle.bundle.proofs.AppendedLaws.{appended-none, length-kept, retold, joined}
 
 pub before-none : (p : Printed) → [] before p ≡ p
 unfolding _before_
@@ -46,8 +46,8 @@ unfolding ifAccepted
 if-refused o p r e = rw (e, ifAccepted)
 
 -- a run whose text is all written
-pub ran : {p : Printed} {out out' text f : List ℕ} {at next : ℕ} {d : Device} → record { text = text; device = d; flash = f } ≡ p → Written out at out' next text → Ran p out at out' next d f
-ran e w = record { written = retold w (ap (λ (q : Printed). q .text) e); device = ap (λ (q : Printed). q .device) e; flash = ap (λ (q : Printed). q .flash) e }
+pub ran : {p : Printed} {out out' text f : List ℕ} {at next : ℕ} {d : Device} → record { text = text; device = d; flash = f } ≡ p → Appended out at out' next text → Ran p out at out' next d f
+ran e w = record { appended = retold w (ap (λ (q : Printed). q .text) e); device = ap (λ (q : Printed). q .device) e; flash = ap (λ (q : Printed). q .flash) e }
 
 module _ (L T n : ℕ) where
   -- one message, and the rest
@@ -70,7 +70,7 @@ module _ (L T n : ℕ) where
       pub inside : read ≤ length bytes
       pub size : length flash ≡ length flash₀
       pub text : List ℕ
-      pub written : Written out₀ from out at text
+      pub appended : Appended out₀ from out at text
       pub short : length text ≤ 15 * (i - 1)
       pub whole : text before blocksFrom L T (n + 1 - i) i d flash (drop read bytes) ≡ blocksFrom L T n 1 start flash₀ bytes
 
@@ -83,7 +83,7 @@ module _ (L T n : ℕ) where
           inside = omega arith;
           size = refl;
           text = [];
-          written = written-none out₀ from;
+          appended = appended-none out₀ from;
           short = omega arith;
           whole = before-none _ ∙ ap (λ (k : ℕ). blocksFrom L T k 1 start flash₀ bytes) e;
         }
@@ -95,27 +95,27 @@ module _ (L T n : ℕ) where
         let e : n + 1 - i ≡ 0 = omega (arith, w .last) in
         let all : w .text before stop d flash ≡ blocksFrom L T n 1 start flash₀ bytes =
         ap (λ (k : ℕ). w .text before blocksFrom L T k i d flash (drop read bytes)) (sym e) ∙ w .whole in
-        (ran (sym (before-stop (w .text) d flash) ∙ all) (w .written), omega (arith, w .short, w .last, w .written .end))
+        (ran (sym (before-stop (w .text) d flash) ∙ all) (w .appended), omega (arith, w .short, w .last, w .appended .end))
 
     module _ {flash out : List ℕ} {d : Device} {at read i : ℕ} (w : Looping flash out d at read i) (h : i ≤ n + 1) (few : n ≤ maxBlocks) (room : from + 15 * maxBlocks ≤ length out₀) where
       pub out-kept : length out ≡ length out₀
-      out-kept = length-kept (w .written) (omega (arith, w .short))
+      out-kept = length-kept (w .appended) (omega (arith, w .short))
 
       pub line-fits : (answer : ℕ) → i ≤ n → answer < 256 → at + length (blockLine i answer) ≤ length out
-      line-fits answer g small = omega (arith, out-kept, w .short, w .first, w .written .end, message-short (ascii "block ") i answer (omega arith) (omega arith))
+      line-fits answer g small = omega (arith, out-kept, w .short, w .first, w .appended .end, message-short (ascii "block ") i answer (omega arith) (omega arith))
 
     module _ {flash out out' : List ℕ} {d : Device} {at at' read i : ℕ} (w : Looping flash out d at read i) (h : i ≤ n) (few : n ≤ maxBlocks)
-        (room : from + 15 * maxBlocks ≤ length out₀) (o : Outcome) (len end : ℕ) (due : len ≡ dueLength L T i) (cut : Cut bytes read len end)
+        (room : from + 15 * maxBlocks ≤ length out₀) (o : Outcome) (len end : ℕ) (due : len ≡ dueLength L T i) (ends : MessageEnd bytes read len end)
         (done : step digest valid d flash (take (end - read) (drop read bytes)) ≡ o) (answer : ℕ) (answer-is : answer ≡ numberOf (o .answer)) (small : answer < 256)
-        (v : Written out at out' at' (blockLine i answer)) where
+        (v : Appended out at out' at' (blockLine i answer)) where
       abbrev line : List ℕ
       line = blockLine i answer
 
       line-short : length line ≤ 15
       line-short = message-short (ascii "block ") i answer (omega arith) (omega arith)
 
-      both : Written out₀ from out' at' (w .text ++ line)
-      both = joined (w .written) v (omega (arith, w .short, line-short))
+      both : Appended out₀ from out' at' (w .text ++ line)
+      both = joined (w .appended) v (omega (arith, w .short, line-short))
 
       both-short : length (w .text ++ line) ≤ 15 * (i + 1 - 1)
       both-short = omega (arith, length-append (w .text) line, w .short, line-short, w .first)
@@ -123,8 +123,8 @@ module _ (L T n : ℕ) where
       follows : (w .text ++ line) before ifAccepted o (blocksFrom L T (n + 1 - (i + 1)) (i + 1) (o .device) (o .flash) (drop end bytes)) ≡ blocksFrom L T n 1 start flash₀ bytes
       follows =
           let b : List ℕ = drop read bytes in
-          let m : take (dueLength L T i) b ≡ take (end - read) b = ap (λ (k : ℕ). take k b) (sym due) ∙ sym (cut .message) in
-          let r : drop (dueLength L T i) b ≡ drop end bytes = ap (λ (k : ℕ). drop k b) (sym due) ∙ sym (cut .rest) in
+          let m : take (dueLength L T i) b ≡ take (end - read) b = ap (λ (k : ℕ). take k b) (sym due) ∙ sym (ends .message) in
+          let r : drop (dueLength L T i) b ≡ drop end bytes = ap (λ (k : ℕ). drop k b) (sym due) ∙ sym (ends .rest) in
           let q : step digest valid d flash (take (dueLength L T i) b) ≡ o = ap (step digest valid d flash) m ∙ done in
           let after : Outcome → ℕ → List ℕ → Printed = λ x y z. blockLine i y before ifAccepted x (blocksFrom L T (n + 1 - (i + 1)) (i + 1) (x .device) (x .flash) z) in
           sym (before-both (w .text) line _)
@@ -139,10 +139,10 @@ module _ (L T n : ℕ) where
           record {
             first = omega arith;
             last = omega arith;
-            inside = cut .within;
+            inside = ends .within;
             size = same ∙ w .size;
             text = w .text ++ line;
-            written = both;
+            appended = both;
             short = both-short;
             whole = ap (λ (p : Printed). (w .text ++ line) before p) (sym (if-accepted o _ e)) ∙ follows;
           }

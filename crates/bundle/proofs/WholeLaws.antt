@@ -36,7 +36,7 @@ use Rattle.machine.proofs.SenseLaws.{sense-idle}
 use Rattle.guarantee.proofs.ProgramLaws.{is-program, program-accepted}
 use Rattle.bundle.specs.Text.{ascii, bundleLine, slipLine, blockLine, line, stateWords, stateLine}
 use Rattle.bundle.specs.Parts.{trailerLength, trailerAt, distance, nowhere, programAt, programIn, beforeProgram}
-use Rattle.bundle.specs.Load.{maxBundle, Printed, _before_, ifAccepted, blocksFrom, blocks, messages, withState, deviceFor, loaded}
+use Rattle.bundle.specs.Load.{maxBundle, Printed, _before_, ifAccepted, blocksFrom, blocks, messages, withState, deviceFor, printedFor}
 use Rattle.bundle.specs.Bundle.{blockMessages, bundleFor}
 use Rattle.bundle.specs.Claims.{Loadable, acceptedFrom, Whole, LoadsWhole}
 use Rattle.bundle.proofs.LoadLaws.{all-printed}
@@ -57,15 +57,15 @@ module _ (job : Job) where
       ∙ append-assoc (blockMessages digest (job .image) j) (blockFor digest (job .image) (suc j)) (messagesAfter (suc j) left)
 
 module _ (job : Job) (ok : Sendable job) (old : List ℕ) where
-  abbrev Loading : ℕ → Situation → Type 0
-  Loading j s = Here digest length-digest valid job ok old j s
+  abbrev Reached : ℕ → Situation → Type 0
+  Reached j s = Here digest length-digest valid job ok old j s
 
   -- the loader's loop over the messages after the first j
   record Runs (left j : ℕ) (p : Printed) : Type 0 where
     text : p .text ≡ acceptedFrom left (suc j)
-    here : Loading (count (job .image)) (record { device = p .device; flash = p .flash })
+    here : Reached (count (job .image)) (record { device = p .device; flash = p .flash })
 
-  one : (left j : ℕ) (s : Situation) (rest : List ℕ) → j < count (job .image) → Loading j s
+  one : (left j : ℕ) (s : Situation) (rest : List ℕ) → j < count (job .image) → Reached j s
       → (let t = accept Block (s .device) (s .flash) (blockFor digest (job .image) (suc j)) in
       blocksFrom (job .image .«block_len») (length (job .image .bytes)) (suc left) (suc j) (s .device) (s .flash) (blockFor digest (job .image) (suc j) ++ rest)
       ≡ blockLine (suc j) 0 before blocksFrom (job .image .«block_len») (length (job .image .bytes)) left (suc (suc j)) (t .device) (t .flash) rest)
@@ -81,10 +81,10 @@ module _ (job : Job) (ok : Sendable job) (old : List ℕ) where
       ∙ ap (λ k. let t = accept k (s .device) (s .flash) m in record { answer = Accepted; device = t .device; flash = t .flash }) (b .is) in
       rw (first, behind, o) refl
 
-  runs : (left j : ℕ) (s : Situation) (filler : List ℕ) → j + left ≡ count (job .image) → Loading j s
+  runs : (left j : ℕ) (s : Situation) (filler : List ℕ) → j + left ≡ count (job .image) → Reached j s
       → Runs left j (blocksFrom (job .image .«block_len») (length (job .image .bytes)) left (suc j) (s .device) (s .flash) (messagesAfter job j left ++ filler))
   unfolding blocksFrom acceptedFrom _before_ messagesAfter
-  runs zero j s filler e w = let z : j ≡ count (job .image) = omega arith in record { text = refl; here = subst (λ k. Loading k s) z w }
+  runs zero j s filler e w = let z : j ≡ count (job .image) = omega arith in record { text = refl; here = subst (λ k. Reached k s) z w }
   runs (suc left) j s filler e w =
       let h : j < count (job .image) = omega arith in
       let m : List ℕ = blockFor digest (job .image) (suc j) in
@@ -99,14 +99,14 @@ module _ (front program : List ℕ) where
   abbrev bundle : List ℕ
   bundle = front ++ program ++ bytes trailerLength (length program)
 
-  record Found : Type 0 where
+  record ProgramFound : Type 0 where
     somewhere : nowhere bundle ≡ false
     program-is : programIn bundle ≡ program
     front-is : beforeProgram bundle ≡ front
 
-  found : length bundle ≤ maxBundle → Found
+  program-found : length bundle ≤ maxBundle → ProgramFound
   unfolding nowhere trailerAt distance programAt programIn beforeProgram
-  found h =
+  program-found h =
       let t : List ℕ = bytes trailerLength (length program) in
       let four : length t ≡ trailerLength = length-bytes trailerLength (length program) in
       let both = length-append front program in
@@ -177,7 +177,7 @@ module _ (key flash : List ℕ) (job : Job) (filler signature : List ℕ) (h : L
   taken : messages d flash (bundle front program) ≡ slipLine 0 before blocks (begun .device) (begun .flash) front
   unfolding messages ifAccepted
   taken =
-      let f = found front program (unfold bundleFor in h .fits) in
+      let f = program-found front program (unfold bundleFor in h .fits) in
       let o : step digest valid d flash program ≡ record { answer = Accepted; device = begun .device; flash = begun .flash } =
       accepted-step digest valid d flash program none-applies ∙ ap (λ k. let t = accept k d flash program in record { answer = Accepted; device = t .device; flash = t .flash }) (is-sent .is) in
       rw (f .somewhere, f .program-is, f .front-is, o, messages) refl
@@ -189,7 +189,7 @@ module _ (key flash : List ℕ) (job : Job) (filler signature : List ℕ) (h : L
       let c = is-complete digest length-digest valid job ok flash (count (job .image)) s (r .here) refl in
       rw (c, r .here .manifest) (unfold countOf manifestFor count in refl)
 
-  whole : Whole job (bundleFor digest job filler signature) flash (loaded key (bundleFor digest job filler signature) flash)
+  whole : Whole job (bundleFor digest job filler signature) flash (printedFor key (bundleFor digest job filler signature) flash)
   unfolding bundleFor _before_ withState
   whole =
       let b : List ℕ = bundle front program in
@@ -197,7 +197,7 @@ module _ (key flash : List ℕ) (job : Job) (filler signature : List ℕ) (h : L
       let s : Situation = record { device = p .device; flash = p .flash } in
       let first : List ℕ = bundleLine (length b) in
       let second : List ℕ = slipLine 0 in
-      let is : loaded key b flash ≡ first before withState (second before p) = all-printed key b flash (h .key-long) (h .fits) ∙ ap (λ (q : Printed). first before withState q) taken in
+      let is : printedFor key b flash ≡ first before withState (second before p) = all-printed key b flash (h .key-long) (h .fits) ∙ ap (λ (q : Printed). first before withState q) taken in
       let text : first ++ (second ++ p .text ++ stateLine (p .device)) ≡ first ++ second ++ acceptedFrom (count (job .image)) 1 ++ line (ascii "state complete ") (count (job .image)) =
       ap₂ (λ x y. first ++ (second ++ x ++ y)) (ran .text) (state-is p ran)
       ∙ sym (append-assoc first (second ++ acceptedFrom (count (job .image)) 1) (line (ascii "state complete ") (count (job .image))))

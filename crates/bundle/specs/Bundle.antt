@@ -5,7 +5,7 @@ use lib.ListN.{length}
 use Rattle.octets.specs.Octets.{bytes, joined, upTo}
 use Rattle.sha256.specs.Sha256.{digest}
 use Rattle.sender.specs.Job.{Image, Job, count, programFor, blockFor}
-use Rattle.sender.specs.Send.{Result, unnumbered}
+use Rattle.sender.specs.Send.{SendOutcome, unnumbered}
 use Rattle.bundle.specs.Parts.{trailerLength}
 
 module _ (H : List ℕ → List ℕ) where
@@ -21,5 +21,5 @@ module _ (H : List ℕ → List ℕ) where
       blockMessages (job .image) (count (job .image)) ++ filler ++ program ++ bytes trailerLength (length program)
 
 -- What `pack` answers, and what it leaves in the caller's buffer: a bundle without filler. It refuses 5 and 8, as the sender does.
-unfoldable pub sendBundle : Job → (signature buffer : List ℕ) → Result
+unfoldable pub sendBundle : Job → (signature buffer : List ℕ) → SendOutcome
 sendBundle job signature buffer = unnumbered (job .image) (bundleFor digest job [] signature) buffer

@@ -13,12 +13,12 @@ use Rattle.sender.specs.Job.{Image, Job, count, manifestFor}
 use Rattle.machine.specs.declared.state.Stage.the-variants.{Complete}
 use Rattle.guarantee.specs.Demand3.{Sendable}
 use Rattle.bundle.specs.Text.{ascii, line, bundleLine, slipLine, blockLine}
-use Rattle.bundle.specs.Load.{keyFileLength, maxBundle, Printed, deviceFor, loaded}
+use Rattle.bundle.specs.Load.{keyFileLength, maxBundle, Printed, deviceFor, printedFor}
 use Rattle.bundle.specs.Bundle.{blockMessages, bundleFor}
 
 -- "Given a bundle.bin of four zero bytes and any key.bin of 60 bytes, the whole output is"
 abbrev pub Sample : Type 0
-Sample = (key flash : List ℕ) → length key ≡ keyFileLength → loaded key (0 ∷ 0 ∷ 0 ∷ 0 ∷ []) flash .text ≡ ascii "bundle 4\nslip 0 2\nstate idle 0\n"
+Sample = (key flash : List ℕ) → length key ≡ keyFileLength → printedFor key (0 ∷ 0 ∷ 0 ∷ 0 ∷ []) flash .text ≡ ascii "bundle 4\nslip 0 2\nstate idle 0\n"
 
 -- All n block messages together, which carry n - 1 hashes, are as long as `wire` says.
 abbrev pub MessagesLength : Type 0
@@ -51,4 +51,4 @@ pub record Whole (job : Job) (bundle flash : List ℕ) (p : Printed) : Type 0 wh
 -- The showroom's bundle for an image, with any filler, loads to complete with that image.
 abbrev pub LoadsWhole : Type 0
 LoadsWhole = (key flash : List ℕ) (job : Job) (filler signature : List ℕ) → Loadable key flash job filler signature
-    → (let bundle = bundleFor digest job filler signature in Whole job bundle flash (loaded key bundle flash))
+    → (let bundle = bundleFor digest job filler signature in Whole job bundle flash (printedFor key bundle flash))

@@ -80,8 +80,8 @@ unfoldable pub deviceFor : List ℕ → Device
 deviceFor key = freshWith (number (part keyLength 4 key)) (take keyLength key)
 
 -- "A key.bin that has not 60 bytes is noticed first, and `key` is printed alone." "For a file over 65,536 bytes it prints `bundle over` alone."
-unfoldable pub loaded : (key bundle flash : List ℕ) → Printed
-loaded key bundle flash =
+unfoldable pub printedFor : (key bundle flash : List ℕ) → Printed
+printedFor key bundle flash =
     let d = deviceFor key in
     cond (not (eqb (length key) keyFileLength))
     (ascii "key\n" before stop d flash)
@@ -90,14 +90,14 @@ loaded key bundle flash =
     (bundleLine (length bundle) before withState (messages d flash bundle)))
 
 -- The text goes to the start of a buffer, which must have room for the longest; else it is refused 8 and nothing is done. The answer is the text's length.
-pub record Loading : Type 0 where
+pub record LoadOutcome : Type 0 where
   pub answer : Sent
   pub flash : List ℕ
   pub out : List ℕ
 
-unfoldable pub load : (key bundle flash out : List ℕ) → Loading
+unfoldable pub load : (key bundle flash out : List ℕ) → LoadOutcome
 load key bundle flash out =
-    let p = loaded key bundle flash in
+    let p = printedFor key bundle flash in
     let n = length (p .text) in
     cond (ltb (length out) outputRoom)
     (record { answer = sent.Refused Area; flash = flash; out = out })

@@ -21,19 +21,19 @@ abbrev pub unsignedLength : (L T : ℕ) → ℕ
 unsignedLength L T = messagesLength L T + leastLength Program + trailerLength
 
 -- A message of len bytes that starts at index from, or what is left of it, ends at index to.
-pub record Cut (bytes : List ℕ) (from len to : ℕ) : Type 0 where
+pub record MessageEnd (bytes : List ℕ) (from len to : ℕ) : Type 0 where
   pub after : from ≤ to
   pub within : to ≤ length bytes
   pub message : take (to - from) (drop from bytes) ≡ take len (drop from bytes)
   pub rest : drop to bytes ≡ drop len (drop from bytes)
 
 -- The text stands in the buffer from index at on, all else is as before, and next is behind it.
-pub record Written (out : List ℕ) (at : ℕ) (out' : List ℕ) (next : ℕ) (text : List ℕ) : Type 0 where
+pub record Appended (out : List ℕ) (at : ℕ) (out' : List ℕ) (next : ℕ) (text : List ℕ) : Type 0 where
   pub end : next ≡ at + length text
   pub bytes : out' ≡ paste out at text (length text)
 
--- The text of p stands in the buffer (`Written`), and d and f are the device and the flash at its end.
+-- The text of p stands in the buffer (`Appended`), and d and f are the device and the flash at its end.
 pub record Ran (p : Printed) (out : List ℕ) (at : ℕ) (out' : List ℕ) (next : ℕ) (d : Device) (f : List ℕ) : Type 0 where
-  pub written : Written out at out' next (p .text)
+  pub appended : Appended out at out' next (p .text)
   pub device : d ≡ p .device
   pub flash : f ≡ p .flash

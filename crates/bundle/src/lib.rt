@@ -6,7 +6,7 @@ mod text;
 
 use lms::KEY_LEN;
 pub use packing::pack;
-pub use packing::written;
+pub use packing::sent_len;
 use sender::Sent;
 use text::put;
 use text::put_line;

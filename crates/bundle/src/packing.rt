@@ -20,7 +20,7 @@ ghost use Rattle.bundle.specs.Bundle.{blockMessages, sendBundle};
 ghost use Rattle.bundle.specs.Steps.{unsignedLength};
 
 // How many bytes an answer says were written.
-pub fn written(sent: Sent) -> usize
+pub fn sent_len(sent: Sent) -> usize
     ensures { λ r. ⌜ r ≡ lengthOf sent ⌝ }
 {
     match sent {
@@ -48,7 +48,7 @@ fn put_blocks(image: &[u8], len: u32, n: u32, out: &mut [u8]) -> usize
     let mut number: u32 = 0;
     while number < n {
         number += 1;
-        at += written(sender::block(image, len, number, &mut out[at..]));
+        at += sent_len(sender::block(image, len, number, &mut out[at..]));
     }
     at
 }
@@ -74,7 +74,7 @@ pub fn pack(
         return Sent::Refused(Refusal::Area);
     }
     let at = put_blocks(image, len, n as u32, out);
-    let distance = written(sender::program(image, len, model, serial, signature, &mut out[at..]));
+    let distance = sent_len(sender::program(image, len, model, serial, signature, &mut out[at..]));
     let end = at + distance;
     copy(out, end, &octets::be32((distance % 0x100000000) as u32));
     Sent::Written(end + TRAILER_LEN)

@@ -2,7 +2,7 @@
 ghost use mathlib.Core.Path.{_≡_};
 ghost use Prim.Native.Nat.{_≤_};
 ghost use lib.ListN.{length};
-ghost use Rattle.bundle.specs.Steps.{startOf, Cut};
+ghost use Rattle.bundle.specs.Steps.{startOf, MessageEnd};
 
 // The bytes of the trailer.
 pub const TRAILER_LEN: usize = 4;
@@ -29,9 +29,9 @@ pub fn start_of(bundle: &[u8]) -> Start
 }
 
 // The end of a message of `len` bytes from index `from` on, or the end of the bytes. Only `blocks` calls this.
-pub fn cut(bytes: &[u8], from: usize, len: usize) -> usize
+pub fn message_end(bytes: &[u8], from: usize, len: usize) -> usize
     requires { ⌜ from ≤ length (now bytes) ⌝ }
-    ensures { λ r. ⌜ Cut (now (bytes .entry)) from len r ⌝ }
+    ensures { λ r. ⌜ MessageEnd (now (bytes .entry)) from len r ⌝ }
 {
     if len < bytes.len() - from {
         return from + len;

@@ -4,12 +4,12 @@ use machine::Stage;
 ghost use Prim.Native.Nat.{_+_, _≤_};
 ghost use lib.ListN.{length};
 ghost use Rattle.bundle.specs.Text.{decimal, line, messageLine, stateLine};
-ghost use Rattle.bundle.specs.Steps.{Written};
+ghost use Rattle.bundle.specs.Steps.{Appended};
 
 // The bytes as they are.
 pub fn put(out: &mut [u8], at: usize, bytes: &[u8]) -> usize
     requires { ⌜ at + length (now bytes) ≤ length (now out) ⌝ }
-    ensures { λ r. ⌜ Written (now (out .entry)) at (now (out .exit)) r (now (bytes .entry)) ⌝ }
+    ensures { λ r. ⌜ Appended (now (out .entry)) at (now (out .exit)) r (now (bytes .entry)) ⌝ }
 {
     octets::copy(out, at, bytes);
     at + bytes.len()
@@ -18,7 +18,7 @@ pub fn put(out: &mut [u8], at: usize, bytes: &[u8]) -> usize
 // The number in base ten. The recursion is as deep as it has digits.
 fn put_decimal(out: &mut [u8], at: usize, number: usize) -> usize
     requires { ⌜ at + length (decimal number) ≤ length (now out) ⌝ }
-    ensures { λ r. ⌜ Written (now (out .entry)) at (now (out .exit)) r (decimal number) ⌝ }
+    ensures { λ r. ⌜ Appended (now (out .entry)) at (now (out .exit)) r (decimal number) ⌝ }
 {
     let digit = [48 + (number % 10) as u8];
     if number < 10 {
@@ -31,7 +31,7 @@ fn put_decimal(out: &mut [u8], at: usize, number: usize) -> usize
 // Words and a number.
 pub fn put_line(out: &mut [u8], at: usize, words: &[u8], number: usize) -> usize
     requires { ⌜ at + length (line (now words) number) ≤ length (now out) ⌝ }
-    ensures { λ r. ⌜ Written (now (out .entry)) at (now (out .exit)) r (line (now (words .entry)) number) ⌝ }
+    ensures { λ r. ⌜ Appended (now (out .entry)) at (now (out .exit)) r (line (now (words .entry)) number) ⌝ }
 {
     let number_at = put(out, at, words);
     let end = put_decimal(out, number_at, number);
@@ -41,7 +41,7 @@ pub fn put_line(out: &mut [u8], at: usize, words: &[u8], number: usize) -> usize
 // A message's line: the number due, and the answer's number.
 pub fn put_message(out: &mut [u8], at: usize, words: &[u8], due: usize, answer: u8) -> usize
     requires { ⌜ at + length (messageLine (now words) due answer) ≤ length (now out) ⌝ }
-    ensures { λ r. ⌜ Written (now (out .entry)) at (now (out .exit)) r (messageLine (now (words .entry)) due answer) ⌝ }
+    ensures { λ r. ⌜ Appended (now (out .entry)) at (now (out .exit)) r (messageLine (now (words .entry)) due answer) ⌝ }
 {
     let due_at = put(out, at, words);
     let end = put_decimal(out, due_at, due);
@@ -51,7 +51,7 @@ pub fn put_message(out: &mut [u8], at: usize, words: &[u8], due: usize, answer: 
 // The last line. It has at most 36 bytes.
 pub fn put_state(out: &mut [u8], at: usize, device: Device) -> usize
     requires { ⌜ at + 36 ≤ length (now out) ⌝ }
-    ensures { λ r. ⌜ Written (now (out .entry)) at (now (out .exit)) r (stateLine device) × (r ≤ at + 36) ⌝ }
+    ensures { λ r. ⌜ Appended (now (out .entry)) at (now (out .exit)) r (stateLine device) × (r ≤ at + 36) ⌝ }
 {
     let stage = device.stage;
     let blocks = device::accepted_blocks(device);

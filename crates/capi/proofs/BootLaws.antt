@@ -28,12 +28,12 @@ use Rattle.machine.specs.Readers.{numberOf}
 use Rattle.machine.specs.Step.{step}
 use Rattle.guarantee.proofs.AlteredHolds.{boot-after}
 use Rattle.capi.specs.State.{keyAt, stageAt, nextAt, manifestAt, hashesAt, encode, stageFrom, stageIn, deviceIn, decode}
-use Rattle.capi.specs.Call.{Called, called, stateAfter, receive, intact}
+use Rattle.capi.specs.Call.{CallOutcome, callOutcome, stateAfter, receive, bootCheckOf}
 use Rattle.capi.specs.Claims.{Fits, DecodedFits, PassesAfter}
 use Rattle.capi.proofs.RunLaws.{fits-step}
 use Rattle.capi.proofs.StateLaws.{right-length, decode-none, decode-some, stage-encode, decode-encode}
-use Rattle.capi.proofs.CallLaws.{found-length}
-use Rattle.capi.proofs.FromCLaws.{zero-accepted, intact-decoded}
+use Rattle.capi.proofs.CallLaws.{stage-read-length}
+use Rattle.capi.proofs.FromCLaws.{zero-accepted, boot-check-decoded}
 
 module _ (b : List ℕ) (bytes : Bytes b) where
   next-from : (k n : ℕ) {t : Stage} → stageFrom k n ≡ some t → n < 256 ^ 2 → nextOf t < 256 ^ 2
@@ -49,7 +49,7 @@ module _ (b : List ℕ) (bytes : Bytes b) where
   fits-at : (t : Stage) → stageIn b ≡ some t → Fits (deviceIn b t)
   unfolding deviceIn
   fits-at t e =
-      let l = found-length b e in
+      let l = stage-read-length b e in
       record {
         model = part-below b bytes 0 4 (omega arith);
         key = length-part b keyAt keyLength (omega arith);
@@ -71,34 +71,34 @@ module _ (state flash m : List ℕ) (message : Bytes m) (d : Device) (f : Fits d
   abbrev o : Outcome
   o = step digest valid d flash m
 
-  is-called : receive state flash m ≡ called o state
+  is-called : receive state flash m ≡ callOutcome o state
   unfolding receive
   is-called = rw (e, receive)
 
   took : receive state flash m .answer ≡ 0 → o .answer ≡ Accepted
-  unfolding called
-  took z = zero-accepted (o .answer) refl .0 (sym (ap (λ (c : Called). c .answer) is-called) ∙ z)
+  unfolding callOutcome
+  took z = zero-accepted (o .answer) refl .0 (sym (ap (λ (c : CallOutcome). c .answer) is-called) ∙ z)
 
   leaves : o .answer ≡ Accepted → receive state flash m ≡ record { answer = 0; state = encode (o .device); flash = o .flash }
-  unfolding called stateAfter
-  leaves a = is-called ∙ rw (a, called, stateAfter)
+  unfolding callOutcome stateAfter
+  leaves a = is-called ∙ rw (a, callOutcome, stateAfter)
 
   complete : o .answer ≡ Accepted → stageIn (receive state flash m .state) ≡ some Complete → o .device .stage ≡ Complete
   complete a s =
-      let z : some (o .device .stage) ≡ some Complete = sym (stage-encode (o .device) (fits-step d flash m message f)) ∙ ap (λ (c : Called). stageIn (c .state)) (sym (leaves a)) ∙ s in
+      let z : some (o .device .stage) ≡ some Complete = sym (stage-encode (o .device) (fits-step d flash m message f)) ∙ ap (λ (c : CallOutcome). stageIn (c .state)) (sym (leaves a)) ∙ s in
       cc
 
   passes : o .answer ≡ Accepted → (kind m ≡ Update) ⊎ ((kind m ≡ Block) × (stageIn (receive state flash m .state) ≡ some Complete))
-      → intact (receive state flash m .state) (receive state flash m .flash) ≡ 0
+      → bootCheckOf (receive state flash m .state) (receive state flash m .flash) ≡ 0
   passes a w =
-      ap (λ (c : Called). intact (c .state) (c .flash)) (leaves a)
-      ∙ intact-decoded (encode (o .device)) (decode-encode (o .device) (fits-step d flash m message f)) (o .flash)
+      ap (λ (c : CallOutcome). bootCheckOf (c .state) (c .flash)) (leaves a)
+      ∙ boot-check-decoded (encode (o .device)) (decode-encode (o .device) (fits-step d flash m message f)) (o .flash)
       ∙ ap numberOf (boot-after digest valid d flash m a (⊎-elim (λ k. inl k) (λ k. inr (k .0, complete a (k .1))) w))
 
 pub passes-after : PassesAfter
 unfolding receive
 passes-after state flash m bytes message z w = go (decode state) refl
   where
-    go : (x : Option Device) → decode state ≡ x → intact (receive state flash m .state) (receive state flash m .flash) ≡ 0
+    go : (x : Option Device) → decode state ≡ x → bootCheckOf (receive state flash m .state) (receive state flash m .flash) ≡ 0
     go none e = absurd (let n : _≡_ {A = ℕ} 1 0 = rw (e, receive) at z in omega arith)
     go (some d) e = let f = decoded-fits state bytes d e in passes state flash m message d f e (took state flash m message d f e z) w

@@ -22,67 +22,67 @@ use Rattle.machine.specs.Step.{outcome, refusalOf, step}
 use Rattle.machine.specs.BootCheck.{bootCheck}
 use Rattle.device.specs.Fields.{stepInPlace}
 use Rattle.device.proofs.AcceptLaws.{held-step}
-use Rattle.capi.specs.declared.state.Found.{Found}
-use Rattle.capi.specs.declared.state.Found.the-variants.{At, Nothing}
-use Rattle.capi.specs.Found.{found}
+use Rattle.capi.specs.declared.state.StageRead.{StageRead}
+use Rattle.capi.specs.declared.state.StageRead.the-variants.{At, Nothing}
+use Rattle.capi.specs.StageRead.{stageRead}
 use Rattle.capi.specs.State.{stateLength, encode, stageIn, deviceIn}
 use Rattle.capi.proofs.StateLaws.{decode-none, decode-some, decode-encode}
-use Rattle.capi.specs.Call.{stateAfter, called, receive, intact}
+use Rattle.capi.specs.Call.{stateAfter, callOutcome, receive, bootCheckOf}
 use Rattle.capi.specs.Claims.{IsStep}
 
-pub found-none : (o : Option Stage) → found o ≡ Nothing → o ≡ none
-unfolding found
-found-none none e = refl
-found-none (some t) e = cc
+pub stage-read-none : (o : Option Stage) → stageRead o ≡ Nothing → o ≡ none
+unfolding stageRead
+stage-read-none none e = refl
+stage-read-none (some t) e = cc
 
-pub found-some : (o : Option Stage) {t : Stage} → found o ≡ At t → o ≡ some t
-unfolding found
-found-some none e = cc
-found-some (some t) e = cc
+pub stage-read-some : (o : Option Stage) {t : Stage} → stageRead o ≡ At t → o ≡ some t
+unfolding stageRead
+stage-read-some none e = cc
+stage-read-some (some t) e = cc
 
 chosen : (x : Bool) (o : Option Stage) {t : Stage} → cond x o none ≡ some t → x ≡ true
 chosen true o e = refl
 chosen false o e = cc
 
 -- bytes that encode a stage have a state's length
-pub found-length : (b : List ℕ) {t : Stage} → stageIn b ≡ some t → length b ≡ stateLength
+pub stage-read-length : (b : List ℕ) {t : Stage} → stageIn b ≡ some t → length b ≡ stateLength
 unfolding stageIn
-found-length b e = eqb-true _ _ (chosen (eqb (length b) stateLength) _ e)
+stage-read-length b e = eqb-true _ _ (chosen (eqb (length b) stateLength) _ e)
 
 keeps : (r : Option Refusal) (d : Device) (flash : List ℕ) (then : Situation) {x : Refusal} → outcome r d flash then .answer ≡ Refused x → outcome r d flash then .device ≡ d
 unfolding outcome
 keeps none d flash then e = absurd (let z : _≡_ {A = ℕ} 0 1 = cc in omega arith)
 keeps (some y) d flash then e = refl
 
--- What the code found in the bytes b of a state.
-module _ (b : List ℕ) {f : Found} (e : f ≡ found (stageIn b)) where
-  pub length-found : {t : Stage} → f ≡ At t → length b ≡ stateLength
-  length-found g = found-length b (found-some (stageIn b) (sym e ∙ g))
+-- What the code read in the bytes b of a state.
+module _ (b : List ℕ) {f : StageRead} (e : f ≡ stageRead (stageIn b)) where
+  pub length-stage-read : {t : Stage} → f ≡ At t → length b ≡ stateLength
+  length-stage-read g = stage-read-length b (stage-read-some (stageIn b) (sym e ∙ g))
 
   -- the boot check
   module _ (flash : List ℕ) where
-    pub none-intact : f ≡ Nothing → 1 ≡ intact b flash
-    unfolding intact
-    none-intact g = rw (decode-none b (found-none (stageIn b) (sym e ∙ g)), intact)
+    pub none-boot-check : f ≡ Nothing → 1 ≡ bootCheckOf b flash
+    unfolding bootCheckOf
+    none-boot-check g = rw (decode-none b (stage-read-none (stageIn b) (sym e ∙ g)), bootCheckOf)
 
-    pub checked : {t : Stage} {d : Device} {a : Answer} {n : ℕ} → f ≡ At t → d ≡ deviceIn b t → a ≡ bootCheck digest d flash → n ≡ numberOf a → n ≡ intact b flash
-    unfolding intact
+    pub checked : {t : Stage} {d : Device} {a : Answer} {n : ℕ} → f ≡ At t → d ≡ deviceIn b t → a ≡ bootCheck digest d flash → n ≡ numberOf a → n ≡ bootCheckOf b flash
+    unfolding bootCheckOf
     checked g de ae ne =
-        rw (decode-some b (found-some (stageIn b) (sym e ∙ g)), intact) (ne ∙ ap numberOf (ae ∙ ap (λ (x : Device). bootCheck digest x flash) de))
+        rw (decode-some b (stage-read-some (stageIn b) (sym e ∙ g)), bootCheckOf) (ne ∙ ap numberOf (ae ∙ ap (λ (x : Device). bootCheck digest x flash) de))
 
   module _ (flash m : List ℕ) where
     pub unknown : f ≡ Nothing → receive b flash m ≡ record { answer = 1; state = b; flash = flash }
     unfolding receive
-    unknown g = rw (decode-none b (found-none (stageIn b) (sym e ∙ g)), receive)
+    unknown g = rw (decode-none b (stage-read-none (stageIn b) (sym e ∙ g)), receive)
 
     -- a state, and what the device made of it
     module _ {t : Stage} {d : Device} {o : Outcome} (g : f ≡ At t) (de : d ≡ deviceIn b t) (l : length (d .hashes) ≡ heldBytes) (se : stepInPlace d flash m ≡ o) where
       stepped : step digest valid d flash m ≡ o
       stepped = sym (held-step d flash m l) ∙ se
 
-      taken : receive b flash m ≡ called o b
+      taken : receive b flash m ≡ callOutcome o b
       unfolding receive
-      taken = rw (decode-some b (found-some (stageIn b) (sym e ∙ g)), receive) (ap (λ (x : Device). called (step digest valid x flash m) b) (sym de) ∙ ap (λ (x : Outcome). called x b) stepped)
+      taken = rw (decode-some b (stage-read-some (stageIn b) (sym e ∙ g)), receive) (ap (λ (x : Device). callOutcome (step digest valid x flash m) b) (sym de) ∙ ap (λ (x : Outcome). callOutcome x b) stepped)
 
       -- a refusal leaves the device as it was
       pub unchanged : {x : Refusal} → o .answer ≡ Refused x → o .device ≡ d
@@ -90,11 +90,11 @@ module _ (b : List ℕ) {f : Found} (e : f ≡ found (stageIn b)) where
       unchanged z = sym (ap (λ (y : Outcome). y .device) stepped) ∙ keeps (refusalOf digest valid d flash m) d flash _ (ap (λ (y : Outcome). y .answer) stepped ∙ z)
 
       pub refused : {x : Refusal} {n : ℕ} {b′ : List ℕ} → o .answer ≡ Refused x → n ≡ numberOf (o .answer) → b′ ≡ b → receive b flash m ≡ record { answer = n; state = b′; flash = o .flash }
-      unfolding called stateAfter
+      unfolding callOutcome stateAfter
       refused z en eb = taken ∙ rw (en, z, eb)
 
       pub accepted : {b′ : List ℕ} → o .answer ≡ Accepted → b′ ≡ encode (o .device) → receive b flash m ≡ record { answer = 0; state = b′; flash = o .flash }
-      unfolding called stateAfter
+      unfolding callOutcome stateAfter
       accepted z eb = taken ∙ rw (z, eb)
 
 pub receive-encode : IsStep

@@ -23,9 +23,9 @@ use Rattle.guarantee.proofs.AlteredHolds.{boot-proves}
 use Rattle.guarantee.proofs.Demand3Holds.{demand3}
 use Rattle.guarantee.proofs.RecoveryHolds.{makes-sense}
 use Rattle.capi.specs.State.{decode}
-use Rattle.capi.specs.Call.{intact}
+use Rattle.capi.specs.Call.{bootCheckOf}
 use Rattle.capi.specs.Run.{Memory}
-use Rattle.capi.specs.Claims.{IntactProves}
+use Rattle.capi.specs.Claims.{BootProvesFromC}
 use Rattle.capi.specs.FromC.{FromC}
 use Rattle.capi.proofs.StateLaws.{decode-encode}
 use Rattle.capi.proofs.StatusLaws.{sensible-decoded, status-is, length-is}
@@ -36,17 +36,17 @@ zero-accepted Accepted e = (λ z. refl, λ z. e)
 zero-accepted (Refused r) e = (λ z. absurd (omega (arith, above-zero r)), λ z. cc)
 
 -- the boot check of bytes that encode a device
-pub intact-decoded : (b : List ℕ) {d : Device} → decode b ≡ some d → (lent : List ℕ) → intact b lent ≡ numberOf (bootCheck digest d lent)
-unfolding intact
-intact-decoded b e lent = rw (e, intact)
+pub boot-check-decoded : (b : List ℕ) {d : Device} → decode b ≡ some d → (lent : List ℕ) → bootCheckOf b lent ≡ numberOf (bootCheck digest d lent)
+unfolding bootCheckOf
+boot-check-decoded b e lent = rw (e, bootCheckOf)
 
-pub intact-proves : IntactProves
-unfolding intact
-intact-proves state flash z = go (decode state) refl
+pub boot-proves-from-c : BootProvesFromC
+unfolding bootCheckOf
+boot-proves-from-c state flash z = go (decode state) refl
   where
     go : (o : Option Device) → decode state ≡ o → (d : Device) × (decode state ≡ some d) × Booted digest d flash
-    go none e = absurd (let n : _≡_ {A = ℕ} 1 0 = rw (e, intact) at z in omega arith)
-    go (some d) e = (d, e, boot-proves digest length-digest d flash (zero-accepted (bootCheck digest d flash) refl .0 (rw (e, intact) at z)))
+    go none e = absurd (let n : _≡_ {A = ℕ} 1 0 = rw (e, bootCheckOf) at z in omega arith)
+    go (some d) e = (d, e, boot-proves digest length-digest d flash (zero-accepted (bootCheck digest d flash) refl .0 (rw (e, bootCheckOf) at z)))
 
 pub from-c : FromC
 from-c model key small long flash ms bytes =
@@ -59,7 +59,7 @@ from-c model key small long flash ms bytes =
       state = back;
       reads = λ out. status-is _ out read refl;
       due = λ before. length-is _ before read;
-      boot = λ lent. intact-decoded _ back lent;
+      boot = λ lent. boot-check-decoded _ back lent;
       zero = λ m. zero-accepted _ (r .answers m);
       claim = demand3 d (fresh-is model key) flash ms;
     }

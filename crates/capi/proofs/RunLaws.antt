@@ -27,7 +27,7 @@ use Rattle.machine.specs.Step.{acceptProgram, stageAfter, acceptBlock, acceptUp
 use Rattle.guarantee.specs.Run.{Messages, empty, _▷_, after, answerTo}
 use Rattle.machine.proofs.RefusalLaws.{BlockPassed, program-passed, block-passed, update-passed, path-passed}
 use Rattle.capi.specs.State.{encode}
-use Rattle.capi.specs.Call.{Called, called, stateAfter, receive}
+use Rattle.capi.specs.Call.{CallOutcome, callOutcome, stateAfter, receive}
 use Rattle.capi.specs.Run.{Memory, left, callsAfter, returned, AllBytes}
 use Rattle.capi.specs.Claims.{Fits, FreshFits, Runs, RunsDevice}
 use Rattle.capi.proofs.CallLaws.{receive-encode}
@@ -100,11 +100,11 @@ abbrev holding : Device → List ℕ → Memory
 holding d flash = record { state = encode d; flash = flash }
 
 -- a refused message leaves the bytes as they are, which are the device's
-left-is : (d : Device) (flash m : List ℕ) → left (called (step digest valid d flash m) (encode d)) ≡ (let o = step digest valid d flash m in holding (o .device) (o .flash))
-unfolding step outcome called stateAfter
+left-is : (d : Device) (flash m : List ℕ) → left (callOutcome (step digest valid d flash m) (encode d)) ≡ (let o = step digest valid d flash m in holding (o .device) (o .flash))
+unfolding step outcome callOutcome stateAfter
 left-is d flash m = go (refusalOf digest valid d flash m)
   where
-    go : (r : Option Refusal) → left (called (outcome r d flash (accept (kind m) d flash m)) (encode d))
+    go : (r : Option Refusal) → left (callOutcome (outcome r d flash (accept (kind m) d flash m)) (encode d))
         ≡ (let o = outcome r d flash (accept (kind m) d flash m) in holding (o .device) (o .flash))
     go none = refl
     go (some x) = refl
@@ -113,14 +113,14 @@ left-is d flash m = go (refusalOf digest valid d flash m)
 module _ (d : Device) (flash : List ℕ) (ms : Messages) (f : Fits (after (step digest valid) d flash ms .device))
     (kept : callsAfter (encode d) flash ms ≡ (let s = after (step digest valid) d flash ms in holding (s .device) (s .flash))) where
   call : (m : List ℕ) → (let b = callsAfter (encode d) flash ms in receive (b .state) (b .flash) m)
-      ≡ (let s = after (step digest valid) d flash ms in called (step digest valid (s .device) (s .flash) m) (encode (s .device)))
+      ≡ (let s = after (step digest valid) d flash ms in callOutcome (step digest valid (s .device) (s .flash) m) (encode (s .device)))
   call m =
       let s : Situation = after (step digest valid) d flash ms in
       ap (λ (x : Memory). receive (x .state) (x .flash) m) kept ∙ receive-encode (s .device) (s .flash) m f
 
   known : Runs d flash ms
-  unfolding returned answerTo called
-  known = record { fits = f; memory = kept; answers = λ m. ap (λ (x : Called). x .answer) (call m) }
+  unfolding returned answerTo callOutcome
+  known = record { fits = f; memory = kept; answers = λ m. ap (λ (x : CallOutcome). x .answer) (call m) }
 
 pub runs : RunsDevice
 unfolding callsAfter after AllBytes

@@ -16,14 +16,14 @@ use Rattle.machine.specs.declared.state.Stage.{Stage}
 use Rattle.machine.specs.declared.state.Stage.the-variants.{Idle, Loading, Complete}
 use Rattle.machine.specs.declared.state.Device.{Device}
 use Rattle.machine.specs.Refusals.{senseless}
-use Rattle.capi.specs.declared.state.Found.{Found}
-use Rattle.capi.specs.declared.state.Found.the-variants.{At, Nothing}
-use Rattle.capi.specs.Found.{found, foundIn}
+use Rattle.capi.specs.declared.state.StageRead.{StageRead}
+use Rattle.capi.specs.declared.state.StageRead.the-variants.{At, Nothing}
+use Rattle.capi.specs.StageRead.{stageRead, stageReadOf}
 use Rattle.device.specs.Fields.{deviceOf}
 use Rattle.capi.specs.State.{keyAt, manifestAt, hashesAt, stateLength, stageIn, deviceIn, decode}
 use Rattle.capi.specs.Status.{sensible, statusOf, status, dueOf, blockMessageLength}
 use Rattle.capi.proofs.StateLaws.{decode-none, decode-some}
-use Rattle.capi.proofs.CallLaws.{found-some, found-length}
+use Rattle.capi.proofs.CallLaws.{stage-read-some, stage-read-length}
 
 module _ (b : List ℕ) where
   pub sensible-decoded : {d : Device} → decode b ≡ some d → senseless d ≡ false → sensible b ≡ some d
@@ -44,22 +44,22 @@ module _ (b : List ℕ) where
     pub device : sensible b ≡ some (deviceIn b t)
     pub sense : senseless (deviceIn b t) ≡ false
 
-  -- what the code found in them
-  module _ {f : Found} (e : f ≡ foundIn (sensible b)) where
+  -- what the code read in them
+  module _ {f : StageRead} (e : f ≡ stageReadOf (sensible b)) where
     pub no-sense : f ≡ Nothing → sensible b ≡ none
-    unfolding foundIn
+    unfolding stageReadOf
     no-sense g = go (sensible b) (sym e ∙ g)
       where
-        go : (o : Option Device) → foundIn o ≡ Nothing → o ≡ none
+        go : (o : Option Device) → stageReadOf o ≡ Nothing → o ≡ none
         go none q = refl
         go (some d) q = cc
 
     pub makes-sense : {t : Stage} → f ≡ At t → Sense t
-    unfolding foundIn deviceIn
+    unfolding stageReadOf deviceIn
     makes-sense {t} g = go (stageIn b) refl
       where
         nothing : sensible b ≡ none → Sense t
-        nothing q = absurd (let x : Nothing ≡ At t = ap foundIn (sym q) ∙ sym e ∙ g in let z : _≡_ {A = ℕ} 0 1 = cc in omega arith)
+        nothing q = absurd (let x : Nothing ≡ At t = ap stageReadOf (sym q) ∙ sym e ∙ g in let z : _≡_ {A = ℕ} 0 1 = cc in omega arith)
 
         go : (o : Option Stage) → stageIn b ≡ o → Sense t
         go none q = nothing (sensible-none q)
@@ -69,18 +69,18 @@ module _ (b : List ℕ) where
             test true r = nothing (sensible-some q ∙ rw r)
             test false r =
                 let s : sensible b ≡ some (deviceIn b u) = sensible-some q ∙ rw r in
-                let at : At u ≡ At t = ap foundIn (sym s) ∙ sym e ∙ g in
+                let at : At u ≡ At t = ap stageReadOf (sym s) ∙ sym e ∙ g in
                 let same : u ≡ t = cc in
-                record { long = found-length b q; device = rw same at s; sense = rw same at r }
+                record { long = stage-read-length b q; device = rw same at s; sense = rw same at r }
 
-  -- what it found where it has the stage and has tested the device
-  pub tested : {f : Found} {t : Stage} {s : Manifest} {x : Bool} → f ≡ found (stageIn b) → f ≡ At t → s ≡ read (part manifestAt manifestLength b)
+  -- what it read where it has the stage and has tested the device
+  pub tested : {f : StageRead} {t : Stage} {s : Manifest} {x : Bool} → f ≡ stageRead (stageIn b) → f ≡ At t → s ≡ read (part manifestAt manifestLength b)
       → x ≡ senseless (deviceOf (number (part 0 4 b)) (part keyAt keyLength b) t s (part hashesAt heldBytes b))
-      → cond x Nothing (At t) ≡ foundIn (sensible b)
-  unfolding foundIn deviceIn
-  tested {t = t} e g es x = rw (sensible-some (found-some (stageIn b) (sym e ∙ g)), x, es) (go (senseless (deviceIn b t)))
+      → cond x Nothing (At t) ≡ stageReadOf (sensible b)
+  unfolding stageReadOf deviceIn
+  tested {t = t} e g es x = rw (sensible-some (stage-read-some (stageIn b) (sym e ∙ g)), x, es) (go (senseless (deviceIn b t)))
     where
-      go : (y : Bool) → cond y Nothing (At t) ≡ foundIn (cond y none (some (deviceIn b t)))
+      go : (y : Bool) → cond y Nothing (At t) ≡ stageReadOf (cond y none (some (deviceIn b t)))
       go true = refl
       go false = refl
 

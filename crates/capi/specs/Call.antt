@@ -9,7 +9,7 @@ use Rattle.wire.specs.declared.refusal.Refusal.the-variants as refusal
 use Rattle.wire.specs.Refusal.{refusalNumber}
 use Rattle.sender.specs.declared.send.Sent.{Sent}
 use Rattle.sender.specs.declared.send.Sent.the-variants as sent
-use Rattle.ihex.specs.declared.reading.Answer.the-variants as answer
+use Rattle.ihex.specs.declared.reading.TextAnswer.the-variants as answer
 use Rattle.ihex.specs.Read as ihex
 use Rattle.machine.specs.declared.state.Device.{Device}
 use Rattle.machine.specs.declared.state.Answer.{Answer}
@@ -25,32 +25,32 @@ unfoldable pub verdict : Bool → ℕ
 verdict ok = cond ok 0 (refusalNumber refusal.Unsigned)
 
 -- The sender's answer: the number that is returned, and the length that is written through a pointer; after a refusal that is as before.
-pub record Told : Type 0 where
+pub record LengthOutcome : Type 0 where
   pub answer : ℕ
   pub written : ℕ
 
-abbrev pub told : ℕ → Sent → Told
-told before (sent.Written n) = record { answer = 0; written = n }
-told before (sent.Refused r) = record { answer = refusalNumber r; written = before }
+abbrev pub lengthOutcome : ℕ → Sent → LengthOutcome
+lengthOutcome before (sent.Written n) = record { answer = 0; written = n }
+lengthOutcome before (sent.Refused r) = record { answer = refusalNumber r; written = before }
 
 -- The Intel HEX reader: the number that is returned, the line at fault, 0 where none is, and the buffer.
-pub record TextRead : Type 0 where
+pub record IhexOutcome : Type 0 where
   pub answer : ℕ
   pub line : ℕ
   pub buffer : List ℕ
 
-abbrev pub toldOf : ihex.Outcome → TextRead
-toldOf o =
+abbrev pub ihexOutcome : ihex.TextOutcome → IhexOutcome
+ihexOutcome o =
     elim (o .answer) [
       | answer.Read ↦ record { answer = 0; line = 0; buffer = o .buffer }
       | answer.Refused r n ↦ record { answer = refusalNumber r; line = n; buffer = o .buffer }
     ]
 
-unfoldable pub readText : (text : List ℕ) (base k : ℕ) (buffer : List ℕ) → TextRead
-readText text base k buffer = toldOf (ihex.read text base k buffer)
+unfoldable pub readText : (text : List ℕ) (base k : ℕ) (buffer : List ℕ) → IhexOutcome
+readText text base k buffer = ihexOutcome (ihex.read text base k buffer)
 
 -- The device: answer, state bytes and flash after a message.
-pub record Called : Type 0 where
+pub record CallOutcome : Type 0 where
   pub answer : ℕ
   pub state : List ℕ
   pub flash : List ℕ
@@ -59,17 +59,17 @@ pub record Called : Type 0 where
 unfoldable pub stateAfter : Answer → Device → List ℕ → List ℕ
 stateAfter a d state = elim a [ Accepted ↦ encode d | Refused r ↦ state ]
 
-unfoldable pub called : device.Outcome → List ℕ → Called
-called o state = record { answer = numberOf (o .answer); state = stateAfter (o .answer) (o .device) state; flash = o .flash }
+unfoldable pub callOutcome : device.Outcome → List ℕ → CallOutcome
+callOutcome o state = record { answer = numberOf (o .answer); state = stateAfter (o .answer) (o .device) state; flash = o .flash }
 
 -- bytes that encode no state are a state that makes no sense: refused 1, nothing changed
-unfoldable pub receive : (state flash message : List ℕ) → Called
+unfoldable pub receive : (state flash message : List ℕ) → CallOutcome
 receive state flash m =
     elim (decode state) [
       | none ↦ record { answer = refusalNumber refusal.State; state = state; flash = flash }
-      | some d ↦ called (step digest valid d flash m) state
+      | some d ↦ callOutcome (step digest valid d flash m) state
     ]
 
 -- the boot check: its answer as a number; 1 too for bytes that encode no state
-unfoldable pub intact : (state flash : List ℕ) → ℕ
-intact state flash = elim (decode state) [ none ↦ refusalNumber refusal.State | some d ↦ numberOf (bootCheck digest d flash) ]
+unfoldable pub bootCheckOf : (state flash : List ℕ) → ℕ
+bootCheckOf state flash = elim (decode state) [ none ↦ refusalNumber refusal.State | some d ↦ numberOf (bootCheck digest d flash) ]

@@ -17,7 +17,7 @@ use Rattle.guarantee.specs.Part.{whole}
 use Rattle.guarantee.specs.Run.{Messages, after, answerTo}
 use Rattle.guarantee.specs.Demand3.{Claim}
 use Rattle.capi.specs.State.{encode, decode}
-use Rattle.capi.specs.Call.{intact}
+use Rattle.capi.specs.Call.{bootCheckOf}
 use Rattle.capi.specs.Status.{statusOf, status, dueOf, blockMessageLength}
 use Rattle.capi.specs.Run.{callsAfter, returned, AllBytes}
 use Rattle.capi.specs.Claims.{Runs}
@@ -42,8 +42,8 @@ module _ (model : ℕ) (key flash : List ℕ) (ms : Messages) where
     -- neither reader answers 1 for the bytes kept: lertxuno_status gives the device's numbers, lertxuno_block_message_length what is due, if a block is
     pub reads : (out : List ℕ) → status kept out ≡ record { answer = 0; out = statusOf device }
     pub due : (before : ℕ) → blockMessageLength kept before ≡ dueOf before device
-    -- over any memory lent as flash lertxuno_intact gives the number of this device's boot check
-    pub boot : (lent : List ℕ) → intact kept lent ≡ numberOf (bootCheck digest device lent)
+    -- over any memory lent as flash lertxuno_boot_check gives the number of this device's boot check
+    pub boot : (lent : List ℕ) → bootCheckOf kept lent ≡ numberOf (bootCheck digest device lent)
     -- 0 is returned exactly where the device accepts
     pub zero : (m : List ℕ) → (returned (encode fresh) flash ms m ≡ 0) ↔ (answerTo (step digest valid) fresh flash ms m ≡ Accepted)
     -- of this device and flash demand 3 holds, whole

@@ -3,14 +3,14 @@ use mathlib.Core.List.{List}
 use Prim.Native.Nat.{ℕ}
 use Rattle.octets.specs.Octets.{Bytes}
 use Rattle.guarantee.specs.Run.{Messages, empty, _▷_}
-use Rattle.capi.specs.Call.{Called, receive}
+use Rattle.capi.specs.Call.{CallOutcome, receive}
 
 -- what the caller's memory holds after a list of calls
 pub record Memory : Type 0 where
   pub state : List ℕ
   pub flash : List ℕ
 
-abbrev pub left : Called → Memory
+abbrev pub left : CallOutcome → Memory
 left c = record { state = c .state; flash = c .flash }
 
 unfoldable pub callsAfter : (state flash : List ℕ) → Messages → Memory

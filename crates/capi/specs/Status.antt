@@ -13,7 +13,7 @@ use Rattle.machine.specs.declared.state.Device.{Device}
 use Rattle.machine.specs.Device.{serialOf, nextOf}
 use Rattle.machine.specs.Refusals.{senseless}
 use Rattle.capi.specs.State.{stageNumber, decode}
-use Rattle.capi.specs.Call.{Told}
+use Rattle.capi.specs.Call.{LengthOutcome}
 
 -- the device that bytes encode, unless refusal 1 applies to it
 unfoldable pub sensible : List ℕ → Option Device
@@ -38,11 +38,11 @@ statusOf d =
     ∷ []
 
 -- The number that is returned, and the caller's array of numbers; after a refusal that is as before.
-pub record Status : Type 0 where
+pub record StatusOutcome : Type 0 where
   pub answer : ℕ
   pub out : List ℕ
 
-unfoldable pub status : (state out : List ℕ) → Status
+unfoldable pub status : (state out : List ℕ) → StatusOutcome
 status state out =
     elim (sensible state) [
       | none ↦ record { answer = refusalNumber refusal.State; out = out }
@@ -50,17 +50,17 @@ status state out =
     ]
 
 -- The length due of the next block message, or that no block is due.
-unfoldable pub dueOf : ℕ → Device → Told
+unfoldable pub dueOf : ℕ → Device → LengthOutcome
 dueOf before d =
     let s = d .manifest in
-    let none-due : Told = record { answer = refusalNumber refusal.Stage; written = before } in
+    let none-due : LengthOutcome = record { answer = refusalNumber refusal.Stage; written = before } in
     elim (d .stage) [
       | Idle ↦ none-due
       | Loading i ↦ record { answer = 0; written = dueLength (s .«block_len») (s .«image_len») i }
       | Complete ↦ none-due
     ]
 
-unfoldable pub blockMessageLength : (state : List ℕ) → (before : ℕ) → Told
+unfoldable pub blockMessageLength : (state : List ℕ) → (before : ℕ) → LengthOutcome
 blockMessageLength state before =
     elim (sensible state) [
       | none ↦ record { answer = refusalNumber refusal.State; written = before }

@@ -7,9 +7,9 @@ mod status;
 use machine::Answer;
 use machine::Stage;
 use sender::Sent;
-use state::Found;
 use state::HASHES_AT;
 use state::STATE_LEN;
+use state::StageRead;
 use status::STATUS_LEN;
 ghost use mathlib.Core.Path.{_≡_};
 ghost use Rattle.sha256.specs.Sha256.{digest};
@@ -18,7 +18,7 @@ ghost use Rattle.sender.specs.Job.{inBlocks, job};
 ghost use Rattle.sender.specs.Send.{Does, sendManifest, sendProgram, sendBlock, sendUpdate, sendPath};
 ghost use Rattle.machine.specs.Device.{freshWith};
 ghost use Rattle.capi.specs.State.{encode};
-ghost use Rattle.capi.specs.Call.{verdict, told, readText, receive, intact};
+ghost use Rattle.capi.specs.Call.{verdict, lengthOutcome, readText, receive, bootCheckOf};
 ghost use Rattle.capi.specs.Status.{status, blockMessageLength};
 
 // SHA-256 of the message.
@@ -49,7 +49,7 @@ fn wide(number: u8) -> u32
 
 // What the sender answered: its number, and the bytes written.
 fn report(sent: Sent, written: &mut usize) -> u32
-    ensures { λ r. ⌜ record { answer = r; written = now (written .exit) } ≡ told (now (written .entry)) sent ⌝ }
+    ensures { λ r. ⌜ record { answer = r; written = now (written .exit) } ≡ lengthOutcome (now (written .entry)) sent ⌝ }
 {
     match sent {
         Sent::Written(n) => {
@@ -70,7 +70,7 @@ pub extern "C" fn lertxuno_manifest(
     out: &mut [u8],
     written: &mut usize,
 ) -> u32
-    ensures { λ r. ⌜ Does (told (now (written .entry))) (sendManifest (job (inBlocks (now (image .entry)) len) model serial) (now (out .entry))) (record { answer = r; written = now (written .exit) }) (now (out .exit)) ⌝ }
+    ensures { λ r. ⌜ Does (lengthOutcome (now (written .entry))) (sendManifest (job (inBlocks (now (image .entry)) len) model serial) (now (out .entry))) (record { answer = r; written = now (written .exit) }) (now (out .exit)) ⌝ }
 {
     let sent = sender::manifest(image, len, model, serial, out);
     report(sent, written)
@@ -87,7 +87,7 @@ pub extern "C" fn lertxuno_program(
     out: &mut [u8],
     written: &mut usize,
 ) -> u32
-    ensures { λ r. ⌜ Does (told (now (written .entry))) (sendProgram (job (inBlocks (now (image .entry)) len) model serial) (now (signature .entry)) (now (out .entry))) (record { answer = r; written = now (written .exit) }) (now (out .exit)) ⌝ }
+    ensures { λ r. ⌜ Does (lengthOutcome (now (written .entry))) (sendProgram (job (inBlocks (now (image .entry)) len) model serial) (now (signature .entry)) (now (out .entry))) (record { answer = r; written = now (written .exit) }) (now (out .exit)) ⌝ }
 {
     let sent = sender::program(image, len, model, serial, signature, out);
     report(sent, written)
@@ -102,7 +102,7 @@ pub extern "C" fn lertxuno_block(
     out: &mut [u8],
     written: &mut usize,
 ) -> u32
-    ensures { λ r. ⌜ Does (told (now (written .entry))) (sendBlock (inBlocks (now (image .entry)) len) number (now (out .entry))) (record { answer = r; written = now (written .exit) }) (now (out .exit)) ⌝ }
+    ensures { λ r. ⌜ Does (lengthOutcome (now (written .entry))) (sendBlock (inBlocks (now (image .entry)) len) number (now (out .entry))) (record { answer = r; written = now (written .exit) }) (now (out .exit)) ⌝ }
 {
     let sent = sender::block(image, len, number, out);
     report(sent, written)
@@ -120,7 +120,7 @@ pub extern "C" fn lertxuno_update(
     out: &mut [u8],
     written: &mut usize,
 ) -> u32
-    ensures { λ r. ⌜ Does (told (now (written .entry))) (sendUpdate (job (inBlocks (now (image .entry)) len) model serial) number (now (signature .entry)) (now (out .entry))) (record { answer = r; written = now (written .exit) }) (now (out .exit)) ⌝ }
+    ensures { λ r. ⌜ Does (lengthOutcome (now (written .entry))) (sendUpdate (job (inBlocks (now (image .entry)) len) model serial) number (now (signature .entry)) (now (out .entry))) (record { answer = r; written = now (written .exit) }) (now (out .exit)) ⌝ }
 {
     let sent = sender::update(image, len, model, serial, number, signature, out);
     report(sent, written)
@@ -138,7 +138,7 @@ pub extern "C" fn lertxuno_path_update(
     out: &mut [u8],
     written: &mut usize,
 ) -> u32
-    ensures { λ r. ⌜ Does (told (now (written .entry))) (sendPath (job (inBlocks (now (image .entry)) len) model serial) number (now (signature .entry)) (now (out .entry))) (record { answer = r; written = now (written .exit) }) (now (out .exit)) ⌝ }
+    ensures { λ r. ⌜ Does (lengthOutcome (now (written .entry))) (sendPath (job (inBlocks (now (image .entry)) len) model serial) number (now (signature .entry)) (now (out .entry))) (record { answer = r; written = now (written .exit) }) (now (out .exit)) ⌝ }
 {
     let sent = sender::path_update(image, len, model, serial, number, signature, out);
     report(sent, written)
@@ -156,11 +156,11 @@ pub extern "C" fn lertxuno_ihex(
     ensures { λ r. ⌜ readText (now (text .entry)) base length (now (out .entry)) ≡ record { answer = r; line = now (line .exit); buffer = now (out .exit) } ⌝ }
 {
     match ihex::read(text, base, length, out) {
-        ihex::Answer::Read => {
+        ihex::TextAnswer::Read => {
             *line = 0;
             0
         }
-        ihex::Answer::Refused(refusal, number) => {
+        ihex::TextAnswer::Refused(refusal, number) => {
             *line = number;
             wide(wire::refusal_number(refusal))
         }
@@ -182,7 +182,7 @@ pub extern "C" fn lertxuno_fresh(model: u32, key: &[u8; lms::KEY_LEN], state: &m
 pub extern "C" fn lertxuno_receive(state: &mut [u8], flash: &mut [u8], message: &[u8]) -> u32
     ensures { λ r. ⌜ receive (now (state .entry)) (now (flash .entry)) (now (message .entry)) ≡ record { answer = r; state = now (state .exit); flash = now (flash .exit) } ⌝ }
 {
-    let Found::At(stage) = state::stage_in(state) else {
+    let StageRead::At(stage) = state::stage_in(state) else {
         return 1;
     };
     let model = octets::u32_at(state, 0);
@@ -215,10 +215,10 @@ pub extern "C" fn lertxuno_receive(state: &mut [u8], flash: &mut [u8], message: 
 
 // The boot check.
 #[no_mangle]
-pub extern "C" fn lertxuno_intact(state: &[u8], flash: &[u8]) -> u32
-    ensures { λ r. ⌜ r ≡ intact (now (state .entry)) (now (flash .entry)) ⌝ }
+pub extern "C" fn lertxuno_boot_check(state: &[u8], flash: &[u8]) -> u32
+    ensures { λ r. ⌜ r ≡ bootCheckOf (now (state .entry)) (now (flash .entry)) ⌝ }
 {
-    let Found::At(stage) = state::stage_in(state) else {
+    let StageRead::At(stage) = state::stage_in(state) else {
         return 1;
     };
     let answer = device::boot_check(state::device_in(state, stage), flash);
@@ -230,7 +230,7 @@ pub extern "C" fn lertxuno_intact(state: &[u8], flash: &[u8]) -> u32
 pub extern "C" fn lertxuno_status(state: &[u8], out: &mut [u32; STATUS_LEN]) -> u32
     ensures { λ r. ⌜ status (now (state .entry)) (now (out .entry)) ≡ record { answer = r; out = now (out .exit) } ⌝ }
 {
-    let Found::At(stage) = state::sensible_in(state) else {
+    let StageRead::At(stage) = state::sensible_in(state) else {
         return 1;
     };
     let numbers = status::status_of(state::device_in(state, stage));
@@ -243,7 +243,7 @@ pub extern "C" fn lertxuno_status(state: &[u8], out: &mut [u32; STATUS_LEN]) -> 
 pub extern "C" fn lertxuno_block_message_length(state: &[u8], length: &mut usize) -> u32
     ensures { λ r. ⌜ blockMessageLength (now (state .entry)) (now (length .entry)) ≡ record { answer = r; written = now (length .exit) } ⌝ }
 {
-    let Found::At(stage) = state::sensible_in(state) else {
+    let StageRead::At(stage) = state::sensible_in(state) else {
         return 1;
     };
     match stage {

@@ -9,7 +9,7 @@ ghost use Rattle.lms.specs.Lms.{keyLength};
 ghost use Rattle.wire.specs.Manifest.{manifestLength, read};
 ghost use Rattle.capi.specs.State.{encode, deviceIn, stageIn, stageNumber, keyAt, manifestAt, hashesAt, stateLength};
 ghost use Rattle.capi.specs.Status.{sensible};
-ghost use Rattle.capi.specs.Found.{found, foundIn};
+ghost use Rattle.capi.specs.StageRead.{stageRead, stageReadOf};
 ghost use Rattle.capi.specs.Head.{headOf};
 
 // Where the fields start: model (4 bytes), key, stage (2), next number (2), manifest, held hashes. specs/State.antt has the same for the contracts.
@@ -67,24 +67,24 @@ pub fn to_bytes(device: Device) -> [u8; STATE_LEN]
 }
 
 // The stage of the state that s encodes, if it does.
-pub enum Found {
+pub enum StageRead {
     At(Stage),
     Nothing,
 }
 
-// Found where the length is right and the stage's number known.
-pub fn stage_in(s: &[u8]) -> Found
-    ensures { λ r. ⌜ r ≡ found (stageIn (now (s .entry))) ⌝ }
+// There is one where the length is right and the stage's number known.
+pub fn stage_in(s: &[u8]) -> StageRead
+    ensures { λ r. ⌜ r ≡ stageRead (stageIn (now (s .entry))) ⌝ }
 {
     if s.len() != STATE_LEN {
-        return Found::Nothing;
+        return StageRead::Nothing;
     }
     let next = octets::u16_at(s, NEXT_AT);
     match octets::u16_at(s, STAGE_AT) {
-        0 => Found::At(Stage::Idle),
-        1 => Found::At(Stage::Loading(next)),
-        2 => Found::At(Stage::Complete),
-        _ => Found::Nothing,
+        0 => StageRead::At(Stage::Idle),
+        1 => StageRead::At(Stage::Loading(next)),
+        2 => StageRead::At(Stage::Complete),
+        _ => StageRead::Nothing,
     }
 }
 
@@ -122,15 +122,15 @@ pub fn device_in(s: &[u8], stage: Stage) -> Device
     }
 }
 
-// Found where the state makes sense: refusal 1 does not apply to it.
-pub fn sensible_in(s: &[u8]) -> Found
-    ensures { λ r. ⌜ r ≡ foundIn (sensible (now (s .entry))) ⌝ }
+// There is one where the state makes sense too: refusal 1 does not apply to it.
+pub fn sensible_in(s: &[u8]) -> StageRead
+    ensures { λ r. ⌜ r ≡ stageReadOf (sensible (now (s .entry))) ⌝ }
 {
-    let Found::At(stage) = stage_in(s) else {
-        return Found::Nothing;
+    let StageRead::At(stage) = stage_in(s) else {
+        return StageRead::Nothing;
     };
     if device::senseless(stage, manifest_in(s)) {
-        return Found::Nothing;
+        return StageRead::Nothing;
     }
-    Found::At(stage)
+    StageRead::At(stage)
 }

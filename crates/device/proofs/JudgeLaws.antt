@@ -46,7 +46,7 @@ refused-in {r = r} fs rest p e = onward p (sym (ap answerOf (in-piece fs rest (a
 pub past-all : {es : List (Refusal × Bool)} (fs rest : List (Refusal × Bool)) → Passes es (fs ++ rest) → Accepted ≡ answerOf (firstThatApplies fs) → Passes es rest
 past-all fs rest p e = record { same = p .same ∙ behind-piece fs rest (answer-none (firstThatApplies fs) (sym e)) }
 
--- An update that passed its first tests has a manifest of an allowed size, and room; and so has the manifest held, with the same lengths.
+-- An update that passed its first tests has a manifest of an allowed size, and room; and so has the current manifest, with the same lengths.
 abbrev pub Known : Manifest → List ℕ → Type 0
 Known s f = (wrongSize (s .«block_len») (s .«image_len») ≡ false) × (tooSmall s f ≡ false)
 
@@ -58,9 +58,9 @@ module _ (d : Device) (f : List ℕ) (s : Manifest) {a : Answer} (e : a ≡ answ
   unfolding ofSuccessor ofManifest testOf
   successor-known = (clear refusal.Size (ofSuccessor d f s) none-applies, clear refusal.Area (ofSuccessor d f s) none-applies)
 
-  pub held-known : Known (d .manifest) f
+  pub current-known : Known (d .manifest) f
   unfolding ofSuccessor ofManifest testOf tooSmall
-  held-known =
+  current-known =
       let z = alike-lengths s (d .manifest) (clear refusal.Unlike (ofSuccessor d f s) none-applies) in
       let k = successor-known in
       (rw (z .0, z .1) at (k .0), rw (z .1) at (k .1))

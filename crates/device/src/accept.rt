@@ -21,7 +21,7 @@ ghost use Rattle.machine.specs.Step as spec;
 ghost use Rattle.device.specs.Fields.{deviceOf, Unrefused};
 
 // Stage and manifest after an accepted message.
-pub struct Next {
+pub struct InPlaceSituation {
     pub stage: Stage,
     pub manifest: Manifest,
 }
@@ -29,36 +29,36 @@ pub struct Next {
 // What an accepted message of this kind makes of stage, manifest, hashes and flash; model and key stay.
 pub fn accept(
     stage: Stage,
-    held: Manifest,
+    current: Manifest,
     hashes: &mut [u8],
     kind: Kind,
     flash: &mut [u8],
     message: &[u8],
-) -> Next
-    requires { ⌜ (length (now hashes) ≡ heldBytes) × (kind ≡ messages.kind (now message)) × Unrefused stage held (now hashes) (now flash) (now message) ⌝ }
-    ensures { λ r. ⌜ ((model : ℕ) (key : List ℕ) → spec.accept kind (deviceOf model key stage held (now (hashes .entry))) (now (flash .entry)) (now (message .entry)) ≡ record { device = deviceOf model key (r .stage) (r .manifest) (now (hashes .exit)); flash = now (flash .exit) }) ⌝ }
+) -> InPlaceSituation
+    requires { ⌜ (length (now hashes) ≡ heldBytes) × (kind ≡ messages.kind (now message)) × Unrefused stage current (now hashes) (now flash) (now message) ⌝ }
+    ensures { λ r. ⌜ ((model : ℕ) (key : List ℕ) → spec.accept kind (deviceOf model key stage current (now (hashes .entry))) (now (flash .entry)) (now (message .entry)) ≡ record { device = deviceOf model key (r .stage) (r .manifest) (now (hashes .exit)); flash = now (flash .exit) }) ⌝ }
 {
     match kind {
         Kind::Program => accept_program(hashes, message),
-        Kind::Block => accept_block(stage, held, hashes, flash, message),
+        Kind::Block => accept_block(stage, current, hashes, flash, message),
         Kind::Update | Kind::PathUpdate => accept_update(stage, flash, message),
         // Never accepted; the definition has this arm too.
-        Kind::Unknown => Next {
+        Kind::Unknown => InPlaceSituation {
             stage,
-            manifest: held,
+            manifest: current,
         },
     }
 }
 
 // Kind 1. It does not look at the flash.
-fn accept_program(hashes: &mut [u8], message: &[u8]) -> Next
+fn accept_program(hashes: &mut [u8], message: &[u8]) -> InPlaceSituation
     requires { ⌜ (length (now hashes) ≡ heldBytes) × (leastLength kinds.Program ≤ length (now message)) ⌝ }
     ensures { λ r. ⌜ ((d : Device) (flash : List ℕ) → acceptProgram d flash (now (message .entry)) ≡ record { device = deviceOf (d .model) (d .key) (r .stage) (r .manifest) (now (hashes .exit)); flash = flash }) ⌝ }
 {
     let manifest = wire::manifest_in(message);
     let root = manifest.root;
     merkle::begin(hashes, &root);
-    Next {
+    InPlaceSituation {
         stage: Stage::Loading(1),
         manifest,
     }
@@ -87,20 +87,20 @@ fn stage_after(n: usize, number: u16) -> Stage
 // Kind 2.
 fn accept_block(
     stage: Stage,
-    held: Manifest,
+    current: Manifest,
     hashes: &mut [u8],
     flash: &mut [u8],
     message: &[u8],
-) -> Next
-    requires { ⌜ (length (now hashes) ≡ heldBytes) × (messages.kind (now message) ≡ kinds.Block) × Unrefused stage held (now hashes) (now flash) (now message) ⌝ }
-    ensures { λ r. ⌜ ((model : ℕ) (key : List ℕ) → acceptBlock (deviceOf model key stage held (now (hashes .entry))) (now (flash .entry)) (now (message .entry)) ≡ record { device = deviceOf model key (r .stage) (r .manifest) (now (hashes .exit)); flash = now (flash .exit) }) ⌝ }
+) -> InPlaceSituation
+    requires { ⌜ (length (now hashes) ≡ heldBytes) × (messages.kind (now message) ≡ kinds.Block) × Unrefused stage current (now hashes) (now flash) (now message) ⌝ }
+    ensures { λ r. ⌜ ((model : ℕ) (key : List ℕ) → acceptBlock (deviceOf model key stage current (now (hashes .entry))) (now (flash .entry)) (now (message .entry)) ≡ record { device = deviceOf model key (r .stage) (r .manifest) (now (hashes .exit)); flash = now (flash .exit) }) ⌝ }
 {
     let next = next_of(stage);
-    let n = count(held);
-    let len = own_len(held, next);
+    let n = count(current);
+    let len = own_len(current, next);
     write_block(
         flash,
-        held.block_len as usize,
+        current.block_len as usize,
         next,
         wire::block_in(message, len),
     );
@@ -110,17 +110,17 @@ fn accept_block(
         next as usize - 1,
         wire::hashes_after(message, len),
     );
-    Next {
+    InPlaceSituation {
         stage: stage_after(n, next),
-        manifest: held,
+        manifest: current,
     }
 }
 
 // Kinds 3 and 4. The hashes stay.
-fn accept_update(stage: Stage, flash: &mut [u8], message: &[u8]) -> Next
+fn accept_update(stage: Stage, flash: &mut [u8], message: &[u8]) -> InPlaceSituation
     requires { ⌜ (leastUpdate (manifestIn (now message) .«block_len») (manifestIn (now message) .«image_len») (updateNumber (now message)) ≤ length (now message))
         × (manifestIn (now message) .«image_len» ≤ length (now flash)) × (0 < updateNumber (now message)) × (updateNumber (now message) ≤ countOf (manifestIn (now message))) ⌝ }
-    ensures { λ r. ⌜ ((model : ℕ) (key hashes : List ℕ) (held : Manifest) → acceptUpdate (deviceOf model key stage held hashes) (now (flash .entry)) (now (message .entry)) ≡ record { device = deviceOf model key (r .stage) (r .manifest) hashes; flash = now (flash .exit) }) ⌝ }
+    ensures { λ r. ⌜ ((model : ℕ) (key hashes : List ℕ) (current : Manifest) → acceptUpdate (deviceOf model key stage current hashes) (now (flash .entry)) (now (message .entry)) ≡ record { device = deviceOf model key (r .stage) (r .manifest) hashes; flash = now (flash .exit) }) ⌝ }
 {
     let manifest = wire::manifest_in(message);
     let number = wire::update_number(message);
@@ -131,5 +131,5 @@ fn accept_update(stage: Stage, flash: &mut [u8], message: &[u8]) -> Next
         number,
         wire::update_block(message, len),
     );
-    Next { stage, manifest }
+    InPlaceSituation { stage, manifest }
 }

@@ -74,27 +74,27 @@ pub fn wrong_size(manifest: Manifest) -> bool
 
 // 6.
 pub fn other_model(model: u32, manifest: Manifest) -> bool
-    ensures { λ r. ⌜ ((key : List ℕ) (stage : Stage) (held : Manifest) (hashes : List ℕ) → r ≡ otherModel (deviceOf model key stage held hashes) manifest) ⌝ }
+    ensures { λ r. ⌜ ((key : List ℕ) (stage : Stage) (current : Manifest) (hashes : List ℕ) → r ≡ otherModel (deviceOf model key stage current hashes) manifest) ⌝ }
 {
     manifest.model != model
 }
 
 // The serial that a new one must be above: 0 when idle.
-fn serial_of(stage: Stage, held: Manifest) -> u32
-    ensures { λ r. ⌜ ((model : ℕ) (key hashes : List ℕ) → r ≡ serialOf (deviceOf model key stage held hashes)) ⌝ }
+fn serial_of(stage: Stage, current: Manifest) -> u32
+    ensures { λ r. ⌜ ((model : ℕ) (key hashes : List ℕ) → r ≡ serialOf (deviceOf model key stage current hashes)) ⌝ }
 {
     match stage {
         Stage::Idle => 0,
-        Stage::Loading(_) => held.serial,
-        Stage::Complete => held.serial,
+        Stage::Loading(_) => current.serial,
+        Stage::Complete => current.serial,
     }
 }
 
 // 7.
-pub fn not_newer(stage: Stage, held: Manifest, manifest: Manifest) -> bool
-    ensures { λ r. ⌜ ((model : ℕ) (key hashes : List ℕ) → r ≡ notNewer (deviceOf model key stage held hashes) manifest) ⌝ }
+pub fn not_newer(stage: Stage, current: Manifest, manifest: Manifest) -> bool
+    ensures { λ r. ⌜ ((model : ℕ) (key hashes : List ℕ) → r ≡ notNewer (deviceOf model key stage current hashes) manifest) ⌝ }
 {
-    manifest.serial <= serial_of(stage, held)
+    manifest.serial <= serial_of(stage, current)
 }
 
 // 8.
@@ -106,7 +106,7 @@ pub fn too_small(manifest: Manifest, flash: &[u8]) -> bool
 
 // 9, for a manifest's bytes and the signature over them.
 pub fn unsigned(key: &[u8], manifest: &[u8], signature: &[u8]) -> bool
-    ensures { λ r. ⌜ ((model : ℕ) (stage : Stage) (held : Manifest) (hashes : List ℕ) → r ≡ spec.unsigned valid (deviceOf model (now (key .entry)) stage held hashes) (now (manifest .entry)) (now (signature .entry))) ⌝ }
+    ensures { λ r. ⌜ ((model : ℕ) (stage : Stage) (current : Manifest) (hashes : List ℕ) → r ≡ spec.unsigned valid (deviceOf model (now (key .entry)) stage current hashes) (now (manifest .entry)) (now (signature .entry))) ⌝ }
 {
     !lms::verify(key, manifest, signature)
 }
@@ -186,7 +186,7 @@ pub fn outside(manifest: Manifest, number: u16) -> bool
 }
 
 // 12, kind 3.
-pub fn cut_update(manifest: Manifest, number: u16, message: &[u8]) -> bool
+pub fn below_least_update(manifest: Manifest, number: u16, message: &[u8]) -> bool
     requires { ⌜ (wrongSize (manifest .«block_len») (manifest .«image_len») ≡ false) × (size.outside (countOf manifest) number ≡ false) ⌝ }
     ensures { λ r. ⌜ r ≡ ltb (length (now (message .entry))) (leastUpdate (manifest .«block_len») (manifest .«image_len») number) ⌝ }
 {
@@ -199,7 +199,7 @@ pub fn cut_update(manifest: Manifest, number: u16, message: &[u8]) -> bool
 }
 
 // 12, kind 4.
-pub fn cut_path(manifest: Manifest, number: u16, message: &[u8]) -> bool
+pub fn below_least_path(manifest: Manifest, number: u16, message: &[u8]) -> bool
     requires { ⌜ (wrongSize (manifest .«block_len») (manifest .«image_len») ≡ false) × (size.outside (countOf manifest) number ≡ false) ⌝ }
     ensures { λ r. ⌜ r ≡ ltb (length (now (message .entry))) (leastPath (manifest .«block_len») (manifest .«image_len») number) ⌝ }
 {
@@ -236,7 +236,7 @@ pub fn mismatch(manifest: Manifest, hashes: &[u8], next: u16, message: &[u8]) ->
     )
 }
 
-// 19 of kind 3 and of the boot check, for the manifest held: the tree over the flash as handed in lacks its root.
+// 19 of kind 3 and of the boot check, for the current manifest: the tree over the flash as handed in lacks its root.
 pub fn lacks_root(manifest: Manifest, flash: &[u8]) -> bool
     requires { ⌜ (wrongSize (manifest .«block_len») (manifest .«image_len») ≡ false) × (tooSmall manifest (now flash) ≡ false) ⌝ }
     ensures { λ r. ⌜ r ≡ spec.lacksRoot digest manifest (now (flash .entry)) ⌝ }
@@ -264,7 +264,7 @@ pub fn lacks_root_with(manifest: Manifest, flash: &[u8], number: u16, block: &[u
     !octets::equal(&found, &root)
 }
 
-// 19, kind 2: this is the last block, and the tree over the flash with it in place lacks the root of the manifest held.
+// 19, kind 2: this is the last block, and the tree over the flash with it in place lacks the root of the current manifest.
 pub fn last_altered(manifest: Manifest, next: u16, flash: &[u8], message: &[u8]) -> bool
     requires { ⌜ (wrongSize (manifest .«block_len») (manifest .«image_len») ≡ false) × (tooSmall manifest (now flash) ≡ false) × (0 < next) × (next ≤ countOf manifest) × (wrongLength manifest next (now message) ≡ false) ⌝ }
     ensures { λ r. ⌜ r ≡ spec.lastAltered digest manifest next (now (flash .entry)) (now (message .entry)) ⌝ }

@@ -1,7 +1,7 @@
 // The first refusal that applies, if any: the tests of each kind, in the papers' order. Nothing is written here. A function is handed those fields of the
 // device that its tests look at. Its callers meet its `requires`: `receive_in_place` calls `judge`, and all other calls stand in this file.
-use crate::conditions::cut_path;
-use crate::conditions::cut_update;
+use crate::conditions::below_least_path;
+use crate::conditions::below_least_update;
 use crate::conditions::lacks_root;
 use crate::conditions::lacks_root_with;
 use crate::conditions::last_altered;
@@ -56,16 +56,16 @@ pub fn judge(
     model: u32,
     key: &[u8],
     stage: Stage,
-    held: Manifest,
+    current: Manifest,
     hashes: &[u8],
     kind: Kind,
     flash: &[u8],
     message: &[u8],
 ) -> Answer
     requires { ⌜ length (now hashes) ≡ heldBytes ⌝ }
-    ensures { λ r. ⌜ r ≡ answerOf (firstThatApplies (refusals digest valid kind (deviceOf model (now (key .entry)) stage held (now (hashes .entry))) (now (flash .entry)) (now (message .entry)))) ⌝ }
+    ensures { λ r. ⌜ r ≡ answerOf (firstThatApplies (refusals digest valid kind (deviceOf model (now (key .entry)) stage current (now (hashes .entry))) (now (flash .entry)) (now (message .entry)))) ⌝ }
 {
-    if senseless(stage, held) {
+    if senseless(stage, current) {
         return Answer::Refused(Refusal::State);
     }
     if wire::short(kind, message) {
@@ -73,16 +73,16 @@ pub fn judge(
     }
     match kind {
         Kind::Unknown => Answer::Refused(Refusal::Kind),
-        Kind::Program => judge_program(model, key, stage, held, flash, message),
-        Kind::Block => judge_block(stage, held, hashes, flash, message),
-        Kind::Update => judge_update(model, key, stage, held, flash, message),
-        Kind::PathUpdate => judge_path_update(model, key, stage, held, flash, message),
+        Kind::Program => judge_program(model, key, stage, current, flash, message),
+        Kind::Block => judge_block(stage, current, hashes, flash, message),
+        Kind::Update => judge_update(model, key, stage, current, flash, message),
+        Kind::PathUpdate => judge_path_update(model, key, stage, current, flash, message),
     }
 }
 
 // A new manifest, in kind 1, 3 or 4: 4, 5, 6, 7.
-fn judge_manifest(model: u32, stage: Stage, held: Manifest, manifest: Manifest) -> Answer
-    ensures { λ r. ⌜ ((key hashes : List ℕ) → r ≡ answerOf (firstThatApplies (ofManifest (deviceOf model key stage held hashes) manifest))) ⌝ }
+fn judge_manifest(model: u32, stage: Stage, current: Manifest, manifest: Manifest) -> Answer
+    ensures { λ r. ⌜ ((key hashes : List ℕ) → r ≡ answerOf (firstThatApplies (ofManifest (deviceOf model key stage current hashes) manifest))) ⌝ }
 {
     if wrong_version(manifest) {
         return Answer::Refused(Refusal::Version);
@@ -93,7 +93,7 @@ fn judge_manifest(model: u32, stage: Stage, held: Manifest, manifest: Manifest) 
     if other_model(model, manifest) {
         return Answer::Refused(Refusal::Model);
     }
-    if not_newer(stage, held, manifest) {
+    if not_newer(stage, current, manifest) {
         return Answer::Refused(Refusal::Serial);
     }
     Answer::Accepted
@@ -104,15 +104,15 @@ fn judge_program(
     model: u32,
     key: &[u8],
     stage: Stage,
-    held: Manifest,
+    current: Manifest,
     flash: &[u8],
     message: &[u8],
 ) -> Answer
     requires { ⌜ leastLength kinds.Program ≤ length (now message) ⌝ }
-    ensures { λ r. ⌜ ((hashes : List ℕ) → r ≡ answerOf (firstThatApplies (ofProgram valid (deviceOf model (now (key .entry)) stage held hashes) (now (flash .entry)) (now (message .entry)) (manifestIn (now (message .entry)))))) ⌝ }
+    ensures { λ r. ⌜ ((hashes : List ℕ) → r ≡ answerOf (firstThatApplies (ofProgram valid (deviceOf model (now (key .entry)) stage current hashes) (now (flash .entry)) (now (message .entry)) (manifestIn (now (message .entry)))))) ⌝ }
 {
     let manifest = wire::manifest_in(message);
-    let first = judge_manifest(model, stage, held, manifest);
+    let first = judge_manifest(model, stage, current, manifest);
     let Answer::Accepted = first else {
         return first;
     };
@@ -130,27 +130,33 @@ fn judge_program(
 }
 
 // Kind 2: 10, 8, 11, 12, 14, 19. The last block's message walks the whole tree; a damaged one does not come so far.
-fn judge_block(stage: Stage, held: Manifest, hashes: &[u8], flash: &[u8], message: &[u8]) -> Answer
-    requires { ⌜ ((model : ℕ) (key : List ℕ) → spec.senseless (deviceOf model key stage held (now hashes)) ≡ false) × (length (now hashes) ≡ heldBytes) × (leastLength kinds.Block ≤ length (now message)) ⌝ }
-    ensures { λ r. ⌜ ((model : ℕ) (key : List ℕ) → r ≡ answerOf (firstThatApplies (ofBlock digest (deviceOf model key stage held (now (hashes .entry))) (now (flash .entry)) (now (message .entry)) (nextOf stage)))) ⌝ }
+fn judge_block(
+    stage: Stage,
+    current: Manifest,
+    hashes: &[u8],
+    flash: &[u8],
+    message: &[u8],
+) -> Answer
+    requires { ⌜ ((model : ℕ) (key : List ℕ) → spec.senseless (deviceOf model key stage current (now hashes)) ≡ false) × (length (now hashes) ≡ heldBytes) × (leastLength kinds.Block ≤ length (now message)) ⌝ }
+    ensures { λ r. ⌜ ((model : ℕ) (key : List ℕ) → r ≡ answerOf (firstThatApplies (ofBlock digest (deviceOf model key stage current (now (hashes .entry))) (now (flash .entry)) (now (message .entry)) (nextOf stage)))) ⌝ }
 {
     if not_loading(stage) {
         return Answer::Refused(Refusal::Stage);
     }
     let next = next_of(stage);
-    if too_small(held, flash) {
+    if too_small(current, flash) {
         return Answer::Refused(Refusal::Area);
     }
     if not_next(next, message) {
         return Answer::Refused(Refusal::Turn);
     }
-    if wrong_length(held, next, message) {
+    if wrong_length(current, next, message) {
         return Answer::Refused(Refusal::Length);
     }
-    if mismatch(held, hashes, next, message) {
+    if mismatch(current, hashes, next, message) {
         return Answer::Refused(Refusal::Mismatch);
     }
-    if last_altered(held, next, flash, message) {
+    if last_altered(current, next, flash, message) {
         return Answer::Refused(Refusal::Altered);
     }
     Answer::Accepted
@@ -160,20 +166,20 @@ fn judge_block(stage: Stage, held: Manifest, hashes: &[u8], flash: &[u8], messag
 fn judge_successor(
     model: u32,
     stage: Stage,
-    held: Manifest,
+    current: Manifest,
     flash: &[u8],
     manifest: Manifest,
 ) -> Answer
-    ensures { λ r. ⌜ ((key hashes : List ℕ) → r ≡ answerOf (firstThatApplies (ofSuccessor (deviceOf model key stage held hashes) (now (flash .entry)) manifest))) ⌝ }
+    ensures { λ r. ⌜ ((key hashes : List ℕ) → r ≡ answerOf (firstThatApplies (ofSuccessor (deviceOf model key stage current hashes) (now (flash .entry)) manifest))) ⌝ }
 {
     if not_complete(stage) {
         return Answer::Refused(Refusal::Stage);
     }
-    let first = judge_manifest(model, stage, held, manifest);
+    let first = judge_manifest(model, stage, current, manifest);
     let Answer::Accepted = first else {
         return first;
     };
-    if unlike(manifest, held) {
+    if unlike(manifest, current) {
         return Answer::Refused(Refusal::Unlike);
     }
     if too_small(manifest, flash) {
@@ -187,26 +193,26 @@ fn judge_update(
     model: u32,
     key: &[u8],
     stage: Stage,
-    held: Manifest,
+    current: Manifest,
     flash: &[u8],
     message: &[u8],
 ) -> Answer
     requires { ⌜ leastLength kinds.Update ≤ length (now message) ⌝ }
-    ensures { λ r. ⌜ ((hashes : List ℕ) → r ≡ answerOf (firstThatApplies (ofUpdate digest valid (deviceOf model (now (key .entry)) stage held hashes) (now (flash .entry)) (now (message .entry)) (manifestIn (now (message .entry))) (updateNumber (now (message .entry)))))) ⌝ }
+    ensures { λ r. ⌜ ((hashes : List ℕ) → r ≡ answerOf (firstThatApplies (ofUpdate digest valid (deviceOf model (now (key .entry)) stage current hashes) (now (flash .entry)) (now (message .entry)) (manifestIn (now (message .entry))) (updateNumber (now (message .entry)))))) ⌝ }
 {
     let manifest = wire::manifest_in(message);
     let number = wire::update_number(message);
-    let first = judge_successor(model, stage, held, flash, manifest);
+    let first = judge_successor(model, stage, current, flash, manifest);
     let Answer::Accepted = first else {
         return first;
     };
-    if lacks_root(held, flash) {
+    if lacks_root(current, flash) {
         return Answer::Refused(Refusal::Altered);
     }
     if outside(manifest, number) {
         return Answer::Refused(Refusal::Turn);
     }
-    if cut_update(manifest, number, message) {
+    if below_least_update(manifest, number, message) {
         return Answer::Refused(Refusal::Length);
     }
     let len = own_len(manifest, number);
@@ -228,23 +234,23 @@ fn judge_path_update(
     model: u32,
     key: &[u8],
     stage: Stage,
-    held: Manifest,
+    current: Manifest,
     flash: &[u8],
     message: &[u8],
 ) -> Answer
     requires { ⌜ leastLength kinds.PathUpdate ≤ length (now message) ⌝ }
-    ensures { λ r. ⌜ ((hashes : List ℕ) → r ≡ answerOf (firstThatApplies (ofPathUpdate digest valid (deviceOf model (now (key .entry)) stage held hashes) (now (flash .entry)) (now (message .entry)) (manifestIn (now (message .entry))) (updateNumber (now (message .entry)))))) ⌝ }
+    ensures { λ r. ⌜ ((hashes : List ℕ) → r ≡ answerOf (firstThatApplies (ofPathUpdate digest valid (deviceOf model (now (key .entry)) stage current hashes) (now (flash .entry)) (now (message .entry)) (manifestIn (now (message .entry))) (updateNumber (now (message .entry)))))) ⌝ }
 {
     let manifest = wire::manifest_in(message);
     let number = wire::update_number(message);
-    let first = judge_successor(model, stage, held, flash, manifest);
+    let first = judge_successor(model, stage, current, flash, manifest);
     let Answer::Accepted = first else {
         return first;
     };
     if outside(manifest, number) {
         return Answer::Refused(Refusal::Turn);
     }
-    if cut_path(manifest, number, message) {
+    if below_least_path(manifest, number, message) {
         return Answer::Refused(Refusal::Length);
     }
     let len = own_len(manifest, number);
@@ -256,12 +262,12 @@ fn judge_path_update(
     ) {
         return Answer::Refused(Refusal::Unsigned);
     }
-    judge_path(held, manifest, number, flash, message, len, depth)
+    judge_path(current, manifest, number, flash, message, len, depth)
 }
 
 // The last of kind 4: 15, 14, for a block of `len` bytes and a leaf of this depth.
 fn judge_path(
-    held: Manifest,
+    current: Manifest,
     manifest: Manifest,
     number: u16,
     flash: &[u8],
@@ -270,11 +276,11 @@ fn judge_path(
     depth: usize,
 ) -> Answer
     requires { ⌜ (wrongSize (manifest .«block_len») (manifest .«image_len») ≡ false) × (tooSmall manifest (now flash) ≡ false) × (size.outside (countOf manifest) number ≡ false) × (depth ≡ leafDepth (countOf manifest) (pred number)) × (leastLength kinds.Update + len + hashLength * depth ≤ length (now message)) ⌝ }
-    ensures { λ r. ⌜ r ≡ answerOf (firstThatApplies ((refusal.Path, spec.strays digest manifest number (blocksOf manifest (now (flash .entry)) (pred number)) (pathIn len depth (now (message .entry))) (held .root)) ∷ (refusal.Mismatch, spec.strays digest manifest number (updateBlock len (now (message .entry))) (pathIn len depth (now (message .entry))) (manifest .root)) ∷ [])) ⌝ }
+    ensures { λ r. ⌜ r ≡ answerOf (firstThatApplies ((refusal.Path, spec.strays digest manifest number (blocksOf manifest (now (flash .entry)) (pred number)) (pathIn len depth (now (message .entry))) (current .root)) ∷ (refusal.Mismatch, spec.strays digest manifest number (updateBlock len (now (message .entry))) (pathIn len depth (now (message .entry))) (manifest .root)) ∷ [])) ⌝ }
 {
     let siblings = wire::path_in(message, len, depth);
     let old = old_block(manifest, flash, number);
-    let old_root = held.root;
+    let old_root = current.root;
     if strays(manifest, number, old, siblings, &old_root) {
         return Answer::Refused(Refusal::Path);
     }

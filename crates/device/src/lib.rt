@@ -44,7 +44,7 @@ pub fn fresh(model: u32, key: [u8; lms::KEY_LEN]) -> Device
 }
 
 // The answer to a message, and what it makes of stage and manifest.
-pub struct Answered {
+pub struct InPlaceOutcome {
     pub answer: Answer,
     pub stage: Stage,
     pub manifest: Manifest,
@@ -60,11 +60,11 @@ pub fn receive_in_place(
     hashes: &mut [u8],
     flash: &mut [u8],
     message: &[u8],
-) -> Answered
+) -> InPlaceOutcome
     ensures { λ r. ⌜ stepInPlace (deviceOf model (now (key .entry)) stage manifest (now (hashes .entry))) (now (flash .entry)) (now (message .entry)) ≡ record { answer = r .answer; device = deviceOf model (now (key .entry)) (r .stage) (r .manifest) (now (hashes .exit)); flash = now (flash .exit) } ⌝ }
 {
     if hashes.len() != merkle::HELD_LEN {
-        return Answered {
+        return InPlaceOutcome {
             answer: Answer::Refused(Refusal::State),
             stage,
             manifest,
@@ -73,7 +73,7 @@ pub fn receive_in_place(
     let kind = wire::kind_of(message);
     let answer = judge::judge(model, key, stage, manifest, hashes, kind, flash, message);
     let Answer::Accepted = answer else {
-        return Answered {
+        return InPlaceOutcome {
             answer,
             stage,
             manifest,
@@ -82,7 +82,7 @@ pub fn receive_in_place(
     let next = accept::accept(stage, manifest, hashes, kind, flash, message);
     let next_stage = next.stage;
     let next_manifest = next.manifest;
-    Answered {
+    InPlaceOutcome {
         answer,
         stage: next_stage,
         manifest: next_manifest,
@@ -90,13 +90,13 @@ pub fn receive_in_place(
 }
 
 // The answer to a message, and the device after it.
-pub struct Reply {
+pub struct Outcome {
     pub answer: Answer,
     pub device: Device,
 }
 
 // Answers a message to a device that is handed over whole.
-pub fn receive(device: Device, flash: &mut [u8], message: &[u8]) -> Reply
+pub fn receive(device: Device, flash: &mut [u8], message: &[u8]) -> Outcome
     ensures { λ r. ⌜ step digest valid device (now (flash .entry)) (now (message .entry)) ≡ record { answer = r .answer; device = r .device; flash = now (flash .exit) } ⌝ }
 {
     let key = device.key;
@@ -115,7 +115,7 @@ pub fn receive(device: Device, flash: &mut [u8], message: &[u8]) -> Reply
     let answer = after.answer;
     let stage = after.stage;
     let manifest = after.manifest;
-    Reply {
+    Outcome {
         answer,
         device: Device {
             model: device.model,

@@ -109,18 +109,18 @@ not-both true t e = e refl
 not-both false t e = refl
 
 -- What a message passed that finds the flash altered: a last block up to 14, or an update up to 8.
-pub data Found (H : List ℕ → List ℕ) (d : Device) (flash m : List ℕ) : Type 0 where
+pub data FoundAltered (H : List ℕ → List ℕ) (d : Device) (flash m : List ℕ) : Type 0 where
   at-block : kind m ≡ Block → notLoading (d .stage) ≡ false → numberIn m ≡ nextOf (d .stage)
       → length m ≡ dueLength (d .manifest .«block_len») (d .manifest .«image_len») (nextOf (d .stage)) → mismatch H d (nextOf (d .stage)) m ≡ false
-      → lastAltered H (d .manifest) (nextOf (d .stage)) flash m ≡ true → Found H d flash m
-  at-update : kind m ≡ Update → notComplete (d .stage) ≡ false → lacksRoot H (d .manifest) flash ≡ true → Found H d flash m
+      → lastAltered H (d .manifest) (nextOf (d .stage)) flash m ≡ true → FoundAltered H d flash m
+  at-update : kind m ≡ Update → notComplete (d .stage) ≡ false → lacksRoot H (d .manifest) flash ≡ true → FoundAltered H d flash m
 
 module _ (H : List ℕ → List ℕ) (valid : (key message signature : List ℕ) → Bool) (d : Device) (flash m : List ℕ) where
   -- 19 is the first of the refusals of kind k
   abbrev First : Kind → Type 0
   First k = firstThatApplies (refusals H valid k d flash m) ≡ some refusal.Altered
 
-  found-block : kind m ≡ Block → First Block → Found H d flash m
+  found-block : kind m ≡ Block → First Block → FoundAltered H d flash m
   unfolding refusals always ofKind ofBlock lacks testOf ahead notNext wrongLength
   found-block e f =
       let before = ahead refusal.Altered (refusals H valid Block d flash m) in
@@ -128,14 +128,14 @@ module _ (H : List ℕ → List ℕ) (valid : (key message signature : List ℕ)
       at-block e (clear refusal.Stage before (o .0)) (eqb-true _ _ (not-false _ (clear refusal.Turn before (o .0)))) (eqb-true _ _ (not-false _ (clear refusal.Length before (o .0))))
       (clear refusal.Mismatch before (o .0)) (o .1)
 
-  found-update : kind m ≡ Update → First Update → Found H d flash m
+  found-update : kind m ≡ Update → First Update → FoundAltered H d flash m
   unfolding refusals always ofKind ofManifest ofSuccessor ofUpdate lacks testOf ahead behind
   found-update e f =
       let before = ahead refusal.Altered (refusals H valid Update d flash m) in
       let o = its-own refusal.Altered before (behind refusal.Altered (refusals H valid Update d flash m)) _ refl refl f in
       at-update e (clear refusal.Stage before (o .0)) (o .1)
 
-  by-kind : (k : Kind) → kind m ≡ k → First k → Found H d flash m
+  by-kind : (k : Kind) → kind m ≡ k → First k → FoundAltered H d flash m
   unfolding refusals always ofKind ofManifest ofProgram ofSuccessor ofPathUpdate lacks
   by-kind Program e f = absurd (never refusal.Altered _ refl f)
   by-kind Block e f = found-block e f
@@ -143,14 +143,14 @@ module _ (H : List ℕ → List ℕ) (valid : (key message signature : List ℕ)
   by-kind PathUpdate e f = absurd (never refusal.Altered _ refl f)
   by-kind Unknown e f = absurd (never refusal.Altered _ refl f)
 
-  pub found : refusalOf H valid d flash m ≡ some refusal.Altered → Found H d flash m
+  pub found-altered : refusalOf H valid d flash m ≡ some refusal.Altered → FoundAltered H d flash m
   unfolding refusalOf
-  found a = by-kind (kind m) refl a
+  found-altered a = by-kind (kind m) refl a
 
 -- A list from a fresh device, for one part of any step; `finds` is what its refusals owe.
 module _ (H : List ℕ → List ℕ) (hash-long : (x : List ℕ) → length (H x) ≡ hashLength) (valid : (key message signature : List ℕ) → Bool) {D F C : Type 0} (part : Part D F C)
     (step : D → F → C → OutcomeOf D F) (serves : Serves H valid part step)
-    (finds : (d : D) (f : F) (c : C) → part .names c ≡ true → step d f c .answer ≡ Refused refusal.Altered → Found H (part .device d) (part .flash f) (part .message c))
+    (finds : (d : D) (f : F) (c : C) → part .names c ≡ true → step d f c .answer ≡ Refused refusal.Altered → FoundAltered H (part .device d) (part .flash f) (part .message c))
     (d : D) (fresh : Fresh (part .device d)) (flash : F) (cs : Trace C) where
   abbrev at : Situation
   at = now H valid part step d flash serves cs
@@ -180,11 +180,11 @@ module _ (H : List ℕ → List ℕ) (hash-long : (x : List ℕ) → length (H x
           (λ n. lacks-none H (at .device .manifest) _ (last-loaded H valid (part .device d .key) hash-long (at .device) (at .flash) m list k e q l f w (eqb-true _ _ n))))
       go Complete q w = absurd (true≢false (rw q at loading))
 
-  no-block : (m : List ℕ) → kind m ≡ Block → Found H (at .device) (at .flash) m → ⊥
+  no-block : (m : List ℕ) → kind m ≡ Block → FoundAltered H (at .device) (at .flash) m → ⊥
   no-block m e (at-block k loading turn long same altered) = true≢false (sym altered ∙ whole-last m k loading turn long same)
   no-block m e (at-update k complete lacks) = let z : _≡_ {A = ℕ} 0 1 = cc in omega arith
 
-  misled : (m : List ℕ) → Found H (at .device) (at .flash) m → Misled H valid part step d flash cs
+  misled : (m : List ℕ) → FoundAltered H (at .device) (at .flash) m → Misled H valid part step d flash cs
   misled m (at-block k loading turn long same altered) = absurd (no-block m k (at-block k loading turn long same altered))
   misled m (at-update k complete lacks) =
       ⊎-elim (λ t. absurd (true≢false (sym lacks ∙ lacks-none H _ _ (t .rooted)))) (λ w. w) (first .bound (first .exactly .0 (not-complete _ complete)) .tree)
@@ -207,5 +207,5 @@ module _ (H : List ℕ → List ℕ) (hash-long : (x : List ℕ) → length (H x
 pub nobody-else : (H : List ℕ → List ℕ) → ((x : List ℕ) → length (H x) ≡ hashLength) → (valid : (key message signature : List ℕ) → Bool) → NobodyElse H valid (whole H valid) (step H valid)
 nobody-else H hash-long valid d fresh flash ms =
     untouched H hash-long valid (whole H valid) (step H valid) (serves H valid)
-    (λ d f m n a. found H valid d f m (answer-some _ _ (sym (answered H valid d f m) ∙ a))) d fresh flash ms
+    (λ d f m n a. found-altered H valid d f m (answer-some _ _ (sym (answered H valid d f m) ∙ a))) d fresh flash ms
     (makes-sense H valid (step H valid) (demand3-for H hash-long valid) d fresh flash ms)

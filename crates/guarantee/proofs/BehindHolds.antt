@@ -53,10 +53,10 @@ module _ (H : List ℕ → List ℕ) (valid : (key message signature : List ℕ)
   unfolding updated
   updated-same s same = with-run (s .«block_len») (s .«image_len») _ f g _ long same
 
-  -- 19 of an update reads as many bytes as the manifest held has: where 13 does not apply, its own manifest has as many
-  held-same : firstThatApplies (ofSuccessor d g (manifestIn m)) ≡ none → Same Update → take (d .manifest .«image_len») f ≡ take (d .manifest .«image_len») g
+  -- 19 of an update reads as many bytes as the current manifest has: where 13 does not apply, its own manifest has as many
+  current-same : firstThatApplies (ofSuccessor d g (manifestIn m)) ≡ none → Same Update → take (d .manifest .«image_len») f ≡ take (d .manifest .«image_len») g
   unfolding carries ofManifest ofSuccessor testOf
-  held-same e same = rw (alike-lengths (manifestIn m) (d .manifest) (clear refusal.Unlike _ e) .1) at same
+  current-same e same = rw (alike-lengths (manifestIn m) (d .manifest) (clear refusal.Unlike _ e) .1) at same
 
   -- the refusal, and what acceptance does
   refused : (k : Kind) → kind m ≡ k → Same k → refusalOf H valid d f m ≡ refusalOf H valid d g m
@@ -65,7 +65,7 @@ module _ (H : List ℕ → List ℕ) (valid : (key message signature : List ℕ)
   refused Block e same = rw (e, long, stored-same (d .manifest) (nextOf (d .stage)) same)
   refused Update e same =
       rw (e, long)
-      (same-behind (always Update d m) _ _ (λ _. same-behind (ofSuccessor d g (manifestIn m)) _ _ (λ a. rw (held-same a same, updated-same (manifestIn m) same))))
+      (same-behind (always Update d m) _ _ (λ _. same-behind (ofSuccessor d g (manifestIn m)) _ _ (λ a. rw (current-same a same, updated-same (manifestIn m) same))))
   refused PathUpdate e same = rw (e, long, same)
   refused Unknown e same = rw e
 

@@ -54,7 +54,7 @@ module _ (H : List ℕ → List ℕ) (hash-long : (x : List ℕ) → length (H x
   w = b .image .bytes
 
   allowed-old : Sized (a .image .«block_len») (length v)
-  allowed-old = rw (← o .cut, ← o .long) (sized _ _ (o .sendable .size))
+  allowed-old = rw (← o .block-long, ← o .long) (sized _ _ (o .sendable .size))
 
   long-old : length v ≡ s .«image_len»
   unfolding manifestFor
@@ -62,7 +62,7 @@ module _ (H : List ℕ → List ℕ) (hash-long : (x : List ℕ) → length (H x
 
   blocks-old : (j : ℕ) → cut (b .image .«block_len») v j ≡ blocks (a .image) j
   unfolding blocks
-  blocks-old j = ap (λ L. cut L v j) (o .cut)
+  blocks-old j = ap (λ L. cut L v j) (o .block-long)
 
   -- the flash with the new block
   flash-new : withBlock (b .image .«block_len») flash (suc i) (blocks (b .image) i) ≡ atStart w old
@@ -80,7 +80,7 @@ module _ (H : List ℕ → List ℕ) (hash-long : (x : List ℕ) → length (H x
 
   root-old : d .manifest .root ≡ rootOver (plain H) (blocks (a .image)) n
   unfolding manifestFor rootOf count
-  root-old = ap (λ x. x .root) (was .manifest) ∙ ap₂ (λ L T. rootOver (plain H) (blocks (a .image)) (blockCount L T)) (sym (o .cut)) (sym (o .long))
+  root-old = ap (λ x. x .root) (was .manifest) ∙ ap₂ (λ L T. rootOver (plain H) (blocks (a .image)) (blockCount L T)) (sym (o .block-long)) (sym (o .long))
 
   sense : senseless d ≡ false
   unfolding wrongVersion manifestFor
@@ -119,7 +119,7 @@ module _ (H : List ℕ → List ℕ) (hash-long : (x : List ℕ) → length (H x
           size = rw read (o .sendable .size);
           model = rw read (ap not (eq-eqb (b .model) (d .model) (o .model)));
           serial = rw (read, serial-old) (ap not (lt-ltb (a .serial) (b .serial) (o .newer)));
-          alike = rw (read, was .manifest, eq-eqb _ _ (o .cut), eq-eqb _ _ (o .long));
+          alike = rw (read, was .manifest, eq-eqb _ _ (o .block-long), eq-eqb _ _ (o .long));
           area = rw read (le-ltb (length flash) _ (omega (arith, long-old, simp length-append at (ap length (was .image)))));
           turn = rw (read, c .number) (outside-not n (suc i) (λ z. omega arith) (o .within));
           long = le-ltb (length m) least enough;

@@ -205,7 +205,7 @@ untouched-caught = by-path untouched (pathFor toy newer 2 []) refl (none-collide
 
 -- Three devices that take path updates which the right one refuses, so that their answers fail too: shown where it does harm, at the tree.
 
--- It takes a path update as if the held root were another.
+-- It takes a path update as if the current root were another.
 holding : List ℕ → Step
 holding root d f m = let o = right (withManifest (d .manifest .serial) root d) f m in elim (o .answer) [ Accepted ↦ o | Refused r ↦ record { answer = Refused r; device = d; flash = f } ]
 

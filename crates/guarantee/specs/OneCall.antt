@@ -31,7 +31,7 @@ pub record OneCall (H : List ℕ → List ℕ) (refusal : Device → List ℕ �
   pub refused : (r : Refusal) → step d flash m .answer ≡ Refused r → (step d flash m .device ≡ d) × (step d flash m .flash ≡ flash)
   -- An accepted one leaves the manifest that it goes by: its own, or else the device's.
   pub manifest : step d flash m .answer ≡ Accepted → step d flash m .device .manifest ≡ goesBy d m
-  -- "Kind 3 now first works out the tree over the area as handed in": that had the root of the manifest held before
+  -- "Kind 3 now first works out the tree over the area as handed in": that had the root of the current manifest
   pub before : kind m ≡ Update → step d flash m .answer ≡ Accepted → Rooted H (d .manifest) flash
   -- After an accepted update the flash has the new manifest's root; after an accepted block that makes the stage complete, that of the device's manifest.
   pub update : kind m ≡ Update → step d flash m .answer ≡ Accepted → Rooted H (manifestIn m) (step d flash m .flash)

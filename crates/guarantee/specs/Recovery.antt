@@ -22,7 +22,7 @@ use Rattle.guarantee.specs.Demand3.{Sendable, thenBlocks, Honest, Loaded
 use Rattle.guarantee.specs.Updates.{Installed}
 
 module _ (H : List ℕ → List ℕ) (valid : (key message signature : List ℕ) → Bool) (step : Device → List ℕ → List ℕ → Outcome) (d : Device) (flash : List ℕ) where
-  -- What it takes after a list: a program that the sender can send, for the device's model, with a serial above the one held (above 0 when idle), room in the
+  -- What it takes after a list: a program that the sender can send, for the device's model, with a serial above the current one (above 0 when idle), room in the
   -- flash, and a signature that is valid under the device's key.
   pub record Offered (ms : Messages) (job : Job) (signature : List ℕ) : Type 0 where
     pub sendable : Sendable job

@@ -33,7 +33,7 @@ module _ (H : List ℕ → List ℕ) (valid : (key message signature : List ℕ)
   pub record UpdateOffered (d : Device) (a b : Job) (i : ℕ) (signature : List ℕ) : Type 0 where
     pub sendable : Sendable b
     pub long : length (b .image .bytes) ≡ length (a .image .bytes)
-    pub cut : b .image .«block_len» ≡ a .image .«block_len»
+    pub block-long : b .image .«block_len» ≡ a .image .«block_len»
     pub within : i < count (b .image)
     pub others : (j : ℕ) → j < count (b .image) → j ≢ i → blocks (b .image) j ≡ blocks (a .image) j
     pub model : b .model ≡ d .model

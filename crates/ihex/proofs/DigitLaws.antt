@@ -14,7 +14,7 @@ use Rattle.octets.specs.Octets.{part}
 use Rattle.octets.proofs.CopyLaws.{length-part}
 use Rattle.wire.proofs.SizeLaws.{and-true}
 use Rattle.ihex.specs.Line.{between, digit, octets, byteAnd, sum}
-use Rattle.ihex.specs.Found.{digitOr, sumOf}
+use Rattle.ihex.specs.Code.{digitOr, sumOf}
 
 module _ (low high c : ℕ) where
   pub is-between : low ≤ c → c ≤ high → between low high c ≡ true

@@ -16,11 +16,11 @@ use Rattle.wire.specs.declared.refusal.Refusal.the-variants.{Text}
 use Rattle.wire.specs.Refusal.{firstThatApplies}
 use Rattle.ihex.specs.declared.judge.Step.{Step}
 use Rattle.ihex.specs.declared.judge.Step.the-variants.{Next, End, Fault}
-use Rattle.ihex.specs.declared.reading.Answer.the-variants.{Read, Refused}
+use Rattle.ihex.specs.declared.reading.TextAnswer.the-variants.{Read, Refused}
 use Rattle.ihex.specs.Line.{content, recordIn, Line, data00, end01, upper04, lineOf}
 use Rattle.ihex.specs.Text.{lines, Byte, isNamed}
 use Rattle.ihex.specs.Read.{Before, start, namedBy, upperAfter, isEnd, after, refusals, names, fault, judge, judged}
-use Rattle.ihex.specs.Found.{bit, firstLine, Seen, stepOf, Steps, answerFound}
+use Rattle.ihex.specs.Code.{bit, firstLine, Seen, stepOf, Steps, textAnswer}
 use Rattle.ihex.proofs.LineLaws.{lines-first, first-taken}
 use Rattle.ihex.proofs.StepLaws.{unended}
 
@@ -138,11 +138,11 @@ judging-start text base k =
     record { named = []; marks = nothing-seen base k 4096; size = length-replicate {A = ℕ} 4096 0; within = omega arith; number = omega arith; same = refl }
 
 module _ {text : List ℕ} {base k : ℕ} {seen : List ℕ} {u from n : ℕ} (j : Judging text base k seen u from n) where
-  pub judging-missing : length text ≤ from → Refused Text n ≡ answerFound (judged base k text)
+  pub judging-missing : length text ≤ from → Refused Text n ≡ textAnswer (judged base k text)
   unfolding judge lines
   judging-missing h =
       let e : drop from text ≡ [] = drop-of-length-le text {i = from} h in
-      ap answerFound (ap (λ (s : List ℕ). judge base k (unended u (j .named)) n (lines s)) (sym e) ∙ j .same)
+      ap textAnswer (ap (λ (s : List ℕ). judge base k (unended u (j .named)) n (lines s)) (sym e) ∙ j .same)
 
   module _ (h : from < length text) {next : List ℕ} {r : Step} (s : Steps base k u (lineOf (firstLine (drop from text))) seen r next) where
     abbrev l : List ℕ
@@ -157,8 +157,8 @@ module _ {text : List ℕ} {base k : ℕ} {seen : List ℕ} {u from n : ℕ} (j 
     split : judge base k b n (l ∷ rest) ≡ judged base k text
     split = ap (judge base k b n) (sym (lines-at text from h)) ∙ j .same
 
-    pub judging-fault : (f : Refusal) → r ≡ Fault f → Refused f n ≡ answerFound (judged base k text)
-    judging-fault f e = ap answerFound (sym (judge-fault base k b n l rest f (step-fault _ u (lineOf l) f (sym e ∙ s .answered (j .named) (j .marks)))) ∙ split)
+    pub judging-fault : (f : Refusal) → r ≡ Fault f → Refused f n ≡ textAnswer (judged base k text)
+    judging-fault f e = ap textAnswer (sym (judge-fault base k b n l rest f (step-fault _ u (lineOf l) f (sym e ∙ s .answered (j .named) (j .marks)))) ∙ split)
 
     abbrev first : Option Refusal
     first = firstThatApplies (refusals base k b (lineOf l))
@@ -170,17 +170,17 @@ module _ {text : List ℕ} {base k : ℕ} {seen : List ℕ} {u from n : ℕ} (j 
       on : judge base k (after b (lineOf l)) (suc n) rest ≡ judged base k text
       on = sym (judge-on base k b n l rest (ends .0)) ∙ split
 
-      pub judging-done : length text ≤ from + length l → Read ≡ answerFound (judged base k text)
+      pub judging-done : length text ≤ from + length l → Read ≡ textAnswer (judged base k text)
       unfolding after lines
       judging-done g =
           let d : drop (from + length l) text ≡ [] = drop-of-length-le text {i = from + length l} g in
-          ap answerFound (sym (judge-ended base k (after b (lineOf l)) (suc n) (ends .1)) ∙ (rw d at on))
+          ap textAnswer (sym (judge-ended base k (after b (lineOf l)) (suc n) (ends .1)) ∙ (rw d at on))
 
-      pub judging-behind : from + length l < length text → Refused Text (n + 1) ≡ answerFound (judged base k text)
+      pub judging-behind : from + length l < length text → Refused Text (n + 1) ≡ textAnswer (judged base k text)
       unfolding after
       judging-behind g =
           let d = lines-at text (from + length l) g in
-          rw (add-one n) (ap answerFound (sym (judge-behind base k (after b (lineOf l)) (suc n) _ _ (ends .1)) ∙ (rw d at on)))
+          rw (add-one n) (ap textAnswer (sym (judge-behind base k (after b (lineOf l)) (suc n) _ _ (ends .1)) ∙ (rw d at on)))
 
     pub judging-next : (v : ℕ) → r ≡ Next v → length next ≡ 4096 → Judging text base k next v (from + length l) (n + 1)
     unfolding after

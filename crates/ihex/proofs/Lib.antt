@@ -1,7 +1,7 @@
 pub mod DigitLaws
 pub mod LineLaws
 pub mod RecordLaws
-pub mod FoundLaws
+pub mod LineReadLaws
 pub mod SeenLaws
 pub mod NamedLaws
 pub mod StepLaws

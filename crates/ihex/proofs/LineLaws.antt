@@ -14,7 +14,7 @@ use Rattle.octets.specs.Octets.{equal}
 use Rattle.octets.proofs.EqualLaws.{equal-lengths}
 use Rattle.ihex.specs.Line.{LF, CR, lineEnd}
 use Rattle.ihex.specs.Text.{lines, longer}
-use Rattle.ihex.specs.Found.{firstLine}
+use Rattle.ihex.specs.Code.{firstLine}
 
 module _ (l : List ℕ) where
   abbrev last : ℕ

@@ -17,7 +17,7 @@ use Rattle.ihex.specs.Line as spec
 use Rattle.ihex.specs.Line.{data00, lineOf}
 use Rattle.ihex.specs.Text.{lines, Byte, placed, anyOutside, isNamed, anyRepeated, valueAt, imageOf}
 use Rattle.ihex.specs.Read.{Before, start, namedBy, upperAfter, isBroken, after, refusals, names, fault, judge, judged}
-use Rattle.ihex.specs.Found.{firstLine, Places}
+use Rattle.ihex.specs.Code.{firstLine, Places}
 use Rattle.ihex.proofs.NamedLaws.{value-named, value-unnamed, value-none, image-length, image-at, image-none, placed-at, placed-named, placed-value, placed-outside, unrepeated}
 use Rattle.ihex.proofs.StepLaws.{Fits}
 use Rattle.ihex.proofs.JudgeLaws.{lines-at, end-within}

@@ -12,11 +12,11 @@ use Rattle.wire.specs.declared.refusal.Refusal.{Refusal}
 use Rattle.wire.specs.declared.refusal.Refusal.the-variants as refusal
 use Rattle.wire.specs.Refusal.{firstThatApplies}
 use Rattle.wire.proofs.SizeLaws.{or-false}
-use Rattle.ihex.specs.declared.reading.Answer.the-variants.{Read, Refused}
+use Rattle.ihex.specs.declared.reading.TextAnswer.the-variants.{Read, Refused}
 use Rattle.ihex.specs.Line.{Line, data00, end01, upper04, lineOf}
 use Rattle.ihex.specs.Text.{lines, Byte, placed, Names, ended, named, under, outside, anyOutside, isNamed, anyRepeated, imageOf}
-use Rattle.ihex.specs.Read.{wrongLength, Before, start, namedBy, upperAfter, isEnd, isBroken, after, refusals, Judged, names, fault, judge, judged, Outcome, outcome, read}
-use Rattle.ihex.specs.Found.{answerFound}
+use Rattle.ihex.specs.Read.{wrongLength, Before, start, namedBy, upperAfter, isEnd, isBroken, after, refusals, Judged, names, fault, judge, judged, TextOutcome, textOutcome, read}
+use Rattle.ihex.specs.Code.{textAnswer}
 use Rattle.ihex.specs.Claims.{Denotes, AllRead}
 use Rattle.ihex.proofs.StepLaws.{unended}
 use Rattle.ihex.proofs.NamedLaws.{image-length, inside-tested, tested-inside, unrepeated, apart-unrepeated}
@@ -122,19 +122,19 @@ module _ (base k : ℕ) where
   unfolding read firstThatApplies
   read-area text buffer e h = rw (e, lt-ltb (length buffer) k h, read)
 
-  read-lines : (text buffer : List ℕ) → wrongLength base k ≡ false → k ≤ length buffer → read text base k buffer ≡ outcome base k buffer (judged base k text)
+  read-lines : (text buffer : List ℕ) → wrongLength base k ≡ false → k ≤ length buffer → read text base k buffer ≡ textOutcome base k buffer (judged base k text)
   unfolding read firstThatApplies
   read-lines text buffer e h = rw (e, le-ltb (length buffer) k h, read)
 
   -- what the lines come to
   pub read-names : (text buffer : List ℕ) (bs : List Byte) → wrongLength base k ≡ false → k ≤ length buffer → judged base k text ≡ names bs
       → read text base k buffer ≡ record { answer = Read; buffer = imageOf base k bs ++ drop k buffer }
-  unfolding outcome
+  unfolding textOutcome
   read-names text buffer bs e h j = rw (read-lines text buffer e h, j, image-length base k bs)
 
   pub read-fault : (text buffer : List ℕ) (r : Refusal) (n : ℕ) → wrongLength base k ≡ false → k ≤ length buffer → judged base k text ≡ fault r n
       → read text base k buffer ≡ record { answer = Refused r n; buffer = buffer }
-  unfolding outcome
+  unfolding textOutcome
   read-fault text buffer r n e h j = rw (read-lines text buffer e h, j)
 
   pub denoted : {text : List ℕ} {bs : List Byte} → Denotes text base k bs → judged base k text ≡ names bs
@@ -147,8 +147,8 @@ module _ (base k : ℕ) where
       let r = judged-ends start 1 (lines text) bs e in
       rw (r .all) (record { rules = r .rules; inside = tested-inside base k (r .new) (r .inside); once = unrepeated [] (r .new) (r .apart) .1 })
 
-  answered : (buffer : List ℕ) (j : Judged) → outcome base k buffer j .answer ≡ Read → (bs : List Byte) × (j ≡ names bs)
-  unfolding outcome
+  answered : (buffer : List ℕ) (j : Judged) → textOutcome base k buffer j .answer ≡ Read → (bs : List Byte) × (j ≡ names bs)
+  unfolding textOutcome
   answered buffer (names bs) e = (bs, refl)
   answered buffer (fault r n) e = ([], cc)
 
@@ -157,21 +157,21 @@ pub read-room : (text : List ℕ) (base k : ℕ) (buffer : List ℕ) → read te
 read-room text base k buffer q = go (wrongLength base k) refl (decLt (length buffer) k)
   where
     go : (t : Bool) → wrongLength base k ≡ t → Dec (length buffer < k) → k ≤ length buffer
-    go true e d = let a = ap (λ (o : Outcome). o .answer) (read-size base k text buffer e) in let z : _≡_ {A = ℕ} 0 1 = cc in absurd (omega arith)
-    go false e (yes h) = let a = ap (λ (o : Outcome). o .answer) (read-area base k text buffer e h) in let z : _≡_ {A = ℕ} 0 1 = cc in absurd (omega arith)
+    go true e d = let a = ap (λ (o : TextOutcome). o .answer) (read-size base k text buffer e) in let z : _≡_ {A = ℕ} 0 1 = cc in absurd (omega arith)
+    go false e (yes h) = let a = ap (λ (o : TextOutcome). o .answer) (read-area base k text buffer e h) in let z : _≡_ {A = ℕ} 0 1 = cc in absurd (omega arith)
     go false e (no h) = omega arith
 
 -- the code's answer
-pub answer-names : (j : Judged) → answerFound j ≡ Read → (bs : List Byte) × (j ≡ names bs)
+pub answer-names : (j : Judged) → textAnswer j ≡ Read → (bs : List Byte) × (j ≡ names bs)
 answer-names (names bs) e = (bs, refl)
 answer-names (fault r n) e = ([], cc)
 
-pub answer-fault : (j : Judged) (r : Refusal) (n : ℕ) → answerFound j ≡ Refused r n → j ≡ fault r n
+pub answer-fault : (j : Judged) (r : Refusal) (n : ℕ) → textAnswer j ≡ Refused r n → j ≡ fault r n
 answer-fault (names bs) r n e = cc
 answer-fault (fault q m) r n e = cc
 
 pub all-read : AllRead
-unfolding outcome
+unfolding textOutcome
 all-read text base k buffer e h =
     let a = read-lines base k text buffer e h in
     record {

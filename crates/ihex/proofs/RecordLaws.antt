@@ -12,9 +12,9 @@ use borrow.Author.Tests.{lt-ltb, eq-eqb, ltb-true, eqb-true}
 use Rattle.octets.specs.Octets.{number, part}
 use Rattle.octets.proofs.CopyLaws.{length-part}
 use Rattle.octets.proofs.NumberLaws.{number-two}
-use Rattle.ihex.specs.declared.record.Found.the-variants.{Sound, Broken}
+use Rattle.ihex.specs.declared.record.RecordRead.the-variants.{Sound, Broken}
 use Rattle.ihex.specs.Line.{colon, lineEnd, content, digit, byteAnd, octets, Record, sum, recordOf, recordIn}
-use Rattle.ihex.specs.Found.{digitOr, octetAt, sumOf, recordFound}
+use Rattle.ihex.specs.Code.{digitOr, octetAt, sumOf, recordRead}
 use Rattle.ihex.proofs.DigitLaws.{Small, digit-small}
 
 -- The bytes bs that pairs of digits d stand for.
@@ -144,7 +144,7 @@ module _ {l bs : List ℕ} (p : Parts l bs) where
   data-size = length-part bs 4 (getD bs 0 0) (omega (arith, p .count))
 
   -- the record, as the code reads it
-  pub reads : {a t k : ℕ} → a ≡ octetAt l 1 * 256 + octetAt l 2 → t ≡ octetAt l 3 → k ≡ octetAt l 0 → Sound (record { address = a; kind = t; count = k }) ≡ recordFound (recordIn l)
+  pub reads : {a t k : ℕ} → a ≡ octetAt l 1 * 256 + octetAt l 2 → t ≡ octetAt l 3 → k ≡ octetAt l 0 → Sound (record { address = a; kind = t; count = k }) ≡ recordRead (recordIn l)
   reads ea et ek =
       let address = ea ∙ sym (number-two bs 1 (omega (arith, p .count)) ∙ rw (octet-is 1 (omega (arith, p .count)), octet-is 2 (omega (arith, p .count)))) in
       let type = et ∙ sym (octet-is 3 (omega (arith, p .count))) in
@@ -153,27 +153,27 @@ module _ {l bs : List ℕ} (p : Parts l bs) where
 
 -- a line without a record
 module _ (l : List ℕ) where
-  broken : ((bs : List ℕ) → Parts l bs → ⊥) → Broken ≡ recordFound (recordIn l)
+  broken : ((bs : List ℕ) → Parts l bs → ⊥) → Broken ≡ recordRead (recordIn l)
   broken f = go (recordIn l) (λ r e. let s = from-record l r e in f (s .bs) (s .parts))
     where
-      go : (o : Option Record) → ((r : Record) → o ≡ some r → ⊥) → Broken ≡ recordFound o
+      go : (o : Option Record) → ((r : Record) → o ≡ some r → ⊥) → Broken ≡ recordRead o
       go none g = refl
       go (some r) g = absurd (g r refl)
 
-  pub too-short : length l < 11 + lineEnd l → Broken ≡ recordFound (recordIn l)
+  pub too-short : length l < 11 + lineEnd l → Broken ≡ recordRead (recordIn l)
   too-short h = broken (λ bs p. omega (arith, parts-size p, p .count))
 
-  pub no-end : lineEnd l ≡ 0 → Broken ≡ recordFound (recordIn l)
+  pub no-end : lineEnd l ≡ 0 → Broken ≡ recordRead (recordIn l)
   no-end e = broken (λ bs p. omega (arith, p .ended))
 
-  pub no-colon : (getD l 0 0 ≡ colon → ⊥) → Broken ≡ recordFound (recordIn l)
+  pub no-colon : (getD l 0 0 ≡ colon → ⊥) → Broken ≡ recordRead (recordIn l)
   no-colon f = broken (λ bs p. f (p .begun))
 
-  pub wrong-count : (length l - 1 - lineEnd l ≡ 2 * (octetAt l 0 + 5) → ⊥) → Broken ≡ recordFound (recordIn l)
+  pub wrong-count : (length l - 1 - lineEnd l ≡ 2 * (octetAt l 0 + 5) → ⊥) → Broken ≡ recordRead (recordIn l)
   wrong-count f = broken (λ bs p. f (omega (arith, parts-size p, p .count, count-is p)))
 
   module _ (n : ℕ) (e : length l - 1 - lineEnd l ≡ 2 * n) where
-    pub wrong-sum : (sumOf 0 (octets (part 1 (2 * n) l)) ≡ 0 → ⊥) → Broken ≡ recordFound (recordIn l)
+    pub wrong-sum : (sumOf 0 (octets (part 1 (2 * n) l)) ≡ 0 → ⊥) → Broken ≡ recordRead (recordIn l)
     wrong-sum f = broken (λ bs p. f (rw (← e) (ap (sumOf 0) (p .digits) ∙ omega (arith, p .zero))))
 
     pub right : getD l 0 0 ≡ colon → 0 < lineEnd l → n ≡ octetAt l 0 + 5 → sumOf 0 (octets (part 1 (2 * n) l)) ≡ 0 → (bs : List ℕ) × Parts l bs

@@ -11,10 +11,10 @@ use lib.Seq.{getD-take, getD-drop, ext-getD}
 use borrow.Author.Tests.{eqb-true}
 use Rattle.octets.specs.Octets.{Bytes, bytes}
 use Rattle.octets.proofs.NumberLaws.{number-back}
-use Rattle.ihex.specs.declared.reading.Answer.{Answer}
+use Rattle.ihex.specs.declared.reading.TextAnswer.{TextAnswer}
 use Rattle.ihex.specs.Line.{data00, end01, upper04, meaning, lineOf}
 use Rattle.ihex.specs.Text.{lines, Byte, placed, Names, ended, named, under, imageOf}
-use Rattle.ihex.specs.Read.{wrongLength, Outcome}
+use Rattle.ihex.specs.Read.{wrongLength, TextOutcome}
 use Rattle.ihex.specs.Write.{recordLine, textFrom, textOf}
 use Rattle.ihex.specs.Claims.{Denotes, RoundTrip}
 use Rattle.ihex.proofs.NamedLaws.{image-length, image-at, at-placed, placed-once, placed-value}
@@ -104,5 +104,5 @@ pub round-trip : RoundTrip
 round-trip image base buffer b w l =
     let r = all-read (textOf base image) base (length image) buffer w l in
     let d = own image base b w in
-    ap₂ {C = Outcome} (λ (x : Answer) (y : List ℕ). record { answer = x; buffer = y })
+    ap₂ {C = TextOutcome} (λ (x : TextAnswer) (y : List ℕ). record { answer = x; buffer = y })
     (r .exactly .1 (placed base image, d)) (rw (own-image image base w) at (r .image (placed base image) d))

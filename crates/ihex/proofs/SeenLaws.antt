@@ -13,7 +13,7 @@ use lib.ListN.{length, getD, set}
 use lib.Seq.{getD-set-same, getD-set-other}
 use borrow.Author.Tests.{le-leb, lt-leb, lt-ltb, le-ltb, leb-true, ltb-true, eq-eqb, ne-eqb, eqb-true, eqb-false}
 use Rattle.wire.proofs.SizeLaws.{and-true}
-use Rattle.ihex.specs.Found.{bit, among, Marked}
+use Rattle.ihex.specs.Code.{bit, among, Marked}
 
 -- bit k of a number, and the bits of one that has bit k set
 and-bit : (n k : ℕ) → bitAnd n (2 ^ k) ≡ n / 2 ^ k % 2 * 2 ^ k

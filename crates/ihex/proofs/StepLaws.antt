@@ -20,7 +20,7 @@ use Rattle.ihex.specs.Line as spec
 use Rattle.ihex.specs.Line.{data00, end01, upper04}
 use Rattle.ihex.specs.Text.{Byte, placed, anyOutside, isNamed, anyRepeated}
 use Rattle.ihex.specs.Read.{maxLength, wrongLength, namedBy, Before, refusals}
-use Rattle.ihex.specs.Found.{lineFound, bit, among, Marked, Seen, stepOf, Steps}
+use Rattle.ihex.specs.Code.{lineRead, bit, among, Marked, Seen, stepOf, Steps}
 use Rattle.ihex.proofs.NamedLaws.{isNamed-append, placed-named, placed-outside, repeated-none, repeated-one}
 
 -- the image's length and place
@@ -51,25 +51,25 @@ module _ (base k u : ℕ) (x : Option spec.Line) where
   steps-on f g e = record { answered = λ bs s. rw (f bs s) e; seen = λ bs s h. g bs s }
 
 -- what the code found a line to say
-pub is-broken : (x : Option spec.Line) → lineFound x ≡ line.Broken → x ≡ none
+pub is-broken : (x : Option spec.Line) → lineRead x ≡ line.Broken → x ≡ none
 is-broken none e = refl
 is-broken (some (data00 a vs)) e = let z : _≡_ {A = ℕ} 0 1 = cc in absurd (omega arith)
 is-broken (some end01) e = let z : _≡_ {A = ℕ} 0 1 = cc in absurd (omega arith)
 is-broken (some (upper04 v)) e = let z : _≡_ {A = ℕ} 0 1 = cc in absurd (omega arith)
 
-pub is-end : (x : Option spec.Line) → lineFound x ≡ line.End → x ≡ some end01
+pub is-end : (x : Option spec.Line) → lineRead x ≡ line.End → x ≡ some end01
 is-end none e = let z : _≡_ {A = ℕ} 0 1 = cc in absurd (omega arith)
 is-end (some (data00 a vs)) e = let z : _≡_ {A = ℕ} 0 1 = cc in absurd (omega arith)
 is-end (some end01) e = refl
 is-end (some (upper04 v)) e = let z : _≡_ {A = ℕ} 0 1 = cc in absurd (omega arith)
 
-pub is-upper : {w : ℕ} (x : Option spec.Line) → lineFound x ≡ line.Upper w → x ≡ some (upper04 w)
+pub is-upper : {w : ℕ} (x : Option spec.Line) → lineRead x ≡ line.Upper w → x ≡ some (upper04 w)
 is-upper none e = let z : _≡_ {A = ℕ} 0 1 = cc in absurd (omega arith)
 is-upper (some (data00 a vs)) e = let z : _≡_ {A = ℕ} 0 1 = cc in absurd (omega arith)
 is-upper (some end01) e = let z : _≡_ {A = ℕ} 0 1 = cc in absurd (omega arith)
 is-upper {w} (some (upper04 v)) e = let q : v ≡ w = cc in rw q
 
-pub is-data : {a n : ℕ} (x : Option spec.Line) → lineFound x ≡ line.Data a n → (vs : List ℕ) × ((x ≡ some (data00 a vs)) × (length vs ≡ n))
+pub is-data : {a n : ℕ} (x : Option spec.Line) → lineRead x ≡ line.Data a n → (vs : List ℕ) × ((x ≡ some (data00 a vs)) × (length vs ≡ n))
 is-data none e = let z : _≡_ {A = ℕ} 0 1 = cc in absurd (omega arith)
 is-data {a} (some (data00 b vs)) e = let q : b ≡ a = cc in (vs, (rw q, cc))
 is-data (some end01) e = let z : _≡_ {A = ℕ} 0 1 = cc in absurd (omega arith)

@@ -8,7 +8,7 @@ use Prim.Native.Nat.{ℕ, _+_, _-_, _*_, _≤_, _<_}
 use lib.ListN.{length, getD}
 use Rattle.octets.specs.Octets.{Bytes}
 use Rattle.wire.specs.Message.{atStart}
-use Rattle.ihex.specs.declared.reading.Answer.the-variants.{Read}
+use Rattle.ihex.specs.declared.reading.TextAnswer.the-variants.{Read}
 use Rattle.ihex.specs.Line.{data00, lineOf}
 use Rattle.ihex.specs.Text.{lines, Byte, placed, Names, imageOf}
 use Rattle.ihex.specs.Read.{wrongLength, read}

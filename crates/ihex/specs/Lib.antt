@@ -3,4 +3,4 @@ pub mod Text
 pub mod Read
 pub mod Write
 pub mod Claims
-pub mod Found
+pub mod Code

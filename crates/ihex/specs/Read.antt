@@ -9,8 +9,8 @@ use Rattle.wire.specs.declared.refusal.Refusal.{Refusal}
 use Rattle.wire.specs.declared.refusal.Refusal.the-variants as refusal
 use Rattle.wire.specs.Refusal.{firstThatApplies}
 use Rattle.wire.specs.Message.{atStart}
-use Rattle.ihex.specs.declared.reading.Answer.{Answer}
-use Rattle.ihex.specs.declared.reading.Answer.the-variants.{Read, Refused}
+use Rattle.ihex.specs.declared.reading.TextAnswer.{TextAnswer}
+use Rattle.ihex.specs.declared.reading.TextAnswer.the-variants.{Read, Refused}
 use Rattle.ihex.specs.Line.{Line, data00, end01, upper04, lineOf}
 use Rattle.ihex.specs.Text.{lines, Byte, placed, anyOutside, anyRepeated, imageOf}
 
@@ -77,22 +77,22 @@ judge base k b n (l ∷ ls) = elim (firstThatApplies (refusals base k b (lineOf 
 unfoldable pub judged : (base k : ℕ) → List ℕ → Judged
 judged base k text = judge base k start 1 (lines text)
 
-pub record Outcome : Type 0 where
-  pub answer : Answer
+pub record TextOutcome : Type 0 where
+  pub answer : TextAnswer
   pub buffer : List ℕ
 
 -- the image at the start of the buffer, "bytes beyond it stay"; after a refusal all bytes stay
-unfoldable pub outcome : (base k : ℕ) → List ℕ → Judged → Outcome
-outcome base k buffer j =
+unfoldable pub textOutcome : (base k : ℕ) → List ℕ → Judged → TextOutcome
+textOutcome base k buffer j =
     elim j [
       | names bs ↦ record { answer = Read; buffer = atStart (imageOf base k bs) buffer }
       | fault r n ↦ record { answer = Refused r n; buffer = buffer }
     ]
 
 -- 5 and 8 come before any line: their line is 0
-unfoldable pub read : (text : List ℕ) (base k : ℕ) (buffer : List ℕ) → Outcome
+unfoldable pub read : (text : List ℕ) (base k : ℕ) (buffer : List ℕ) → TextOutcome
 read text base k buffer =
     elim (firstThatApplies ((refusal.Size, wrongLength base k) ∷ (refusal.Area, ltb (length buffer) k) ∷ [])) [
-      | none ↦ outcome base k buffer (judged base k text)
+      | none ↦ textOutcome base k buffer (judged base k text)
       | some r ↦ record { answer = Refused r 0; buffer = buffer }
     ]

@@ -4,7 +4,7 @@ ghost use Prim.Native.Nat.{_+_, _*_, _≤_};
 ghost use lib.ListN.{length};
 ghost use Rattle.octets.specs.Octets.{part};
 ghost use Rattle.ihex.specs.Line as spec;
-ghost use Rattle.ihex.specs.Found.{digitOr, octetAt, sumOf};
+ghost use Rattle.ihex.specs.Code.{digitOr, octetAt, sumOf};
 
 // What stands for 'no digit', and for 'no sum'.
 const NO_DIGIT: u8 = 16;

@@ -2,7 +2,7 @@
 use crate::line::Line;
 use crate::line::line_end;
 use crate::line::line_of;
-use crate::reading::Answer;
+use crate::reading::TextAnswer;
 use crate::seen;
 use crate::seen::mark;
 use wire::Refusal;
@@ -12,7 +12,7 @@ ghost use Prim.Native.Nat.{_/_};
 ghost use lib.ListN.{length};
 ghost use Rattle.ihex.specs.Line.{lineOf};
 ghost use Rattle.ihex.specs.Read.{maxLength, wrongLength, judged};
-ghost use Rattle.ihex.specs.Found.{Steps, answerFound};
+ghost use Rattle.ihex.specs.Code.{Steps, textAnswer};
 
 // What a line leads to.
 enum Step {
@@ -53,9 +53,9 @@ fn advance(line: &[u8], upper: u16, base: u32, len: usize, seen: &mut [u8]) -> S
     }
 }
 
-pub fn judge(text: &[u8], base: u32, len: usize) -> Answer
+pub fn judge(text: &[u8], base: u32, len: usize) -> TextAnswer
     requires { ⌜ wrongLength base len ≡ false ⌝ }
-    ensures { λ r. ⌜ r ≡ answerFound (judged base len (now (text .entry))) ⌝ }
+    ensures { λ r. ⌜ r ≡ textAnswer (judged base len (now (text .entry))) ⌝ }
 {
     let mut seen = seen::none();
     let mut upper: u16 = 0;
@@ -69,16 +69,16 @@ pub fn judge(text: &[u8], base: u32, len: usize) -> Answer
             }
             Step::End => {
                 if end < text.len() {
-                    return Answer::Refused(Refusal::Text, number + 1);
+                    return TextAnswer::Refused(Refusal::Text, number + 1);
                 }
-                return Answer::Read;
+                return TextAnswer::Read;
             }
             Step::Fault(refusal) => {
-                return Answer::Refused(refusal, number);
+                return TextAnswer::Refused(refusal, number);
             }
         }
         at = end;
         number += 1;
     }
-    Answer::Refused(Refusal::Text, number)
+    TextAnswer::Refused(Refusal::Text, number)
 }

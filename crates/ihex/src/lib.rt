@@ -9,8 +9,8 @@ mod seen;
 mod write;
 
 pub use line::record_at;
-pub use reading::Answer;
 pub use reading::MAX_LEN;
+pub use reading::TextAnswer;
 pub use reading::read;
-pub use record::Found;
 pub use record::Record;
+pub use record::RecordRead;

@@ -1,6 +1,6 @@
 // The lines of a text.
-use crate::record::Found;
 use crate::record::LF;
+use crate::record::RecordRead;
 use crate::record::pair;
 use crate::record::record_in;
 ghost use mathlib.Core.Path.{_≡_};
@@ -9,7 +9,7 @@ ghost use Prim.Native.Nat.{_+_, _-_, _≤_};
 ghost use lib.ListN.{length, drop, getD};
 ghost use Rattle.ihex.specs.Line.{recordIn, lineOf};
 ghost use Rattle.ihex.specs.Text.{lines};
-ghost use Rattle.ihex.specs.Found.{recordFound, lineFound, firstLine};
+ghost use Rattle.ihex.specs.Code.{recordRead, lineRead, firstLine};
 
 pub enum Line {
     Data { address: u16, count: u8 },
@@ -35,9 +35,9 @@ pub fn line_end(text: &[u8], at: usize) -> usize
 
 // What a line says.
 pub fn line_of(line: &[u8]) -> Line
-    ensures { λ r. ⌜ r ≡ lineFound (lineOf (now (line .entry))) ⌝ }
+    ensures { λ r. ⌜ r ≡ lineRead (lineOf (now (line .entry))) ⌝ }
 {
-    let Found::Sound(record) = record_in(line) else {
+    let RecordRead::Sound(record) = record_in(line) else {
         return Line::Broken;
     };
     let count = record.count;
@@ -60,14 +60,14 @@ pub fn line_of(line: &[u8]) -> Line
 }
 
 // The record in line `number`, from 1, for a program that tells its user of it.
-pub fn record_at(text: &[u8], number: usize) -> Found
-    ensures { λ r. ⌜ r ≡ recordFound (recordIn (getD (lines (now (text .entry))) (number - 1) [])) ⌝ }
+pub fn record_at(text: &[u8], number: usize) -> RecordRead
+    ensures { λ r. ⌜ r ≡ recordRead (recordIn (getD (lines (now (text .entry))) (number - 1) [])) ⌝ }
 {
     let mut at: usize = 0;
     let mut i: usize = 1;
     while i < number {
         if text.len() <= at {
-            return Found::Broken;
+            return RecordRead::Broken;
         }
         at = line_end(text, at);
         i += 1;

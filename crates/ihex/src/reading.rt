@@ -5,7 +5,7 @@ use wire::Refusal;
 ghost use mathlib.Core.Path.{_≡_};
 ghost use Rattle.ihex.specs.Read as spec;
 
-pub enum Answer {
+pub enum TextAnswer {
     // The image is at the start of the buffer.
     Read,
     // The refusal, and the number of the line at fault, from 1; 0 where it comes before any line.
@@ -30,17 +30,17 @@ fn wrong_length(base: u32, len: usize) -> bool
 }
 
 // Puts the image of `len` bytes from address `base` on, as the text has it, at the start of `out`.
-pub fn read(text: &[u8], base: u32, len: usize, out: &mut [u8]) -> Answer
+pub fn read(text: &[u8], base: u32, len: usize, out: &mut [u8]) -> TextAnswer
     ensures { λ r. ⌜ spec.read (now (text .entry)) base len (now (out .entry)) ≡ record { answer = r; buffer = now (out .exit) } ⌝ }
 {
     if wrong_length(base, len) {
-        return Answer::Refused(Refusal::Size, 0);
+        return TextAnswer::Refused(Refusal::Size, 0);
     }
     if out.len() < len {
-        return Answer::Refused(Refusal::Area, 0);
+        return TextAnswer::Refused(Refusal::Area, 0);
     }
     let answer = judge(text, base, len);
-    if let Answer::Read = answer {
+    if let TextAnswer::Read = answer {
         write(text, base, &mut out[..len]);
     }
     answer

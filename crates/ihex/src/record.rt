@@ -5,7 +5,7 @@ ghost use mathlib.Core.Path.{_≡_};
 ghost use Prim.Native.Nat.{_+_, _*_, _≤_};
 ghost use lib.ListN.{length};
 ghost use Rattle.ihex.specs.Line.{lineEnd, recordIn};
-ghost use Rattle.ihex.specs.Found.{octetAt, recordFound};
+ghost use Rattle.ihex.specs.Code.{octetAt, recordRead};
 
 pub const LF: u8 = 10;
 
@@ -21,7 +21,7 @@ pub struct Record {
     pub count: u8,
 }
 
-pub enum Found {
+pub enum RecordRead {
     Sound(Record),
     Broken,
 }
@@ -54,29 +54,29 @@ pub fn pair(line: &[u8], i: usize) -> u32
     octet(line, i) as u32 * 256 + octet(line, i + 1) as u32
 }
 
-pub fn record_in(line: &[u8]) -> Found
-    ensures { λ r. ⌜ r ≡ recordFound (recordIn (now (line .entry))) ⌝ }
+pub fn record_in(line: &[u8]) -> RecordRead
+    ensures { λ r. ⌜ r ≡ recordRead (recordIn (now (line .entry))) ⌝ }
 {
     let end = end_len(line);
     // The shortest record has five bytes.
     if line.len() < 11 + end {
-        return Found::Broken;
+        return RecordRead::Broken;
     }
     if end == 0 {
-        return Found::Broken;
+        return RecordRead::Broken;
     }
     if line[0] != COLON {
-        return Found::Broken;
+        return RecordRead::Broken;
     }
     let count = octet(line, 0);
     let n = count as usize + 5;
     if line.len() - 1 - end != 2 * n {
-        return Found::Broken;
+        return RecordRead::Broken;
     }
     if sum(line, n) != 0 {
-        return Found::Broken;
+        return RecordRead::Broken;
     }
-    Found::Sound(Record {
+    RecordRead::Sound(Record {
         address: pair(line, 1) as u16,
         kind: octet(line, 3) as u8,
         count: count as u8,

@@ -4,7 +4,7 @@ ghost use mathlib.Core.Path.{_≡_};
 ghost use Prim.Native.Nat.{_+_, _/_, _≤_};
 ghost use lib.ListN.{length, replicate};
 ghost use Rattle.ihex.specs.Read.{maxLength};
-ghost use Rattle.ihex.specs.Found.{Marked};
+ghost use Rattle.ihex.specs.Code.{Marked};
 
 // A bit for each byte of the longest image.
 const SEEN_LEN: usize = MAX_LEN / 8;

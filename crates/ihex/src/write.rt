@@ -12,7 +12,7 @@ ghost use lib.Seq.{paste};
 ghost use Rattle.ihex.specs.Line.{lineOf};
 ghost use Rattle.ihex.specs.Text.{Byte, imageOf};
 ghost use Rattle.ihex.specs.Read.{wrongLength, judged, names};
-ghost use Rattle.ihex.specs.Found.{dataIn, Placeable, Places};
+ghost use Rattle.ihex.specs.Code.{dataIn, Placeable, Places};
 
 // What no line names is 0xFF.
 fn clear(out: &mut [u8])

@@ -27,5 +27,5 @@ fn main() {
     let key_len = read_file(b"key.bin", &mut key);
     let bundle_len = read_file(b"bundle.bin", &mut bundle);
     let answer = bundle::load(&key[..key_len], &bundle[..bundle_len], &mut flash, &mut out);
-    io::write_all(STDOUT_FILENO, &out[..bundle::written(answer)]);
+    io::write_all(STDOUT_FILENO, &out[..bundle::sent_len(answer)]);
 }

@@ -11,7 +11,7 @@ use Rattle.machine.specs.Refusals.{senseless, notComplete, tooSmall, lac
 use Rattle.machine.specs.Step.{answerOf}
 
 module _ (H : List ℕ → List ℕ) (d : Device) (flash : List ℕ) where
-  -- 1, 10, 8, 19, as they are of an update (kind 3); 8 is for the manifest held
+  -- 1, 10, 8, 19, as they are of an update (kind 3); 8 is for the current manifest
   unfoldable pub ofBoot : List (Refusal × Bool)
   ofBoot =
       (refusal.State, senseless d)

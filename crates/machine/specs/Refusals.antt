@@ -85,7 +85,7 @@ module _ (H : List ℕ → List ℕ) where
   unfoldable pub lacksRoot : Manifest → List ℕ → Bool
   lacksRoot s flash = not (equal (treeOver H s flash) (s .root))
 
-  -- 19 for kind 2: "The last block of a download does the same for the whole area with that block in place"; s is the manifest held
+  -- 19 for kind 2: "The last block of a download does the same for the whole area with that block in place"; s is the current manifest
   unfoldable pub lastAltered : Manifest → (i : ℕ) → (flash m : List ℕ) → Bool
   lastAltered s i flash m = eqb i (countOf s) && lacksRoot s (stored s i flash m)
 

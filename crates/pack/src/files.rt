@@ -2,7 +2,7 @@
 use libc::STDERR_FILENO;
 ghost use Rattle.io.specs.Counts.{Counts};
 
-pub enum Found {
+pub enum FileRead {
     Whole,
     Missing,
     // There, but not to be read, or too long; told already.
@@ -11,34 +11,34 @@ pub enum Found {
 
 pub struct Input {
     pub len: usize,
-    pub found: Found,
+    pub found: FileRead,
 }
 
 // Why a file was not opened, right after the call.
-fn unopened(path: &[u8]) -> Found {
+fn unopened(path: &[u8]) -> FileRead {
     if os::errno() == libc::ENOENT {
-        return Found::Missing;
+        return FileRead::Missing;
     }
     os::fail(path);
-    Found::Unusable
+    FileRead::Unusable
 }
 
 // Whether a file that was read into a buffer of `most` bytes ends there.
-fn ended(file: i32, path: &[u8], most: usize) -> Found {
+fn ended(file: i32, path: &[u8], most: usize) -> FileRead {
     let mut next = [0u8; 1];
     let got = libc::read(file, &mut next);
     if got < 0 {
         os::fail(path);
-        return Found::Unusable;
+        return FileRead::Unusable;
     }
     if got == 0 {
-        return Found::Whole;
+        return FileRead::Whole;
     }
     io::write_all(STDERR_FILENO, path);
     io::write_all(STDERR_FILENO, b": over ");
     io::print_decimal(STDERR_FILENO, most as u64);
     io::write_all(STDERR_FILENO, b" bytes\n");
-    Found::Unusable
+    FileRead::Unusable
 }
 
 // Puts the file at the start of `buffer`.
@@ -66,7 +66,7 @@ fn replaceable(path: &[u8]) -> bool {
         return true;
     }
     match unopened(path) {
-        Found::Missing => true,
+        FileRead::Missing => true,
         _ => false,
     }
 }

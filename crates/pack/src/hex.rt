@@ -1,8 +1,8 @@
 // The image in image.hex. A refusal is told on standard error by its word, with the number of its line.
 use crate::make::Made;
-use crate::make::tell;
-use ihex::Answer;
-use ihex::Found;
+use crate::make::print_error;
+use ihex::RecordRead;
+use ihex::TextAnswer;
 use libc::STDERR_FILENO;
 use wire::Refusal;
 ghost use mathlib.Core.Path.{_≡_};
@@ -32,7 +32,7 @@ fn hex_digit(number: u8) -> u8
     }
 }
 
-fn tell_type(kind: u8) {
+fn print_type(kind: u8) {
     let digits = [hex_digit(kind / 16), hex_digit(kind % 16)];
     io::write_all(STDERR_FILENO, b"record type ");
     io::write_all(STDERR_FILENO, &digits);
@@ -41,8 +41,8 @@ fn tell_type(kind: u8) {
 
 // What is wrong with a line that is refused 16, or that the text lacks.
 fn broken(text: &[u8], line: usize) {
-    tell(b"text: image.hex, line ", line, b": ");
-    let Found::Sound(record) = ihex::record_at(text, line) else {
+    print_error(b"text: image.hex, line ", line, b": ");
+    let RecordRead::Sound(record) = ihex::record_at(text, line) else {
         io::write_all(
             STDERR_FILENO,
             b"no whole record (colon, digits, count, checksum, line end), or bytes behind the end record, or no end record\n",
@@ -57,20 +57,20 @@ fn broken(text: &[u8], line: usize) {
                 b"a record behind the end record, or 01 with data, or 04 without two bytes\n",
             );
         }
-        _ => tell_type(kind),
+        _ => print_type(kind),
     }
 }
 
 fn refuse(text: &[u8], refusal: Refusal, line: usize) {
     match refusal {
         Refusal::Text => broken(text, line),
-        Refusal::Place => tell(
+        Refusal::Place => print_error(
             b"place: image.hex, line ",
             line,
             b": a byte outside the LENGTH bytes from address BASE on\n",
         ),
-        Refusal::Twice => tell(b"twice: image.hex, line ", line, b": a byte named before\n"),
-        _ => tell(
+        Refusal::Twice => print_error(b"twice: image.hex, line ", line, b": a byte named before\n"),
+        _ => print_error(
             b"size: LENGTH must be 1 to ",
             ihex::MAX_LEN,
             b", and BASE + LENGTH at most 4294967296\n",
@@ -85,8 +85,8 @@ pub fn image(text: &[u8], base: u32, len: u32, out: &mut [u8]) -> Made
 {
     let len = len as usize;
     match ihex::read(text, base, len, out) {
-        Answer::Read => Made { len, done: true },
-        Answer::Refused(refusal, line) => {
+        TextAnswer::Read => Made { len, done: true },
+        TextAnswer::Refused(refusal, line) => {
             refuse(text, refusal, line);
             Made {
                 len: 0,

@@ -7,7 +7,7 @@ mod hex;
 mod make;
 
 use decimal::Parsed;
-use files::Found;
+use files::FileRead;
 use libc::STDERR_FILENO;
 use libc::STDOUT_FILENO;
 ghost use mathlib.Core.Path.{_≡_};
@@ -40,8 +40,8 @@ fn argument(i: usize, name: &[u8]) -> Parsed {
     number
 }
 
-// A line: a file that was written, and its length.
-fn tell(name: &[u8], len: usize) {
+// To standard output: a file that was written, and its length.
+fn print_length(name: &[u8], len: usize) {
     io::write_all(STDOUT_FILENO, name);
     io::print_decimal(STDOUT_FILENO, len as u64);
     io::write_all(STDOUT_FILENO, b"\n");
@@ -57,7 +57,7 @@ fn with_signature(
 ) {
     let length = signature.len();
     if !lms::possible_len(length) {
-        make::tell(
+        make::print_error(
             b"signature.bin: no LMS type has signatures of ",
             length,
             b" bytes; an HSS one has four more in front\n",
@@ -71,14 +71,14 @@ fn with_signature(
     }
     let n = made.len;
     if files::save_both(manifest, &bundle[..n]) {
-        tell(b"slip.bin ", manifest.len());
-        tell(b"bundle.bin ", n);
+        print_length(b"slip.bin ", manifest.len());
+        print_length(b"bundle.bin ", n);
     }
 }
 
 fn without_signature(manifest: &[u8]) {
     if files::save_manifest(manifest) {
-        tell(b"slip.bin ", manifest.len());
+        print_length(b"slip.bin ", manifest.len());
         io::write_all(
             STDOUT_FILENO,
             b"no signature.bin: bundle.bin was not written\n",
@@ -98,9 +98,9 @@ fn with_image(image: &[u8], len: u32, model: u32, serial: u32) {
     let n = input.len;
     let found = input.found;
     match found {
-        Found::Whole => with_signature(image, len, model, serial, &signature[..n], &manifest),
-        Found::Missing => without_signature(&manifest),
-        Found::Unusable => {}
+        FileRead::Whole => with_signature(image, len, model, serial, &signature[..n], &manifest),
+        FileRead::Missing => without_signature(&manifest),
+        FileRead::Unusable => {}
     }
 }
 
@@ -141,12 +141,12 @@ fn with_source(source: Source, len: u32, model: u32, serial: u32) {
     let n = input.len;
     let found = input.found;
     match found {
-        Found::Whole => with_file(source, &file[..n], len, model, serial),
-        Found::Missing => {
+        FileRead::Whole => with_file(source, &file[..n], len, model, serial),
+        FileRead::Missing => {
             io::write_all(STDERR_FILENO, &name);
             io::write_all(STDERR_FILENO, b": missing\n");
         }
-        Found::Unusable => {}
+        FileRead::Unusable => {}
     }
 }
 

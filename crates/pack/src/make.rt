@@ -15,8 +15,8 @@ pub struct Made {
     pub done: bool,
 }
 
-// Tells a line with a number.
-pub fn tell(before: &[u8], number: usize, after: &[u8]) {
+// To standard error: a line with a number.
+pub fn print_error(before: &[u8], number: usize, after: &[u8]) {
     io::write_all(STDERR_FILENO, before);
     io::print_decimal(STDERR_FILENO, number as u64);
     io::write_all(STDERR_FILENO, after);
@@ -24,13 +24,13 @@ pub fn tell(before: &[u8], number: usize, after: &[u8]) {
 
 fn refuse(refusal: Refusal) {
     if let Refusal::Size = refusal {
-        tell(
+        print_error(
             b"size: BLOCK must be 64, 128, 256, 512 or 1024, and the image 1 to ",
             merkle::MAX_BLOCKS,
             b" blocks long\n",
         );
     } else {
-        tell(
+        print_error(
             b"area: the bundle would have over ",
             bundle::BUNDLE_LEN,
             b" bytes\n",
@@ -38,7 +38,7 @@ fn refuse(refusal: Refusal) {
     }
 }
 
-fn outcome(sent: Sent) -> Made
+fn made_of(sent: Sent) -> Made
     ensures { λ r. ⌜ r ≡ made sent ⌝ }
 {
     match sent {
@@ -57,7 +57,7 @@ fn outcome(sent: Sent) -> Made
 pub fn manifest(image: &[u8], len: u32, model: u32, serial: u32, out: &mut [u8]) -> Made
     ensures { λ r. ⌜ Does made (sendManifest (job (inBlocks (now (image .entry)) len) model serial) (now (out .entry))) r (now (out .exit)) ⌝ }
 {
-    outcome(sender::manifest(image, len, model, serial, out))
+    made_of(sender::manifest(image, len, model, serial, out))
 }
 
 // The bundle, without filler.
@@ -72,5 +72,5 @@ pub fn bundle(
     ensures { λ r. ⌜ Does made (sendBundle (job (inBlocks (now (image .entry)) len) model serial) (now (signature .entry)) (now (out .entry))) r (now (out .exit)) ⌝ }
     ensures { λ r. ⌜ Counts (r .len) (now (out .exit)) ⌝ }
 {
-    outcome(bundle::pack(image, len, model, serial, signature, out))
+    made_of(bundle::pack(image, len, model, serial, signature, out))
 }

@@ -16,12 +16,12 @@ use Rattle.sender.specs.declared.send.Numbered.the-variants.{Blocks}
 use Rattle.sender.specs.declared.send.Sent.{Sent}
 use Rattle.sender.specs.declared.send.Sent.the-variants.{Written, Refused}
 use Rattle.sender.specs.Job.{Image, Job, count}
-use Rattle.sender.specs.Send.{Result, Does, asIs, send, tooShort, unnumbered, numbered, sendUpdate, sendPath}
+use Rattle.sender.specs.Send.{SendOutcome, Does, asIs, send, tooShort, unnumbered, numbered, sendUpdate, sendPath}
 use Rattle.sender.proofs.BlockLaws.{countFor, Tested}
 use Rattle.sender.proofs.JobLaws.{successorFor}
 
 -- the answer in another form
-pub told : {A : Type 0} {form : Sent → A} {s : Result} {answer : Sent} {x : A} {buffer : List ℕ} → Does asIs s answer buffer → x ≡ form answer → Does form s x buffer
+pub told : {A : Type 0} {form : Sent → A} {s : SendOutcome} {answer : Sent} {x : A} {buffer : List ℕ} → Does asIs s answer buffer → x ≡ form answer → Does form s x buffer
 told {form = form} d e = record { answered = e ∙ ap form (d .answered); left = d .left }
 
 module _ (x : Image) (bytes out : List ℕ) where

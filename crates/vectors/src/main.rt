@@ -1,4 +1,4 @@
-// Outside test data, run through the proved functions. What is printed is held to the file `stdout`.
+// Outside test data, run through the proved functions. What is printed is compared with the file `stdout`.
 mod digests;
 mod messages;
 mod signatures;

@@ -5,7 +5,7 @@ use Rattle.machine.specs.declared.state.Device.{Device}
 use Rattle.machine.specs.Device.{freshWith}
 use Rattle.bundle.specs.Text.{ascii}
 use Rattle.bundle.proofs.TextLaws.{line-short}
-use Rattle.bundle.proofs.WrittenLaws.{length-kept}
+use Rattle.bundle.proofs.AppendedLaws.{length-kept}
 use Rattle.bundle.proofs.LoadLaws.{device-is, first-line, load-short, load-key, load-over, load-all}
 use borrow.Author.Needs.{needs}
 use Rattle.bundle.proofs.load.Statement.{statement}
@@ -67,7 +67,7 @@ put-state-requires c κs =
     let w = c .before .before .before .before .before .before .before .before .before .before .before .put-line .ensures in
     let l = first-line (length (s .args .bundle .now)) w (omega arith) (omega (arith, c .before .before .before .before .before .before .before .before .before .before .before .before .before .before .before .before .before .before .before .if1 .left)) in
     let m = c .before .before .before .before .before .before .messages .ensures in
-    let k = length-kept (m .0 .written) (omega (arith, l .0, l .1, m .1, m .0 .written .end, c .before .before .before .before .before .before .before .before .before .before .before .before .before .before .before .before .before .before .before .if1 .left)) in
+    let k = length-kept (m .0 .appended) (omega (arith, l .0, l .1, m .1, m .0 .appended .end, c .before .before .before .before .before .before .before .before .before .before .before .before .before .before .before .before .before .before .before .if1 .left)) in
     omega (arith, l .0, l .1, m .1, k, c .before .before .before .before .before .before .before .before .before .before .before .before .before .before .before .before .before .before .before .if1 .left)
 
 same-length-3 : tie.Need-same-length-3

@@ -4,7 +4,7 @@ use Rattle.wire.specs.Geometry.{countOf}
 use Rattle.machine.specs.declared.state.Device.{Device}
 use Rattle.machine.specs.Refusals.{senseless}
 use Rattle.machine.proofs.RefusalLaws.{loading}
-use Rattle.capi.specs.declared.state.Found.the-variants.{At}
+use Rattle.capi.specs.declared.state.StageRead.the-variants.{At}
 use Rattle.capi.specs.State.{deviceIn}
 use Rattle.capi.proofs.StatusLaws.{no-sense, makes-sense, length-refused, length-idle, length-complete, length-due}
 use borrow.Author.Needs.{needs}

@@ -1,7 +1,7 @@
 use mathlib.Core.Path.{sym, ap, _∙_}
 use Prim.Native.Nat.{ℕ}
-use Rattle.ihex.specs.declared.reading.Answer.{Answer}
-use Rattle.capi.specs.Call.{TextRead, toldOf, readText}
+use Rattle.ihex.specs.declared.reading.TextAnswer.{TextAnswer}
+use Rattle.capi.specs.Call.{IhexOutcome, ihexOutcome, readText}
 use borrow.Author.Needs.{needs}
 use Rattle.capi.proofs.lertxuno_ihex.Statement.{statement}
 use Rattle.capi.proofs.lertxuno_ihex.Tie as tie
@@ -28,7 +28,7 @@ returns : tie.Need-returns
 unfolding readText
 returns c =
     let out = c .before .before .before .before .read .last .1 .1 .1 .0 in
-    ap toldOf (c .before .before .before .before .read .ensures) ∙ ap (λ (a : Answer). toldOf (record { answer = a; buffer = out })) (c .enum-told .given .1)
+    ap ihexOutcome (c .before .before .before .before .read .ensures) ∙ ap (λ (a : TextAnswer). ihexOutcome (record { answer = a; buffer = out })) (c .enum-told .given .1)
 
 same-length-2 : tie.Need-same-length-2
 same-length-2 c = search needs
@@ -38,9 +38,9 @@ unfolding readText
 returns-2 c =
     let out = c .before .before .before .before .before .before .before .read .last .1 .1 .1 .0 in
     let n = c .before .before .before .refusal .given .0 .1 .0 in
-    ap toldOf (c .before .before .before .before .before .before .before .read .ensures)
-    ∙ ap (λ (a : Answer). toldOf (record { answer = a; buffer = out })) (c .before .before .before .refusal .given .1)
-    ∙ ap {B = TextRead} (λ (r : ℕ). record { answer = r; line = n; buffer = out }) (sym (c .wide .ensures ∙ c .before .refusal-number .ensures))
+    ap ihexOutcome (c .before .before .before .before .before .before .before .read .ensures)
+    ∙ ap (λ (a : TextAnswer). ihexOutcome (record { answer = a; buffer = out })) (c .before .before .before .refusal .given .1)
+    ∙ ap {B = IhexOutcome} (λ (r : ℕ). record { answer = r; line = n; buffer = out }) (sym (c .wide .ensures ∙ c .before .refusal-number .ensures))
 
 pub lertxuno-ihex-spec : {M : Type 1} → statement M
 lertxuno-ihex-spec =

@@ -11,14 +11,14 @@ use Rattle.machine.specs.declared.state.Device.{Device}
 use Rattle.device.specs.Fields.{deviceOf}
 use Rattle.capi.specs.State.{keyAt, hashesAt, stateLength, deviceIn}
 use Rattle.capi.proofs.StateLaws.{front-room, front-long, end-put, end-same, encode-is}
-use Rattle.capi.proofs.CallLaws.{length-found, unknown, unchanged, refused, accepted}
+use Rattle.capi.proofs.CallLaws.{length-stage-read, unknown, unchanged, refused, accepted}
 use borrow.Author.Needs.{needs}
 use Rattle.capi.proofs.lertxuno_receive.Statement.{statement}
 use Rattle.capi.proofs.lertxuno_receive.Tie as tie
 
 -- the bytes that came in have a state's length
 long : (c : tie.After-known-told) → length (c .before .before .before .before .before .before .before .before .args .state .now) ≡ stateLength
-long c = length-found _ (c .before .before .before .stage-in .ensures) (c .before .stage .given .1)
+long c = length-stage-read _ (c .before .before .before .stage-in .ensures) (c .before .stage .given .1)
 
 abbrev bytes : tie.After-receive-in-place → List ℕ
 bytes c = c .before .before .before .before .before .before .before .before .before .before .before .before .before .before .before .before .before .before .args .state .now

@@ -1,6 +1,6 @@
 use mathlib.Core.Path.{sym, ap, _∙_}
 use Prim.Native.Nat.{ℕ}
-use Rattle.capi.specs.Call.{Told, told}
+use Rattle.capi.specs.Call.{LengthOutcome, lengthOutcome}
 use borrow.Author.Needs.{needs}
 use Rattle.capi.proofs.report.Statement.{statement}
 use Rattle.capi.proofs.report.Tie as tie
@@ -23,7 +23,7 @@ returns c = search needs
 returns-2 : tie.Need-returns-2
 returns-2 c =
     let before = c .before .before .before .before .before .args .written .now in
-    ap {B = Told} (λ (n : ℕ). record { answer = n; written = before }) (c .wide .ensures ∙ c .before .refusal-number .ensures) ∙ sym (ap (told before) (c .before .before .before .sent2 .given .1))
+    ap {B = LengthOutcome} (λ (n : ℕ). record { answer = n; written = before }) (c .wide .ensures ∙ c .before .refusal-number .ensures) ∙ sym (ap (lengthOutcome before) (c .before .before .before .sent2 .given .1))
 
 pub report-spec : {M : Type 1} → statement M
 report-spec =

@@ -43,8 +43,8 @@ slice-aggregate-load-4 c = search needs
 load-requires : tie.Need-load-requires
 load-requires c κs = search needs
 
-written-requires : tie.Need-written-requires
-written-requires c κs = search needs
+sent-len-requires : tie.Need-sent-len-requires
+sent-len-requires c κs = search needs
 
 array-share-prefix-out : tie.Need-array-share-prefix-out
 array-share-prefix-out c = search needs
@@ -75,7 +75,7 @@ main-spec =
     slice-aggregate-load-3
     slice-aggregate-load-4
     load-requires
-    written-requires
+    sent-len-requires
     array-share-prefix-out
     slice-aggregate-write-all
     write-all-requires

@@ -53,14 +53,14 @@ blocks-put c =
     (e .0, omega (arith, y .blocks, e .0), put-start (c .put-blocks .result) (sym (e .0)) (e .1))
 
 -- and the kind 1 message behind them
-program-put : (c : tie.After-written) → (let b = c .before .before .before .before .before .before .before .put-blocks in
-    let s = c .before .before .before .before .before .before .before .before .before .before .before .before in (c .written .result ≡ leastLength Program + length (signature s))
+program-put : (c : tie.After-sent-len) → (let b = c .before .before .before .before .before .before .before .put-blocks in
+    let s = c .before .before .before .before .before .before .before .before .before .before .before .before in (c .sent-len .result ≡ leastLength Program + length (signature s))
     × Put (out s) (putMid (b .result) (length (b .last .1 .1 .1 .0) - b .result) (b .last .1 .1 .1 .0) (c .before .before .before .program .last .1 .1 .1 .1 .1 .0))
-    (messages s ++ programFor digest (this s) (signature s)) (b .result + c .written .result))
+    (messages s ++ programFor digest (this s) (signature s)) (b .result + c .sent-len .result))
 program-put c =
     let b = blocks-put (c .before .before .before .before .before .before .before) in
     let s = c .before .before .before .before .before .before .before .before .before .before .before .before in
-    program-behind (this s .image) (known s .sized) (c .written .ensures) (b .2) (this s .model) (this s .serial) (signature s) (omega (arith, b .1)) (c .before .before .before .program .ensures)
+    program-behind (this s .image) (known s .sized) (c .sent-len .ensures) (b .2) (this s .model) (this s .serial) (signature s) (omega (arith, b .1)) (c .before .before .before .program .ensures)
 
 wrong-size-requires : tie.Need-wrong-size-requires
 wrong-size-requires c κs = search needs
@@ -111,8 +111,8 @@ part-program-end c = search needs
 program-requires : tie.Need-program-requires
 program-requires c κs = search needs
 
-written-requires : tie.Need-written-requires
-written-requires c κs = search needs
+sent-len-requires : tie.Need-sent-len-requires
+sent-len-requires c κs = search needs
 
 add-end : tie.Need-add-end
 add-end c = omega (arith, blocks-put (c .before .before .before .before .before .before .before) .1, program-put c .0)
@@ -145,7 +145,7 @@ returns-3 c =
     let y = known s in
     let b = blocks-put (c .before .before .before .before .before .before .before .before .before .before .before .before .before) in
     let p = program-put (c .before .before .before .before .before .before) in
-    let end = c .before .before .before .before .before .before .before .before .before .before .before .before .before .put-blocks .result + c .before .before .before .before .before .before .written .result in
+    let end = c .before .before .before .before .before .before .before .before .before .before .before .before .before .put-blocks .result + c .before .before .before .before .before .before .sent-len .result in
     let room : end + trailerLength ≤ length (out s) = omega (arith, b .1, p .0) in
     let l : length (bundleFor digest (this s) [] (signature s)) ≡ end + trailerLength = length-bundle y (this s .model) (this s .serial) (signature s) ∙ omega (arith, b .0, y .blocks, p .0) in
     all-written (this s .image) (bundleFor digest (this s) [] (signature s)) (out s) (y .sized) (end + trailerLength) _ l room
@@ -167,7 +167,7 @@ pack-spec =
     part-program-start
     part-program-end
     program-requires
-    written-requires
+    sent-len-requires
     add-end
     cast-be32
     be32-requires

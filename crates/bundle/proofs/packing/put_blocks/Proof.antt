@@ -19,15 +19,15 @@ abbrev μ-loop : tie.MeasureT-loop
 μ-loop image len n out₀ at₀ number₀ out at number = n - number
 
 -- one message more
-more : (c : tie.After-written Inv-loop μ-loop) → (let l = c .before .before .before .before .before .before .loop in
-    let a = c .before .before .before .before .before .before .before .before .before .args in (l .at + c .written .result ≤ length (a .out .now))
+more : (c : tie.After-sent-len Inv-loop μ-loop) → (let l = c .before .before .before .before .before .before .loop in
+    let a = c .before .before .before .before .before .before .before .before .before .args in (l .at + c .sent-len .result ≤ length (a .out .now))
     × Put (a .out .now) (putMid (l .at) (length (l .out) - l .at) (l .out) (c .before .before .before .block .last .1 .1 .1 .0)) (blockMessages digest (inBlocks (a .image .now) (a .len)) (l .number + 1))
-    (l .at + c .written .result))
+    (l .at + c .sent-len .result))
 more c =
     let s = c .before .before .before .before .before .before .before .before .before in
     let l = c .before .before .before .before .before .before .loop in
     let e = s .pre .1 in
-    block-behind (inBlocks (s .args .image .now) (s .args .len)) (s .pre .0) (c .written .ensures) (l .number) (l .inv .0) (omega (arith, e)) (rw e at (s .pre .2)) (c .before .before .before .block .ensures)
+    block-behind (inBlocks (s .args .image .now) (s .args .len)) (s .pre .0) (c .sent-len .ensures) (l .number) (l .inv .0) (omega (arith, e)) (rw e at (s .pre .2)) (c .before .before .before .block .ensures)
 
 loop-holds : tie.Need-loop-holds Inv-loop μ-loop
 loop-holds c = (no-messages _ _, omega arith, omega arith)
@@ -47,8 +47,8 @@ part-block-end c = search needs
 block-requires : tie.Need-block-requires Inv-loop μ-loop
 block-requires c κs = search needs
 
-written-requires : tie.Need-written-requires Inv-loop μ-loop
-written-requires c κs = search needs
+sent-len-requires : tie.Need-sent-len-requires Inv-loop μ-loop
+sent-len-requires c κs = search needs
 
 add-at : tie.Need-add-at Inv-loop μ-loop
 add-at c = omega (arith, more c .0)
@@ -81,7 +81,7 @@ put-blocks-spec =
     part-block-start
     part-block-end
     block-requires
-    written-requires
+    sent-len-requires
     add-at
     loop-less
     loop-again

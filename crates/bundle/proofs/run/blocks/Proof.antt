@@ -33,8 +33,8 @@ due-len-requires c κs =
     let l = c .before .loop in
     (c .before .before .before .before .before .before .before .before .before .pre .0, l .inv .first, omega (arith, n .ensures))
 
-cut-requires : tie.Need-cut-requires Inv-loop μ-loop
-cut-requires c κs = c .before .before .loop .inv .inside
+message-end-requires : tie.Need-message-end-requires Inv-loop μ-loop
+message-end-requires c κs = c .before .before .loop .inv .inside
 
 sub-receive : tie.Need-sub-receive Inv-loop μ-loop
 sub-receive c = search needs
@@ -85,7 +85,7 @@ returns c =
     let s = c .before .before .before .before .before .before .before .before .before .before .before .before .before .before .before .before .before .before .before .before .before .before .before .before .before in
     let n = c .before .before .before .before .before .before .before .before .before .before .before .before .before .before .before .before .before .before .block-count in
     let few : n .result ≤ maxBlocks = few-blocks _ _ (s .pre .0) (n .ensures) in
-    let r = stopped _ _ _ _ _ _ _ _ (l .inv) (omega (arith, c .before .before .before .before .before .before .before .before .before .before .before .before .before .before .before .before .loop-test .taken)) few (s .pre .1) _ _ _ (c .before .before .before .before .before .before .before .before .before .before .before .before .before .before .before .due-len .ensures) (c .before .before .before .before .before .before .before .before .before .before .before .before .before .before .cut .ensures) (c .before .before .before .before .before .before .before .before .before .before .before .receive .ensures) _
+    let r = stopped _ _ _ _ _ _ _ _ (l .inv) (omega (arith, c .before .before .before .before .before .before .before .before .before .before .before .before .before .before .before .before .loop-test .taken)) few (s .pre .1) _ _ _ (c .before .before .before .before .before .before .before .before .before .before .before .before .before .before .before .due-len .ensures) (c .before .before .before .before .before .before .before .before .before .before .before .before .before .before .message-end .ensures) (c .before .before .before .before .before .before .before .before .before .before .before .receive .ensures) _
     (c .before .before .before .before .before .answer-number .ensures) (omega arith) (c .before .before .before .before .put-message .ensures) _ (c .enum-told2 .given .1) in
     (rerun (all-blocks _ _ _ (n .ensures)) (r .0), r .1)
 
@@ -106,7 +106,7 @@ loop-again c =
     let s = c .before .before .before .before .before .before .before .before .before .before .before .before .before .before .before .before .before .before .before .before .before .before .before .before .before in
     let n = c .before .before .before .before .before .before .before .before .before .before .before .before .before .before .before .before .before .before .block-count in
     let few : n .result ≤ maxBlocks = few-blocks _ _ (s .pre .0) (n .ensures) in
-    one-more _ _ _ _ _ _ _ _ (l .inv) (omega (arith, c .before .before .before .before .before .before .before .before .before .before .before .before .before .before .before .before .loop-test .taken)) few (s .pre .1) _ _ _ (c .before .before .before .before .before .before .before .before .before .before .before .before .before .before .before .due-len .ensures) (c .before .before .before .before .before .before .before .before .before .before .before .before .before .before .cut .ensures) (c .before .before .before .before .before .before .before .before .before .before .before .receive .ensures) _
+    one-more _ _ _ _ _ _ _ _ (l .inv) (omega (arith, c .before .before .before .before .before .before .before .before .before .before .before .before .before .before .before .before .loop-test .taken)) few (s .pre .1) _ _ _ (c .before .before .before .before .before .before .before .before .before .before .before .before .before .before .before .due-len .ensures) (c .before .before .before .before .before .before .before .before .before .before .before .before .before .before .message-end .ensures) (c .before .before .before .before .before .before .before .before .before .before .before .receive .ensures) _
     (c .before .before .before .before .before .answer-number .ensures) (omega arith) (c .before .before .before .before .put-message .ensures) (omega arith) (c .enum-told .given .1)
 
 same-length-3 : tie.Need-same-length-3 Inv-loop μ-loop
@@ -140,7 +140,7 @@ blocks-spec =
     block-count-requires
     loop-holds
     due-len-requires
-    cut-requires
+    message-end-requires
     sub-receive
     part-receive-start
     part-receive-end

@@ -3,7 +3,7 @@ use native.Mathlib.Omega.{arith}
 use lib.Seq.{length-take-le}
 use Rattle.bundle.specs.Text.{ascii}
 use Rattle.bundle.proofs.TextLaws.{message-short}
-use Rattle.bundle.proofs.WrittenLaws.{room}
+use Rattle.bundle.proofs.AppendedLaws.{room}
 use Rattle.bundle.proofs.PartLaws.{Somewhere, nothing, found}
 use Rattle.bundle.proofs.MessageLaws.{accepted-size, ran-nowhere, ran-refused, ran-on}
 use borrow.Author.Needs.{needs}
@@ -106,7 +106,7 @@ returns-3 c =
     let w = c .before .before .before .before .before .before .before .before .before .before .before .before .put-message2 .ensures in
     let r = c .before .before .before .before .blocks2 .ensures in
     let m = message-short (ascii "slip ") 0 (n .result) (omega arith) (omega arith) in (
-      ran-on _ _ _ _ (there (c .before .before .before .before .before .before .before .before .before .before .before .before .before .before .before .before .before .before .before .before .before .before .before)) _ (c .before .before .before .before .before .before .before .before .before .before .before .before .before .before .before .before .before .before .before .receive .ensures) _ (n .ensures) w (c .before .before .before .before .before .before .before .before .enum-told2 .given .1) (r .0) (omega (arith, s .pre .1, r .0 .written .end, r .1, w .end)),
+      ran-on _ _ _ _ (there (c .before .before .before .before .before .before .before .before .before .before .before .before .before .before .before .before .before .before .before .before .before .before .before)) _ (c .before .before .before .before .before .before .before .before .before .before .before .before .before .before .before .before .before .before .before .receive .ensures) _ (n .ensures) w (c .before .before .before .before .before .before .before .before .enum-told2 .given .1) (r .0) (omega (arith, s .pre .1, r .0 .appended .end, r .1, w .end)),
       omega (arith, r .1, w .end),
     )
 

@@ -8,7 +8,7 @@ use borrow.Fn.Kinds.{In}
 use borrow.Fn.PlainCycle.{Measures, is, falls, and}
 use Rattle.bundle.specs.Text.{decimal}
 use Rattle.bundle.proofs.TextLaws.{decimal-small, decimal-large}
-use Rattle.bundle.proofs.WrittenLaws.{length-kept, retold, joined}
+use Rattle.bundle.proofs.AppendedLaws.{length-kept, retold, joined}
 use Rattle.bundle.proofs.text.put_decimal.Reads as reads
 use Rattle.bundle.proofs.text.put_decimal.Kinds as kinds
 use Rattle.bundle.proofs.text.+put_decimal.Lts-put_decimal as lts

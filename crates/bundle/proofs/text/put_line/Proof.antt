@@ -3,7 +3,7 @@ use native.Mathlib.Omega.{arith}
 use lib.ListN.{length, length-append}
 use Rattle.bundle.specs.Text.{decimal, line}
 use Rattle.bundle.proofs.TextLaws.{length-line}
-use Rattle.bundle.proofs.WrittenLaws.{room, joined}
+use Rattle.bundle.proofs.AppendedLaws.{room, joined}
 use borrow.Author.Needs.{needs}
 use Rattle.bundle.proofs.text.put_line.Statement.{statement}
 use Rattle.bundle.proofs.text.put_line.Tie as tie

@@ -4,7 +4,7 @@ use native.Mathlib.Omega.{arith}
 use lib.ListN.{length, length-append}
 use Rattle.bundle.specs.Text.{decimal, line, messageLine}
 use Rattle.bundle.proofs.TextLaws.{length-message}
-use Rattle.bundle.proofs.WrittenLaws.{room, joined}
+use Rattle.bundle.proofs.AppendedLaws.{room, joined}
 use borrow.Author.Needs.{needs}
 use Rattle.bundle.proofs.text.put_message.Statement.{statement}
 use Rattle.bundle.proofs.text.put_message.Tie as tie

@@ -1,7 +1,7 @@
 use native.Mathlib.Omega.{arith}
 use Rattle.bundle.specs.Text.{ascii, stateWords}
 use Rattle.bundle.proofs.TextLaws.{line-short, state-is}
-use Rattle.bundle.proofs.WrittenLaws.{retold}
+use Rattle.bundle.proofs.AppendedLaws.{retold}
 use borrow.Author.Needs.{needs}
 use Rattle.bundle.proofs.text.put_state.Statement.{statement}
 use Rattle.bundle.proofs.text.put_state.Tie as tie

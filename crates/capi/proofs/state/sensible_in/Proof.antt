@@ -1,6 +1,6 @@
 use mathlib.Core.Path.{sym, _∙_}
-use Rattle.capi.specs.Found.{foundIn}
-use Rattle.capi.proofs.CallLaws.{found-none, length-found}
+use Rattle.capi.specs.StageRead.{stageReadOf}
+use Rattle.capi.proofs.CallLaws.{stage-read-none, length-stage-read}
 use Rattle.capi.proofs.StatusLaws.{sensible-none, tested}
 use borrow.Author.Needs.{needs}
 use Rattle.capi.proofs.state.sensible_in.Statement.{statement}
@@ -16,11 +16,11 @@ enum-told : tie.Need-enum-told
 enum-told c = search needs
 
 returns : tie.Need-returns
-unfolding foundIn
-returns c = rw (sensible-none _ (found-none _ (sym (c .before .before .stage-in .ensures) ∙ c .enum-told .given .1)))
+unfolding stageReadOf
+returns c = rw (sensible-none _ (stage-read-none _ (sym (c .before .before .stage-in .ensures) ∙ c .enum-told .given .1)))
 
 manifest-in-requires : tie.Need-manifest-in-requires
-manifest-in-requires c κs = length-found _ (c .before .before .before .stage-in .ensures) (c .before .stage .given .1)
+manifest-in-requires c κs = length-stage-read _ (c .before .before .before .stage-in .ensures) (c .before .stage .given .1)
 
 senseless-requires : tie.Need-senseless-requires
 senseless-requires c κs = search needs

@@ -17,7 +17,7 @@ use Rattle.device.proofs.accept.accept_block.Tie as tie
 
 -- a device that the block is accepted of
 abbrev device : tie.Start → Device
-device a = deviceOf (a .pre .2 .model) (a .pre .2 .key) (a .args .stage) (a .args .held) (a .args .hashes .now)
+device a = deviceOf (a .pre .2 .model) (a .pre .2 .key) (a .args .stage) (a .args .current) (a .args .hashes .now)
 
 accepted : (a : tie.Start) → BlockPassed digest valid (device a) (a .args .flash .now) (a .args .message .now)
 accepted a = block-passed digest valid _ _ _ (a .pre .1) (a .pre .2 .unrefused)
@@ -26,7 +26,7 @@ accepted a = block-passed digest valid _ _ _ (a .pre .1) (a .pre .2 .unrefused)
 awaited : (c : tie.After-next-of) → Awaits (device (c .before .before .before .before)) (c .next-of .result)
 awaited c = rw (c .next-of .ensures) (accepted (c .before .before .before .before) .awaited)
 
-is-due : (c : tie.After-next-of) → let a = c .before .before .before .before .args in Due (a .held .«block_len») (a .held .«image_len») (c .next-of .result) (a .message .now)
+is-due : (c : tie.After-next-of) → let a = c .before .before .before .before .args in Due (a .current .«block_len») (a .current .«image_len») (c .next-of .result) (a .message .now)
 is-due c = due _ _ _ _ (rw (c .next-of .ensures) (accepted (c .before .before .before .before) .long))
 
 next-of-requires : tie.Need-next-of-requires
@@ -51,7 +51,7 @@ write-block-requires c κs =
     let w = awaited n in
     let k = c .before .before .before .own-len .ensures in
     let l = ap length (c .block-in .ensures) ∙ length-block _ (s .args .message .now) (rw k (is-due n .long)) ∙ k in
-    (w .low, omega (arith, l, room (s .args .held) (s .args .flash .now) _ (accepted s .room) (w .low) (w .high)))
+    (w .low, omega (arith, l, room (s .args .current) (s .args .flash .now) _ (accepted s .room) (w .low) (w .high)))
 
 cast-advance : tie.Need-cast-advance
 cast-advance c = search needs
@@ -70,7 +70,7 @@ advance-requires c κs =
     let w = awaited n in
     let z = sized _ _ (w .size) in
     let e = c .before .before .before .before .before .before .before .before .before .count .ensures in
-    (s .pre .0, omega (arith, e, w .low, w .high), omega (arith, e, z .count), rest-long (s .args .held) _ _ _ (s .args .message .now) _ (w .low) e (c .before .before .before .before .before .before .before .before .own-len .ensures) (c .hashes-after .ensures) (is-due n))
+    (s .pre .0, omega (arith, e, w .low, w .high), omega (arith, e, z .count), rest-long (s .args .current) _ _ _ (s .args .message .now) _ (w .low) e (c .before .before .before .before .before .before .before .before .own-len .ensures) (c .hashes-after .ensures) (is-due n))
 
 stage-after-requires : tie.Need-stage-after-requires
 unfolding countOf

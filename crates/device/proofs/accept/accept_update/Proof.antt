@@ -53,7 +53,7 @@ same-length : tie.Need-same-length
 same-length c = search needs
 
 returns : tie.Need-returns
-returns c model key hashes held = update-is _ _ _ (c .before .before .before .before .before .before .before .before .manifest-in .ensures) (c .before .before .before .before .before .before .before .update-number .ensures) (c .before .before .before .before .before .before .own-len .ensures) (c .before .before .before .update-block .ensures) (c .before .before .write-block .ensures)
+returns c model key hashes current = update-is _ _ _ (c .before .before .before .before .before .before .before .before .manifest-in .ensures) (c .before .before .before .before .before .before .before .update-number .ensures) (c .before .before .before .before .before .before .own-len .ensures) (c .before .before .before .update-block .ensures) (c .before .before .write-block .ensures)
 
 pub accept-update-spec : {M : Type 1} → statement M
 accept-update-spec =

@@ -5,7 +5,7 @@ use Rattle.device.proofs.conditions.other_model.Tie as tie
 
 returns : tie.Need-returns
 unfolding otherModel
-returns c key stage held hashes = refl
+returns c key stage current hashes = refl
 
 pub other-model-spec : {M : Type 1} → statement M
 other-model-spec = tie.close (tie.spec returns)

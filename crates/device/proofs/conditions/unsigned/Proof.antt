@@ -10,7 +10,7 @@ verify-requires c κs = search needs
 
 returns : tie.Need-returns
 unfolding unsigned
-returns c model stage held hashes = ap not (c .verify .ensures)
+returns c model stage current hashes = ap not (c .verify .ensures)
 
 pub unsigned-spec : {M : Type 1} → statement M
 unsigned-spec = tie.close (tie.spec verify-requires returns)

@@ -17,7 +17,7 @@ use Rattle.device.proofs.judge.judge.Statement.{statement}
 use Rattle.device.proofs.judge.judge.Tie as tie
 
 abbrev device : tie.Start → Device
-device a = deviceOf (a .args .model) (a .args .key .now) (a .args .stage) (a .args .held) (a .args .hashes .now)
+device a = deviceOf (a .args .model) (a .args .key .now) (a .args .stage) (a .args .current) (a .args .hashes .now)
 
 -- the state makes sense
 sensible : (c : tie.Else1) (k : Kind) → let a = c .before .before .before .before .before .before in let es = refusals digest valid k (device a) (a .args .flash .now) (a .args .message .now) in Passes es (behind refusal.State es)

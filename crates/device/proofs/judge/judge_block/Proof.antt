@@ -18,7 +18,7 @@ use Rattle.device.proofs.judge.judge_block.Tie as tie
 
 -- the device of this model and with this key, which no test here looks at
 abbrev device : tie.Start → ℕ → List ℕ → Device
-device a model key = deviceOf model key (a .args .stage) (a .args .held) (a .args .hashes .now)
+device a model key = deviceOf model key (a .args .stage) (a .args .current) (a .args .hashes .now)
 
 -- the tests where i is the next number
 abbrev tests : tie.Start → ℕ → List ℕ → ℕ → List (Refusal × Bool)
@@ -53,7 +53,7 @@ compared : (c : tie.After-mismatch) (model : ℕ) (key : List ℕ) → let n = c
 compared c model key =
     let n = c .before .before .before .before .before .before .before in
     let a = n .before .before .before .before .before .before .args in
-    c .mismatch .ensures model key ∙ ap (λ (t : Stage). mismatch digest (deviceOf model key t (a .held) (a .hashes .now)) (n .next-of .result) (a .message .now)) (sym (awaited n model key .stage))
+    c .mismatch .ensures model key ∙ ap (λ (t : Stage). mismatch digest (deviceOf model key t (a .current) (a .hashes .now)) (n .next-of .result) (a .message .now)) (sym (awaited n model key .stage))
 
 same : (c : tie.Else5) (model : ℕ) (key : List ℕ) → Past refusal.Mismatch (c .before .before .before .before .before .before .before .before) model key
 unfolding ofBlock behind

@@ -13,7 +13,7 @@ use Rattle.device.proofs.judge.judge_manifest.Tie as tie
 
 -- no test up to that of this refusal applies
 abbrev Past : Refusal → tie.Start → (key hashes : List ℕ) → Type 0
-Past r s key hashes = let es = ofManifest (deviceOf (s .args .model) key (s .args .stage) (s .args .held) hashes) (s .args .manifest) in Passes es (behind r es)
+Past r s key hashes = let es = ofManifest (deviceOf (s .args .model) key (s .args .stage) (s .args .current) hashes) (s .args .manifest) in Passes es (behind r es)
 
 version : (c : tie.Else1) (key hashes : List ℕ) → Past refusal.Version (c .before .before) key hashes
 unfolding ofManifest behind

@@ -24,8 +24,8 @@ strays-needs c =
     (a .pre .0, a .pre .2, ap length (c .path-in .ensures) ∙ length-path-in _ (a .args .message .now) _ (a .pre .4) ∙ ap (λ k. hashLength * k) (a .pre .3))
 
 -- the old block and the new one, each with the siblings
-from : (c : tie.After-strays) → let a = c .before .before .before .before .before .before .before .args in c .strays .result ≡ strays digest (a .manifest) (a .number) (blocksOf (a .manifest) (a .flash .now) (pred (a .number))) (pathIn (a .len) (a .depth) (a .message .now)) (a .held .root)
-from c = let a = c .before .before .before .before .before .before .before .args in c .strays .ensures ∙ ap₂ (λ b y. strays digest (a .manifest) (a .number) b y (a .held .root)) (c .before .before .before .old-block .ensures) (c .before .before .before .before .path-in .ensures)
+from : (c : tie.After-strays) → let a = c .before .before .before .before .before .before .before .args in c .strays .result ≡ strays digest (a .manifest) (a .number) (blocksOf (a .manifest) (a .flash .now) (pred (a .number))) (pathIn (a .len) (a .depth) (a .message .now)) (a .current .root)
+from c = let a = c .before .before .before .before .before .before .before .args in c .strays .ensures ∙ ap₂ (λ b y. strays digest (a .manifest) (a .number) b y (a .current .root)) (c .before .before .before .old-block .ensures) (c .before .before .before .before .path-in .ensures)
 
 to : (c : tie.After-strays2) → let a = c .before .before .before .before .before .before .before .before .before .before .before .before .args in c .strays2 .result ≡ strays digest (a .manifest) (a .number) (updateBlock (a .len) (a .message .now)) (pathIn (a .len) (a .depth) (a .message .now)) (a .manifest .root)
 to c = let a = c .before .before .before .before .before .before .before .before .before .before .before .before .args in c .strays2 .ensures ∙ ap₂ (λ b y. strays digest (a .manifest) (a .number) b y (a .manifest .root)) (c .before .before .before .update-block .ensures) (c .before .before .before .before .before .before .before .before .before .path-in .ensures)

@@ -40,7 +40,7 @@ number j = j .before .update-number .result
 
 -- the device with these hashes, which no test here looks at
 abbrev device : tie.After-judge-successor → (hashes : List ℕ) → Device
-device j hashes = let a = start-of j .args in deviceOf (a .model) (a .key .now) (a .stage) (a .held) hashes
+device j hashes = let a = start-of j .args in deviceOf (a .model) (a .key .now) (a .stage) (a .current) hashes
 
 abbrev tests : tie.After-judge-successor → (hashes : List ℕ) → Manifest → ℕ → List (Refusal × Bool)
 tests j hashes s i = ofPathUpdate digest valid (device j hashes) (start-of j .args .flash .now) (message j) s i
@@ -73,12 +73,12 @@ turn c hashes = area (c .before .before) hashes past (sym (c .before .outside .e
 
 long : (c : tie.Else2) (hashes : List ℕ) → Past refusal.Length (c .before .before .before .before .before .before) hashes
 unfolding ofPathUpdate ofSuccessor ofManifest behind
-long c hashes = turn (c .before .before) hashes past (sym (c .before .cut-path .ensures) ∙ c .if2 .left)
+long c hashes = turn (c .before .before) hashes past (sym (c .before .below-least-path .ensures) ∙ c .if2 .left)
 
 -- the message has the block and its siblings whole
 enough : (c : tie.After-leaf-depth) → leastLength Update + c .before .own-len .result + hashLength * c .leaf-depth .result ≤ length (message (c .before .before .before .before .before .before .before .before))
 unfolding leastUpdate leastPath countOf
-enough c = rw (c .before .own-len .ensures, c .leaf-depth .ensures) (ltb-false _ _ (sym (c .before .before .before .cut-path .ensures) ∙ c .before .before .if2 .left))
+enough c = rw (c .before .own-len .ensures, c .leaf-depth .ensures) (ltb-false _ _ (sym (c .before .before .before .below-least-path .ensures) ∙ c .before .before .if2 .left))
 
 -- the verdict on manifest and signature, as they stand in the message
 verdict : (c : tie.After-unsigned) (hashes : List ℕ) → let j = c .before .before .before .before .before .before .before .before .before .before .before in c .unsigned .result ≡ unsigned valid (device j hashes) (manifestBytes (message j)) (pathSignature (size j) (depth j) (message j))
@@ -127,12 +127,12 @@ returns-2 : tie.Need-returns-2
 unfolding ofPathUpdate ofSuccessor ofManifest behind
 returns-2 c hashes = refused (area (c .before .before) hashes) (sym (c .before .outside .ensures) ∙ c .if1 .taken)
 
-cut-path-requires : tie.Need-cut-path-requires
-cut-path-requires c κs = (known (c .before .before) .0, within c)
+below-least-path-requires : tie.Need-below-least-path-requires
+below-least-path-requires c κs = (known (c .before .before) .0, within c)
 
 returns-3 : tie.Need-returns-3
 unfolding ofPathUpdate ofSuccessor ofManifest behind
-returns-3 c hashes = refused (turn (c .before .before) hashes) (sym (c .before .cut-path .ensures) ∙ c .if2 .taken)
+returns-3 c hashes = refused (turn (c .before .before) hashes) (sym (c .before .below-least-path .ensures) ∙ c .if2 .taken)
 
 own-len-requires : tie.Need-own-len-requires
 own-len-requires c κs = inside _ _ (within (c .before .before))
@@ -177,7 +177,7 @@ judge-path-update-spec =
     returns
     outside-requires
     returns-2
-    cut-path-requires
+    below-least-path-requires
     returns-3
     own-len-requires
     leaf-depth-requires

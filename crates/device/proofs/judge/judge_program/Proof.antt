@@ -18,7 +18,7 @@ use Rattle.device.proofs.judge.judge_program.Tie as tie
 
 -- the device with these hashes, which no test here looks at
 abbrev device : tie.Start → (hashes : List ℕ) → Device
-device a hashes = deviceOf (a .args .model) (a .args .key .now) (a .args .stage) (a .args .held) hashes
+device a hashes = deviceOf (a .args .model) (a .args .key .now) (a .args .stage) (a .args .current) hashes
 
 -- the tests of a message that carries the manifest s
 abbrev tests : tie.Start → (hashes : List ℕ) → Manifest → List (Refusal × Bool)

@@ -15,7 +15,7 @@ use Rattle.device.proofs.judge.judge_successor.Tie as tie
 
 -- the device with this key and these hashes, which no test here looks at
 abbrev device : tie.Start → (key hashes : List ℕ) → Device
-device a key hashes = deviceOf (a .args .model) key (a .args .stage) (a .args .held) hashes
+device a key hashes = deviceOf (a .args .model) key (a .args .stage) (a .args .current) hashes
 
 abbrev tests : tie.Start → (key hashes : List ℕ) → List (Refusal × Bool)
 tests a key hashes = ofSuccessor (device a key hashes) (a .args .flash .now) (a .args .manifest)

@@ -20,7 +20,7 @@ use Rattle.machine.specs.Flash.{updated}
 use Rattle.machine.specs.Refusals.{lacksRoot, unsigned, ofManifest, ofSuccessor, ofUpdate}
 use Rattle.machine.proofs.RefusalLaws.{behind, Passes, _past_}
 use Rattle.device.specs.Fields.{deviceOf}
-use Rattle.device.proofs.JudgeLaws.{retold, refused, accepted, refused-in, past-all, Known, successor-known, held-known}
+use Rattle.device.proofs.JudgeLaws.{retold, refused, accepted, refused-in, past-all, Known, successor-known, current-known}
 use borrow.Author.Needs.{needs}
 use Rattle.device.proofs.judge.judge_update.Statement.{statement}
 use Rattle.device.proofs.judge.judge_update.Tie as tie
@@ -40,7 +40,7 @@ number j = j .before .update-number .result
 
 -- the device with these hashes, which no test here looks at
 abbrev device : tie.After-judge-successor → (hashes : List ℕ) → Device
-device j hashes = let a = start-of j .args in deviceOf (a .model) (a .key .now) (a .stage) (a .held) hashes
+device j hashes = let a = start-of j .args in deviceOf (a .model) (a .key .now) (a .stage) (a .current) hashes
 
 abbrev tests : tie.After-judge-successor → (hashes : List ℕ) → Manifest → ℕ → List (Refusal × Bool)
 tests j hashes s i = ofUpdate digest valid (device j hashes) (start-of j .args .flash .now) (message j) s i
@@ -70,12 +70,12 @@ turn c hashes = intact (c .before .before) hashes past (sym (c .before .outside 
 
 long : (c : tie.Else3) (hashes : List ℕ) → Past refusal.Length (c .before .before .before .before .before .before .before .before) hashes
 unfolding ofUpdate ofSuccessor ofManifest behind
-long c hashes = turn (c .before .before) hashes past (sym (c .before .cut-update .ensures) ∙ c .if3 .left)
+long c hashes = turn (c .before .before) hashes past (sym (c .before .below-least-update .ensures) ∙ c .if3 .left)
 
 -- the message has the block whole
 enough : (c : tie.After-own-len) → leastLength Update + c .own-len .result ≤ length (message (c .before .before .before .before .before .before .before .before .before))
 unfolding leastUpdate
-enough c = rw (c .own-len .ensures) (ltb-false _ _ (sym (c .before .before .cut-update .ensures) ∙ c .before .if3 .left))
+enough c = rw (c .own-len .ensures) (ltb-false _ _ (sym (c .before .before .below-least-update .ensures) ∙ c .before .if3 .left))
 
 -- the verdict on manifest and signature, as they stand in the message
 verdict : (c : tie.After-unsigned) (hashes : List ℕ) → let j = c .before .before .before .before .before .before .before .before .before .before .before .before in let s = manifest j in
@@ -99,7 +99,7 @@ rooted c =
     ∙ ap (λ b. lacksRoot digest s (withBlock (s .«block_len») (start-of j .args .flash .now) (number j) b)) (c .before .update-block .ensures ∙ ap (λ k. updateBlock k (message j)) (c .before .before .before .before .before .before .own-len .ensures))
     ∙ ap (λ i. lacksRoot digest s (written i)) (j .before .update-number .ensures)
 
--- what the tests have shown of the new manifest and the held one
+-- what the tests have shown of the new manifest and the current one
 known : (c : tie.After-enum-told) → let j = c .before .before in Known (manifest j) (start-of j .args .flash .now)
 known c = successor-known (device (c .before .before) []) _ _ (c .before .before .judge-successor .ensures _ _) (c .enum-told .given .1)
 
@@ -129,7 +129,7 @@ returns c hashes =
     e ∙ refused-in (ofSuccessor (device j hashes) (start-of j .args .flash .now) (manifest j)) _ (told j hashes) (sym e ∙ j .judge-successor .ensures _ _)
 
 lacks-root-requires : tie.Need-lacks-root-requires
-lacks-root-requires c κs = held-known (device (c .before .before) []) _ _ (c .before .before .judge-successor .ensures _ _) (c .enum-told .given .1)
+lacks-root-requires c κs = current-known (device (c .before .before) []) _ _ (c .before .before .judge-successor .ensures _ _) (c .enum-told .given .1)
 
 returns-2 : tie.Need-returns-2
 unfolding ofUpdate ofSuccessor ofManifest behind
@@ -142,12 +142,12 @@ returns-3 : tie.Need-returns-3
 unfolding ofUpdate ofSuccessor ofManifest behind
 returns-3 c hashes = refused (intact (c .before .before) hashes) (sym (c .before .outside .ensures) ∙ c .if2 .taken)
 
-cut-update-requires : tie.Need-cut-update-requires
-cut-update-requires c κs = (known (c .before .before .before .before) .0, within c)
+below-least-update-requires : tie.Need-below-least-update-requires
+below-least-update-requires c κs = (known (c .before .before .before .before) .0, within c)
 
 returns-4 : tie.Need-returns-4
 unfolding ofUpdate ofSuccessor ofManifest behind
-returns-4 c hashes = refused (turn (c .before .before) hashes) (sym (c .before .cut-update .ensures) ∙ c .if3 .taken)
+returns-4 c hashes = refused (turn (c .before .before) hashes) (sym (c .before .below-least-update .ensures) ∙ c .if3 .taken)
 
 own-len-requires : tie.Need-own-len-requires
 own-len-requires c κs = inside _ _ (within (c .before .before))
@@ -196,7 +196,7 @@ judge-update-spec =
     returns-2
     outside-requires
     returns-3
-    cut-update-requires
+    below-least-update-requires
     returns-4
     own-len-requires
     manifest-bytes-requires

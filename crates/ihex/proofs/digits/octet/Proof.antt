@@ -1,4 +1,4 @@
-use Rattle.ihex.specs.Found.{octetAt}
+use Rattle.ihex.specs.Code.{octetAt}
 use borrow.Author.Needs.{needs}
 use Rattle.ihex.proofs.digits.octet.Statement.{statement}
 use Rattle.ihex.proofs.digits.octet.Tie as tie

@@ -2,7 +2,7 @@ use Prim.Native.Nat.{_-_}
 use native.Mathlib.Omega.{arith}
 use lib.ListN.{length, drop}
 use Rattle.ihex.specs.Line.{lineOf}
-use Rattle.ihex.specs.Found.{firstLine, Steps}
+use Rattle.ihex.specs.Code.{firstLine, Steps}
 use Rattle.ihex.proofs.JudgeLaws.{Judging, judging-start, judging-missing, judging-fault, judging-done, judging-behind, judging-next, line-at, end-within, end-past}
 use borrow.Author.Needs.{needs}
 use Rattle.ihex.proofs.judge.judge.Statement.{statement}

@@ -2,7 +2,7 @@ use mathlib.Core.Path.{_≡_}
 use Prim.Native.Nat.{_+_, _-_, _≤_}
 use native.Mathlib.Omega.{arith}
 use lib.ListN.{length, drop}
-use Rattle.ihex.specs.Found.{firstLine}
+use Rattle.ihex.specs.Code.{firstLine}
 use Rattle.ihex.proofs.LineLaws.{first-past, first-ends, first-goes}
 use borrow.Author.Needs.{needs}
 use Rattle.ihex.proofs.line.line_end.Statement.{statement}

@@ -5,7 +5,7 @@ use native.Mathlib.Omega.{arith}
 use lib.ListN.{length, drop, getD}
 use Rattle.ihex.specs.Line.{recordIn}
 use Rattle.ihex.specs.Text.{lines}
-use Rattle.ihex.specs.Found.{recordFound}
+use Rattle.ihex.specs.Code.{recordRead}
 use Rattle.ihex.proofs.JudgeLaws.{line-at, end-within, line-first, line-later, line-none, no-record}
 use borrow.Author.Needs.{needs}
 use Rattle.ihex.proofs.line.record_at.Statement.{statement}
@@ -23,7 +23,7 @@ loop-holds c = (omega arith, refl)
 returns : tie.Need-returns Inv-loop μ-loop
 returns c =
     let l = c .before .before .loop in
-    sym (ap (λ (s : List ℕ). recordFound (recordIn s)) (sym (l .inv .1) ∙ line-none _ (l .at) (c .before .before .before .before .args .number - l .i) (omega arith)) ∙ ap recordFound no-record)
+    sym (ap (λ (s : List ℕ). recordRead (recordIn s)) (sym (l .inv .1) ∙ line-none _ (l .at) (c .before .before .before .before .args .number - l .i) (omega arith)) ∙ ap recordRead no-record)
 
 line-end-requires : tie.Need-line-end-requires Inv-loop μ-loop
 line-end-requires c κs = search needs
@@ -62,7 +62,7 @@ returns-2 c =
     let l = c .before .before .before .before .loop in
     let text = c .before .before .before .before .before .before .args .text .now in
     let z : c .before .before .before .before .before .before .args .number - l .i ≡ 0 = omega arith in
-    c .record-in .ensures ∙ ap (λ (s : List ℕ). recordFound (recordIn s)) (line-at text (l .at) (c .before .before .line-end2 .ensures) ∙ sym (line-first (drop (l .at) text)) ∙ (rw z at (l .inv .1)))
+    c .record-in .ensures ∙ ap (λ (s : List ℕ). recordRead (recordIn s)) (line-at text (l .at) (c .before .before .line-end2 .ensures) ∙ sym (line-first (drop (l .at) text)) ∙ (rw z at (l .inv .1)))
 
 pub record-at-spec : {M : Type 1} → statement M
 record-at-spec =

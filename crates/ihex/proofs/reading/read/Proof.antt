@@ -5,9 +5,9 @@ use Prim.Native.Nat.{ℕ}
 use native.Mathlib.Omega.{arith}
 use lib.ListN.{length, take, drop}
 use lib.Seq.{length-take-le}
-use Rattle.ihex.specs.declared.reading.Answer.{Answer}
+use Rattle.ihex.specs.declared.reading.TextAnswer.{TextAnswer}
 use Rattle.ihex.specs.Text.{Byte, imageOf}
-use Rattle.ihex.specs.Read.{wrongLength, judged, names, Outcome}
+use Rattle.ihex.specs.Read.{wrongLength, judged, names, TextOutcome}
 use Rattle.ihex.proofs.ReadLaws.{read-size, read-area, read-names, read-fault, answer-names, answer-fault}
 use borrow.Author.Needs.{needs}
 use Rattle.ihex.proofs.reading.read.Statement.{statement}
@@ -59,13 +59,13 @@ returns-3 c =
     let a = c .before .before .before .before .before .before .before .before .before .before .before .before .args in
     let w : c .before .before .write .last .1 .1 .0 ≡ imageOf (a .base) (a .len) (g .0) = (rw n at (c .before .before .write .ensures)) (g .0) (g .1) in
     read-names _ _ _ _ (g .0) (sized (c .before .before .before .before .before .before .before)) (omega arith) (g .1)
-    ∙ ap₂ {C = Outcome} (λ (x : Answer) (y : List ℕ). record { answer = x; buffer = y ++ drop (a .len) (a .out .now) }) (sym (c .before .before .before .before .enum-told .given .1)) (sym w)
+    ∙ ap₂ {C = TextOutcome} (λ (x : TextAnswer) (y : List ℕ). record { answer = x; buffer = y ++ drop (a .len) (a .out .now) }) (sym (c .before .before .before .before .enum-told .given .1)) (sym w)
 
 returns-4 : tie.Need-returns-4
 returns-4 c =
     let e = c .enum-told2 .given .1 in
     read-fault _ _ _ _ _ _ (sized (c .before .before .before)) (omega arith) (answer-fault _ _ _ (sym (c .before .before .judge .ensures) ∙ e))
-    ∙ ap (λ (x : Answer). record { answer = x; buffer = c .before .before .before .before .before .before .before .before .args .out .now }) (sym e)
+    ∙ ap (λ (x : TextAnswer). record { answer = x; buffer = c .before .before .before .before .before .before .before .before .args .out .now }) (sym e)
 
 pub read-spec : {M : Type 1} → statement M
 read-spec =

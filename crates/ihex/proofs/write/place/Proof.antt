@@ -6,7 +6,7 @@ use native.Mathlib.Omega.{arith}
 use lib.ListN.{length}
 use lib.Seq.{paste}
 use Rattle.ihex.specs.Line.{Line, data00, lineOf}
-use Rattle.ihex.specs.Found.{dataIn}
+use Rattle.ihex.specs.Code.{dataIn}
 use Rattle.ihex.proofs.StepLaws.{fits, is-broken, is-end, is-upper, is-data}
 use Rattle.ihex.proofs.PlaceLaws.{DataInside, inside, places-nothing, places-empty, places-data}
 use borrow.Author.Needs.{needs}

@@ -5,8 +5,8 @@ use lib.ListN.{length, length-set}
 use lib.Seq.{paste, paste-zero}
 use Rattle.octets.proofs.CopyLaws.{paste-next}
 use Rattle.ihex.specs.Line.{lineOf}
-use Rattle.ihex.specs.Found.{dataIn}
-use Rattle.ihex.proofs.FoundLaws.{data-at}
+use Rattle.ihex.specs.Code.{dataIn}
+use Rattle.ihex.proofs.LineReadLaws.{data-at}
 use borrow.Author.Needs.{needs}
 use Rattle.ihex.proofs.write.put.Statement.{statement}
 use Rattle.ihex.proofs.write.put.Tie as tie

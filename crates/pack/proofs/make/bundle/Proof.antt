@@ -10,14 +10,14 @@ use Rattle.pack.proofs.make.bundle.Tie as tie
 pack-requires : tie.Need-pack-requires
 pack-requires c κs = search needs
 
-outcome-requires : tie.Need-outcome-requires
-outcome-requires c κs = search needs
+made-of-requires : tie.Need-made-of-requires
+made-of-requires c κs = search needs
 
 same-length : tie.Need-same-length
 same-length c = search needs
 
 returns : tie.Need-returns
-returns c = (told (c .before .before .before .pack .ensures) (c .outcome .ensures), bundle-fits _ _ _ _ (c .before .before .before .pack .ensures) (ap (λ (x : Made). x .len) (c .outcome .ensures)) (omega arith))
+returns c = (told (c .before .before .before .pack .ensures) (c .made-of .ensures), bundle-fits _ _ _ _ (c .before .before .before .pack .ensures) (ap (λ (x : Made). x .len) (c .made-of .ensures)) (omega arith))
 
 pub bundle-spec : {M : Type 1} → statement M
-bundle-spec = tie.close (tie.spec pack-requires outcome-requires same-length returns)
+bundle-spec = tie.close (tie.spec pack-requires made-of-requires same-length returns)

@@ -1,8 +1,8 @@
 use mathlib.Core.Path.{_∙_}
-use Rattle.capi.proofs.CallLaws.{none-intact, length-found, checked}
+use Rattle.capi.proofs.CallLaws.{none-boot-check, length-stage-read, checked}
 use borrow.Author.Needs.{needs}
-use Rattle.capi.proofs.lertxuno_intact.Statement.{statement}
-use Rattle.capi.proofs.lertxuno_intact.Tie as tie
+use Rattle.capi.proofs.lertxuno_boot_check.Statement.{statement}
+use Rattle.capi.proofs.lertxuno_boot_check.Tie as tie
 
 stage-in-requires : tie.Need-stage-in-requires
 stage-in-requires c κs = search needs
@@ -14,10 +14,10 @@ enum-told : tie.Need-enum-told
 enum-told c = search needs
 
 returns : tie.Need-returns
-returns c = none-intact _ (c .before .before .stage-in .ensures) _ (c .enum-told .given .1)
+returns c = none-boot-check _ (c .before .before .stage-in .ensures) _ (c .enum-told .given .1)
 
 device-in-requires : tie.Need-device-in-requires
-device-in-requires c κs = length-found _ (c .before .before .before .stage-in .ensures) (c .before .stage .given .1)
+device-in-requires c κs = length-stage-read _ (c .before .before .before .stage-in .ensures) (c .before .stage .given .1)
 
 boot-check-requires : tie.Need-boot-check-requires
 boot-check-requires c κs = search needs
@@ -34,8 +34,8 @@ returns-2 c =
     let s = b .before .before .before in
     checked _ (s .before .before .stage-in .ensures) _ (s .stage .given .1) (b .before .device-in .ensures) (b .boot-check .ensures) (c .wide .ensures ∙ c .before .answer-number .ensures)
 
-pub lertxuno-intact-spec : {M : Type 1} → statement M
-lertxuno-intact-spec =
+pub lertxuno-boot-check-spec : {M : Type 1} → statement M
+lertxuno-boot-check-spec =
     tie.close
     (tie.spec
     stage-in-requires

@@ -12,23 +12,23 @@ use borrow.Author.Tests.{eq-eqb, ne-eqb}
 use Rattle.octets.specs.Octets.{number, part}
 use Rattle.octets.proofs.NumberLaws.{number-two}
 use Rattle.ihex.specs.declared.record.Record as code
-use Rattle.ihex.specs.declared.record.Found.{Found}
-use Rattle.ihex.specs.declared.record.Found.the-variants.{Sound, Broken}
+use Rattle.ihex.specs.declared.record.RecordRead.{RecordRead}
+use Rattle.ihex.specs.declared.record.RecordRead.the-variants.{Sound, Broken}
 use Rattle.ihex.specs.declared.line.Line.the-variants as line
 use Rattle.ihex.specs.Line.{Record, recordIn, Line, data00, end01, upper04, meaning, lineOf}
 use Rattle.ihex.specs.Text.{placed}
 use Rattle.ihex.specs.Claims.{Once, OnceInLine}
-use Rattle.ihex.specs.Found.{octetAt, recordFound, lineFound, dataIn}
+use Rattle.ihex.specs.Code.{octetAt, recordRead, lineRead, dataIn}
 use Rattle.ihex.proofs.NamedLaws.{placed-once}
 use Rattle.ihex.proofs.RecordLaws.{recordWith, Parts, of-parts, from-record, parts-size, octet-is, octet-small, data-size}
 
 -- What a line says, from the record that the code found in it.
 module _ (l : List ℕ) where
-  pub found-none : {f : Found} → f ≡ recordFound (recordIn l) → f ≡ Broken → line.Broken ≡ lineFound (lineOf l)
+  pub read-none : {f : RecordRead} → f ≡ recordRead (recordIn l) → f ≡ Broken → line.Broken ≡ lineRead (lineOf l)
   unfolding lineOf bind
-  found-none {f} e b = go (recordIn l) (sym b ∙ e)
+  read-none {f} e b = go (recordIn l) (sym b ∙ e)
     where
-      go : (o : Option Record) → Broken ≡ recordFound o → line.Broken ≡ lineFound (bind o meaning)
+      go : (o : Option Record) → Broken ≡ recordRead o → line.Broken ≡ lineRead (bind o meaning)
       go none e = refl
       go (some r) e = let z : _≡_ {A = ℕ} 0 1 = cc in absurd (omega arith)
 
@@ -40,10 +40,10 @@ module _ (l : List ℕ) where
     pub type : x .kind ≡ recordWith bs .type
     pub count : x .count ≡ getD bs 0 0
 
-  pub finds : {f : Found} {x : code.Record} → f ≡ recordFound (recordIn l) → f ≡ Sound x → Finds x
+  pub finds : {f : RecordRead} {x : code.Record} → f ≡ recordRead (recordIn l) → f ≡ Sound x → Finds x
   finds {f} {x} e s = go (recordIn l) refl (sym s ∙ e)
     where
-      go : (o : Option Record) → recordIn l ≡ o → Sound x ≡ recordFound o → Finds x
+      go : (o : Option Record) → recordIn l ≡ o → Sound x ≡ recordRead o → Finds x
       go none g e = let z : _≡_ {A = ℕ} 0 1 = cc in absurd (omega arith)
       go (some r) g e =
           let h = from-record l r g in
@@ -70,21 +70,21 @@ module _ (l : List ℕ) where
     type-is : {t : ℕ} → x .kind ≡ t → r .type ≡ t
     type-is e = sym (f .type) ∙ e
 
-    pub found-data : x .kind ≡ 0 → line.Data (x .address) (x .count) ≡ lineFound (lineOf l)
+    pub read-data : x .kind ≡ 0 → line.Data (x .address) (x .count) ≡ lineRead (lineOf l)
     unfolding meaning
-    found-data e = rw (line-is, type-is e, f .address, sym count-of)
+    read-data e = rw (line-is, type-is e, f .address, sym count-of)
 
-    pub found-end : x .kind ≡ 1 → x .count ≡ 0 → line.End ≡ lineFound (lineOf l)
+    pub read-end : x .kind ≡ 1 → x .count ≡ 0 → line.End ≡ lineRead (lineOf l)
     unfolding meaning
-    found-end e k = rw (line-is, type-is e, eq-eqb (length (r .bytes)) 0 (count-of ∙ k))
+    read-end e k = rw (line-is, type-is e, eq-eqb (length (r .bytes)) 0 (count-of ∙ k))
 
-    pub found-long-end : x .kind ≡ 1 → (x .count ≡ 0 → ⊥) → line.Broken ≡ lineFound (lineOf l)
+    pub read-long-end : x .kind ≡ 1 → (x .count ≡ 0 → ⊥) → line.Broken ≡ lineRead (lineOf l)
     unfolding meaning
-    found-long-end e k = rw (line-is, type-is e, ne-eqb (length (r .bytes)) 0 (λ g. k (sym count-of ∙ g)))
+    read-long-end e k = rw (line-is, type-is e, ne-eqb (length (r .bytes)) 0 (λ g. k (sym count-of ∙ g)))
 
-    pub found-upper : {v : ℕ} → x .kind ≡ 4 → x .count ≡ 2 → v ≡ octetAt l 4 * 256 + octetAt l 5 → line.Upper v ≡ lineFound (lineOf l)
+    pub read-upper : {v : ℕ} → x .kind ≡ 4 → x .count ≡ 2 → v ≡ octetAt l 4 * 256 + octetAt l 5 → line.Upper v ≡ lineRead (lineOf l)
     unfolding meaning
-    found-upper {v} e k g =
+    read-upper {v} e k g =
         let c : getD (f .bs) 0 0 ≡ 2 = sym (f .count) ∙ k in
         let h : number (r .bytes) ≡ v =
         ap (λ (n : ℕ). number (part 4 n (f .bs))) c
@@ -93,20 +93,20 @@ module _ (l : List ℕ) where
         in
         rw (line-is, type-is e, eq-eqb (length (r .bytes)) 2 (count-of ∙ k), h)
 
-    pub found-wrong-upper : x .kind ≡ 4 → (x .count ≡ 2 → ⊥) → line.Broken ≡ lineFound (lineOf l)
+    pub read-wrong-upper : x .kind ≡ 4 → (x .count ≡ 2 → ⊥) → line.Broken ≡ lineRead (lineOf l)
     unfolding meaning
-    found-wrong-upper e k = rw (line-is, type-is e, ne-eqb (length (r .bytes)) 2 (λ g. k (sym count-of ∙ g)))
+    read-wrong-upper e k = rw (line-is, type-is e, ne-eqb (length (r .bytes)) 2 (λ g. k (sym count-of ∙ g)))
 
-    pub found-other : (x .kind ≡ 0 → ⊥) → (x .kind ≡ 1 → ⊥) → (x .kind ≡ 4 → ⊥) → line.Broken ≡ lineFound (lineOf l)
+    pub read-other : (x .kind ≡ 0 → ⊥) → (x .kind ≡ 1 → ⊥) → (x .kind ≡ 4 → ⊥) → line.Broken ≡ lineRead (lineOf l)
     unfolding meaning
-    found-other a b c =
+    read-other a b c =
         rw (line-is, ne-eqb (r .type) 0 (λ e. a (f .type ∙ e)), ne-eqb (r .type) 1 (λ e. b (f .type ∙ e)), ne-eqb (r .type) 4 (λ e. c (f .type ∙ e)))
 
-    pub found-long : 12 + 2 * x .count ≤ length l
-    found-long = omega (arith, parts-size (f .parts), f .parts .count, f .parts .ended, f .count)
+    pub read-long : 12 + 2 * x .count ≤ length l
+    read-long = omega (arith, parts-size (f .parts), f .parts .count, f .parts .ended, f .count)
 
-    pub found-value : x .count ≡ 2 → octetAt l 4 * 256 + octetAt l 5 < 65536
-    found-value k =
+    pub read-value : x .count ≡ 2 → octetAt l 4 * 256 + octetAt l 5 < 65536
+    read-value k =
         let h : 6 < length (f .bs) = omega (arith, f .parts .count, f .count) in
         omega (arith, octet-small (f .parts) 4 (omega arith), octet-small (f .parts) 5 (omega arith))
 

@@ -1,4 +1,4 @@
--- For the code alone: what it finds, as its own types say it.
+-- For the code alone: what it reads, as its own types say it.
 use mathlib.Core.Path.{_≡_}
 use mathlib.Core.Bool.{Bool, true, false, cond, _&&_, _||_}
 use mathlib.Core.List.{List, [], _∷_, _++_}
@@ -8,14 +8,14 @@ use lib.Dec.{leb, ltb, eqb}
 use lib.ListN.{length, getD}
 use Rattle.wire.specs.declared.refusal.Refusal.{Refusal}
 use Rattle.wire.specs.Refusal.{firstThatApplies}
-use Rattle.ihex.specs.declared.record.Found.{Found}
-use Rattle.ihex.specs.declared.record.Found.the-variants.{Sound, Broken}
+use Rattle.ihex.specs.declared.record.RecordRead.{RecordRead}
+use Rattle.ihex.specs.declared.record.RecordRead.the-variants.{Sound, Broken}
 use Rattle.ihex.specs.declared.line.Line as codeLine
 use Rattle.ihex.specs.declared.line.Line.the-variants as line
 use Rattle.ihex.specs.declared.judge.Step.{Step}
 use Rattle.ihex.specs.declared.judge.Step.the-variants.{Next, End, Fault}
-use Rattle.ihex.specs.declared.reading.Answer.{Answer}
-use Rattle.ihex.specs.declared.reading.Answer.the-variants.{Read, Refused}
+use Rattle.ihex.specs.declared.reading.TextAnswer.{TextAnswer}
+use Rattle.ihex.specs.declared.reading.TextAnswer.the-variants.{Read, Refused}
 use Rattle.ihex.specs.Line.{LF, digit, Record, sum, Line, data00, end01, upper04}
 use Rattle.ihex.specs.Text.{Byte, anyOutside, isNamed, anyRepeated, imageOf}
 use Rattle.ihex.specs.Read.{wrongLength, namedBy, upperAfter, isEnd, Judged, names, fault, refusals}
@@ -34,15 +34,15 @@ abbrev pub sumOf : ℕ → Option (List ℕ) → ℕ
 sumOf a none = 256
 sumOf a (some bs) = (a + sum bs) % 256
 
-abbrev pub recordFound : Option Record → Found
-recordFound none = Broken
-recordFound (some r) = Sound (record { address = r .address; kind = r .type; count = length (r .bytes) })
+abbrev pub recordRead : Option Record → RecordRead
+recordRead none = Broken
+recordRead (some r) = Sound (record { address = r .address; kind = r .type; count = length (r .bytes) })
 
-abbrev pub lineFound : Option Line → codeLine.Line
-lineFound none = line.Broken
-lineFound (some (data00 a vs)) = line.Data a (length vs)
-lineFound (some end01) = line.End
-lineFound (some (upper04 v)) = line.Upper v
+abbrev pub lineRead : Option Line → codeLine.Line
+lineRead none = line.Broken
+lineRead (some (data00 a vs)) = line.Data a (length vs)
+lineRead (some end01) = line.End
+lineRead (some (upper04 v)) = line.Upper v
 
 -- the bytes of a line's data
 abbrev pub dataIn : Option Line → List ℕ
@@ -92,6 +92,6 @@ pub record Places (base k u : ℕ) (x : Option Line) (before : List ℕ) (r : �
   pub upper : r ≡ upperAfter u x
   pub image : (bs : List Byte) → anyRepeated bs (namedBy u x) ≡ false → before ≡ imageOf base k bs → after ≡ imageOf base k (bs ++ namedBy u x)
 
-abbrev pub answerFound : Judged → Answer
-answerFound (names bs) = Read
-answerFound (fault r n) = Refused r n
+abbrev pub textAnswer : Judged → TextAnswer
+textAnswer (names bs) = Read
+textAnswer (fault r n) = Refused r n

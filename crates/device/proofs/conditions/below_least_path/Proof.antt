@@ -4,8 +4,8 @@ use lib.ListN.{length}
 use Rattle.wire.specs.Geometry.{countOf}
 use Rattle.wire.proofs.SizeLaws.{inside}
 use borrow.Author.Needs.{needs}
-use Rattle.device.proofs.conditions.cut_path.Statement.{statement}
-use Rattle.device.proofs.conditions.cut_path.Tie as tie
+use Rattle.device.proofs.conditions.below_least_path.Statement.{statement}
+use Rattle.device.proofs.conditions.below_least_path.Tie as tie
 
 cast-least-path : tie.Need-cast-least-path
 cast-least-path c = search needs
@@ -20,5 +20,5 @@ least-path-requires c κs = let p = c .before .before .before .pre in let i = in
 returns : tie.Need-returns
 returns c = ap (λ k. ltb (length (c .before .before .before .before .args .message .now)) k) (c .least-path .ensures)
 
-pub cut-path-spec : {M : Type 1} → statement M
-cut-path-spec = tie.close (tie.spec cast-least-path cast-least-path-2 least-path-requires returns)
+pub below-least-path-spec : {M : Type 1} → statement M
+below-least-path-spec = tie.close (tie.spec cast-least-path cast-least-path-2 least-path-requires returns)

@@ -4,8 +4,8 @@ use lib.ListN.{length}
 use Rattle.wire.specs.Geometry.{countOf}
 use Rattle.wire.proofs.SizeLaws.{inside}
 use borrow.Author.Needs.{needs}
-use Rattle.device.proofs.conditions.cut_update.Statement.{statement}
-use Rattle.device.proofs.conditions.cut_update.Tie as tie
+use Rattle.device.proofs.conditions.below_least_update.Statement.{statement}
+use Rattle.device.proofs.conditions.below_least_update.Tie as tie
 
 cast-least-update : tie.Need-cast-least-update
 cast-least-update c = search needs
@@ -20,5 +20,5 @@ least-update-requires c κs = let p = c .before .before .before .pre in let i = 
 returns : tie.Need-returns
 returns c = ap (λ k. ltb (length (c .before .before .before .before .args .message .now)) k) (c .least-update .ensures)
 
-pub cut-update-spec : {M : Type 1} → statement M
-cut-update-spec = tie.close (tie.spec cast-least-update cast-least-update-2 least-update-requires returns)
+pub below-least-update-spec : {M : Type 1} → statement M
+below-least-update-spec = tie.close (tie.spec cast-least-update cast-least-update-2 least-update-requires returns)

@@ -1,8 +1,8 @@
 use mathlib.Core.Path.{sym, ap}
 use Rattle.pack.specs.Make.{made}
 use borrow.Author.Needs.{needs}
-use Rattle.pack.proofs.make.outcome.Statement.{statement}
-use Rattle.pack.proofs.make.outcome.Tie as tie
+use Rattle.pack.proofs.make.made_of.Statement.{statement}
+use Rattle.pack.proofs.make.made_of.Tie as tie
 
 enum-known-sent : tie.Need-enum-known-sent
 enum-known-sent c = search needs
@@ -19,6 +19,6 @@ returns c = sym (ap made (c .before .sent .given .1))
 returns-2 : tie.Need-returns-2
 returns-2 c = sym (ap made (c .before .before .sent2 .given .1))
 
-pub outcome-spec : {M : Type 1} → statement M
-outcome-spec =
+pub made-of-spec : {M : Type 1} → statement M
+made-of-spec =
     tie.close (tie.spec enum-known-sent enum-known-sent-2 refuse-requires returns returns-2)

@@ -6,13 +6,13 @@ use native.Mathlib.Omega.{arith}
 use lib.ListN.{length, take, drop, length-append}
 use lib.Seq.{paste, paste-zero, length-paste, length-paste-head, take-length}
 use Rattle.octets.proofs.CopyLaws.{paste-behind}
-use Rattle.bundle.specs.Steps.{Written}
+use Rattle.bundle.specs.Steps.{Appended}
 
 -- nothing
-pub written-none : (out : List ℕ) (at : ℕ) → Written out at out at []
-written-none out at = record { end = omega arith; bytes = paste-zero out at [] }
+pub appended-none : (out : List ℕ) (at : ℕ) → Appended out at out at []
+appended-none out at = record { end = omega arith; bytes = paste-zero out at [] }
 
-module _ {out out' text : List ℕ} {at next : ℕ} (w : Written out at out' next text) where
+module _ {out out' text : List ℕ} {at next : ℕ} (w : Appended out at out' next text) where
   pub length-kept : at + length text ≤ length out → length out' ≡ length out
   length-kept h = ap length (w .bytes) ∙ length-paste out at text (length text) h (omega arith)
 
@@ -21,11 +21,11 @@ module _ {out out' text : List ℕ} {at next : ℕ} (w : Written out at out' nex
   room k h = omega (arith, w .end, length-kept (omega arith))
 
   -- the same text, told in another way
-  pub retold : {text' : List ℕ} → text ≡ text' → Written out at out' next text'
+  pub retold : {text' : List ℕ} → text ≡ text' → Appended out at out' next text'
   retold e = record { end = rw (← e) (w .end); bytes = rw (← e) (w .bytes) }
 
   -- one text behind another
-  pub joined : {out'' more : List ℕ} {last : ℕ} → Written out' next out'' last more → at + length text + length more ≤ length out → Written out at out'' last (text ++ more)
+  pub joined : {out'' more : List ℕ} {last : ℕ} → Appended out' next out'' last more → at + length text + length more ≤ length out → Appended out at out'' last (text ++ more)
   joined {out''} {more} {last} v h =
       let k : ℕ = at + length text in
       let p : List ℕ = take at out ++ take (length text) text in
