@@ -12,7 +12,7 @@ use Rattle.lms.specs.Lms.{valid}
 use Rattle.machine.specs.declared.state.Device.{Device}
 use Rattle.machine.specs.declared.state.Answer.{Answer}
 use Rattle.machine.specs.declared.state.Answer.the-variants.{Accepted, Refused}
-use Rattle.machine.specs.Device.{freshWith}
+use Rattle.machine.specs.Device.{freshWith, SituationOf}
 use Rattle.machine.specs.Readers.{numberOf}
 use Rattle.machine.specs.Step.{step}
 use Rattle.machine.specs.BootCheck.{bootCheck}
@@ -24,7 +24,6 @@ use Rattle.guarantee.proofs.Demand3Holds.{demand3}
 use Rattle.guarantee.proofs.RecoveryHolds.{makes-sense}
 use Rattle.capi.specs.State.{decode}
 use Rattle.capi.specs.Call.{bootCheckOf}
-use Rattle.capi.specs.Run.{Memory}
 use Rattle.capi.specs.Claims.{BootProvesFromC}
 use Rattle.capi.specs.FromC.{FromC}
 use Rattle.capi.proofs.StateLaws.{decode-encode}
@@ -52,7 +51,7 @@ pub from-c : FromC
 from-c model key small long flash ms bytes =
     let d = freshWith model key in
     let r = runs d flash (fresh-fits model key small long) ms bytes in
-    let back = ap (λ (x : Memory). decode (x .state)) (r .memory) ∙ decode-encode (after (step digest valid) d flash ms .device) (r .fits) in
+    let back = ap (λ (x : SituationOf (List ℕ) (List ℕ)). decode (x .device)) (r .memory) ∙ decode-encode (after (step digest valid) d flash ms .device) (r .fits) in
     let read = sensible-decoded _ back (makes-sense digest valid (step digest valid) demand3 d (fresh-is model key) flash ms) in
     record {
       runs = r;

@@ -22,13 +22,13 @@ use Rattle.wire.proofs.SizeLaws.{sized}
 use Rattle.wire.proofs.MessageLaws.{manifest-fits, due}
 use Rattle.machine.specs.declared.state.Stage.the-variants.{Loading, Complete}
 use Rattle.machine.specs.declared.state.Device.{Device}
-use Rattle.machine.specs.Device.{freshWith, nextOf, Situation}
+use Rattle.machine.specs.Device.{freshWith, nextOf, SituationOf, Situation}
 use Rattle.machine.specs.Step.{acceptProgram, stageAfter, acceptBlock, acceptUpdate, accept, outcome, refusalOf, step}
 use Rattle.guarantee.specs.Run.{Messages, empty, _▷_, after, answerTo}
 use Rattle.machine.proofs.RefusalLaws.{BlockPassed, program-passed, block-passed, update-passed, path-passed}
 use Rattle.capi.specs.State.{encode}
 use Rattle.capi.specs.Call.{CallOutcome, callOutcome, stateAfter, receive}
-use Rattle.capi.specs.Run.{Memory, left, callsAfter, returned, AllBytes}
+use Rattle.capi.specs.Run.{left, callsAfter, returned, AllBytes}
 use Rattle.capi.specs.Claims.{Fits, FreshFits, Runs, RunsDevice}
 use Rattle.capi.proofs.CallLaws.{receive-encode}
 
@@ -96,8 +96,8 @@ fresh-fits model key h l =
     }
 
 -- the memory that holds a device and its flash
-abbrev holding : Device → List ℕ → Memory
-holding d flash = record { state = encode d; flash = flash }
+abbrev holding : Device → List ℕ → SituationOf (List ℕ) (List ℕ)
+holding d flash = record { device = encode d; flash = flash }
 
 -- a refused message leaves the bytes as they are, which are the device's
 left-is : (d : Device) (flash m : List ℕ) → left (callOutcome (step digest valid d flash m) (encode d)) ≡ (let o = step digest valid d flash m in holding (o .device) (o .flash))
@@ -112,11 +112,11 @@ left-is d flash m = go (refusalOf digest valid d flash m)
 -- Where the bytes kept are those of the device, a call more is its step.
 module _ (d : Device) (flash : List ℕ) (ms : Messages) (f : Fits (after (step digest valid) d flash ms .device))
     (kept : callsAfter (encode d) flash ms ≡ (let s = after (step digest valid) d flash ms in holding (s .device) (s .flash))) where
-  call : (m : List ℕ) → (let b = callsAfter (encode d) flash ms in receive (b .state) (b .flash) m)
+  call : (m : List ℕ) → (let b = callsAfter (encode d) flash ms in receive (b .device) (b .flash) m)
       ≡ (let s = after (step digest valid) d flash ms in callOutcome (step digest valid (s .device) (s .flash) m) (encode (s .device)))
   call m =
       let s : Situation = after (step digest valid) d flash ms in
-      ap (λ (x : Memory). receive (x .state) (x .flash) m) kept ∙ receive-encode (s .device) (s .flash) m f
+      ap (λ (x : SituationOf (List ℕ) (List ℕ)). receive (x .device) (x .flash) m) kept ∙ receive-encode (s .device) (s .flash) m f
 
   known : Runs d flash ms
   unfolding returned answerTo callOutcome

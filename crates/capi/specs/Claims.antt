@@ -61,7 +61,7 @@ PassesAfter =
 -- its flash, and the number that one call more returns is that of its answer.
 pub record Runs (d : Device) (flash : List ℕ) (ms : Messages) : Type 0 where
   pub fits : Fits (after (step digest valid) d flash ms .device)
-  pub memory : callsAfter (encode d) flash ms ≡ (let s = after (step digest valid) d flash ms in record { state = encode (s .device); flash = s .flash })
+  pub memory : callsAfter (encode d) flash ms ≡ (let s = after (step digest valid) d flash ms in record { device = encode (s .device); flash = s .flash })
   pub answers : (m : List ℕ) → returned (encode d) flash ms m ≡ numberOf (answerTo (step digest valid) d flash ms m)
 
 abbrev pub RunsDevice : Type 0

@@ -32,7 +32,7 @@ module _ (model : ℕ) (key flash : List ℕ) (ms : Messages) where
   device = after (step digest valid) fresh flash ms .device
 
   abbrev kept : List ℕ
-  kept = callsAfter (encode fresh) flash ms .state
+  kept = callsAfter (encode fresh) flash ms .device
 
   pub record AfterCalls : Type 0 where
     -- the bytes kept are the device's, the memory lent is its flash, and each number returned is that of its answer
