@@ -72,7 +72,7 @@ pub enum StageRead {
     Nothing,
 }
 
-// There is one where the length is right and the stage's number known.
+// The stage in s: there is one where the length is right and the stage's number known.
 pub fn stage_in(s: &[u8]) -> StageRead
     ensures { λ r. ⌜ r ≡ stageRead (stageIn (now (s .entry))) ⌝ }
 {
@@ -122,7 +122,7 @@ pub fn device_in(s: &[u8], stage: Stage) -> Device
     }
 }
 
-// There is one where the state makes sense too: refusal 1 does not apply to it.
+// The stage in s, where the state makes sense too: refusal 1 does not apply to it.
 pub fn sensible_in(s: &[u8]) -> StageRead
     ensures { λ r. ⌜ r ≡ stageReadOf (sensible (now (s .entry))) ⌝ }
 {

@@ -20,8 +20,8 @@ use Rattle.machine.specs.Step.{refusalOf, step}
 abbrev pub deviceOf : ℕ → List ℕ → Stage → Manifest → List ℕ → Device
 deviceOf model key stage manifest hashes = record { model = model; key = key; stage = stage; manifest = manifest; hashes = hashes }
 
--- What a message does to the device that is handed in by its fields: the step. One whose hash array has not the `heldBytes` bytes of 01's is no device of 01:
--- every message is refused 1, and all stays as it was.
+-- What a message does to the device that is handed in by its fields: the step. One whose hash array has not `heldBytes` bytes (01's flat
+-- array, with the limit of 02, change 6) is no device: every message is refused 1, and all stays as it was.
 unfoldable pub stepInPlace : Device → (flash m : List ℕ) → Outcome
 stepInPlace d flash m = cond (eqb (length (d .hashes)) heldBytes) (step digest valid d flash m) (record { answer = Refused State; device = d; flash = flash })
 

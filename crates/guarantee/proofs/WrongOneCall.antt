@@ -54,7 +54,7 @@ worn = replicate 130 1
 pub misplaced : List ℕ
 misplaced = replicate 64 1 ++ replicate 64 5
 
--- one in which the fives are loaded, and nines stand where the threes belong, so that the root is right only with them
+-- one in which the fives are loaded, and nines stand where the threes belong, so that the root is right only once the threes are stored
 pub untidy : List ℕ
 untidy = replicate 64 5 ++ replicate 64 9
 
@@ -67,7 +67,7 @@ abbrev Of : Step → Device → (flash m : List ℕ) → Type 0
 Of wrong d f m = OneCall weak (refusalOf weak any) wrong d f m
 
 abbrev Meets : Step → Type 0
-Meets wrong = EachCall weak (refusalOf weak any) wrong
+Meets wrong = EachCall weak any wrong
 
 -- what the calls compute with
 calling : ℕ
@@ -159,7 +159,7 @@ pub shortsighted-caught : Of shortsighted waiting misplaced threes → ⊥
 unfolding calling shortsighted
 shortsighted-caught = three-for-five shortsighted misplaced refl refl refl
 
--- It takes the last block and does not store it: caught at `last`, alone.
+-- It takes blocks and stores none: caught at `last`, alone.
 pub dropping : Step
 dropping = byKind device (λ d f m. butFlash (device d f m) f) device device
 

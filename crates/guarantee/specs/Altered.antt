@@ -29,14 +29,14 @@ abbrev pub BootProves : (H : List ℕ → List ℕ) → Type 0
 BootProves H = (d : Device) (flash : List ℕ) → bootCheck H d flash ≡ Accepted → Booted H d flash
 
 module _ (H : List ℕ → List ℕ) (valid : (key message signature : List ℕ) → Bool) where
-  -- It answers 0 right after each call that reports a program complete, an accepted update or last block, whatever state and flash that call was given.
+  -- The boot check answers 0 right after each call that reports a program complete, an accepted update or last block, whatever state and flash that call was given.
   abbrev pub BootAfter : Type 0
   BootAfter =
       (d : Device) (flash m : List ℕ)
       → (let o = step H valid d flash m in
       o .answer ≡ Accepted → (kind m ≡ Update) ⊎ ((kind m ≡ Block) × (o .device .stage ≡ Complete)) → bootCheck H (o .device) (o .flash) ≡ Accepted)
 
-  -- A path update keeps it at 0, over any state and flash where it was so before; or the message's path and the tree over the flash collide.
+  -- A path update keeps the boot check at 0, over any state and flash where it was so before; or the message's path and the tree over the flash collide.
   abbrev pub BootKept : Type 0
   BootKept =
       (d : Device) (flash m : List ℕ) → bootCheck H d flash ≡ Accepted → kind m ≡ PathUpdate

@@ -145,7 +145,7 @@ module _ (H : List ℕ → List ℕ) (valid : (key message signature : List ℕ)
     pub taken : Taken before c
 
   -- "After it the sender's block messages for the same image and values stand in the list in order, from 1 up to some j, j from 0 to n, and every other message
-  -- after that slip was refused": of the calls that name the part, those with these messages are `next`, and of all others none is taken.
+  -- after that slip was refused": `next` is a call that names the part and hands over the block message due, whatever its answer; `other` is not taken for the part.
   pub data Honest (job : Job) (before : Trace C) (c : C) : ℕ → Trace C → Type 0 where
     begin : Honest job before c 0 (before ▷ c)
     next : {j : ℕ} {cs : Trace C} {x : C} → j < count (job .image) → part .names x ≡ true → part .message x ≡ blockFor H (job .image) (suc j) → Honest job before c j cs

@@ -2,6 +2,7 @@
 -- any step of the device, as demand 3 is, but for every state and every flash handed in, reached by a list or not.
 use mathlib.Core.Path.{_≡_}
 use mathlib.Core.Logic.{_⊎_}
+use mathlib.Core.Bool.{Bool}
 use mathlib.Core.List.{List}
 use mathlib.Core.Option.{Option}
 use Prim.Native.Nat.{ℕ, _≤_}
@@ -15,7 +16,7 @@ use Rattle.machine.specs.declared.state.Stage.the-variants.{Complete}
 use Rattle.machine.specs.declared.state.Device.{Device}
 use Rattle.machine.specs.declared.state.Answer.the-variants.{Accepted, Refused}
 use Rattle.machine.specs.Device.{Outcome}
-use Rattle.machine.specs.Step.{answerOf}
+use Rattle.machine.specs.Step.{answerOf, refusalOf}
 use Rattle.guarantee.specs.Behind.{goesBy}
 
 -- The flash has the bytes that the manifest needs, and the tree over it has the manifest's root.
@@ -31,7 +32,7 @@ pub record OneCall (H : List ℕ → List ℕ) (refusal : Device → List ℕ �
   pub refused : (r : Refusal) → step d flash m .answer ≡ Refused r → (step d flash m .device ≡ d) × (step d flash m .flash ≡ flash)
   -- An accepted one leaves the manifest that it goes by: its own, or else the device's.
   pub manifest : step d flash m .answer ≡ Accepted → step d flash m .device .manifest ≡ goesBy d m
-  -- "Kind 3 now first works out the tree over the area as handed in": that had the root of the current manifest
+  -- "Kind 3 now first works out the tree over the area as handed in": that had the root of the manifest that the device had before the call
   pub before : kind m ≡ Update → step d flash m .answer ≡ Accepted → Rooted H (d .manifest) flash
   -- After an accepted update the flash has the new manifest's root; after an accepted block that makes the stage complete, that of the device's manifest.
   pub update : kind m ≡ Update → step d flash m .answer ≡ Accepted → Rooted H (manifestIn m) (step d flash m .flash)
@@ -39,5 +40,5 @@ pub record OneCall (H : List ℕ → List ℕ) (refusal : Device → List ℕ �
   -- Besides a block and an update only a path update leaves the stage complete.
   pub only : step d flash m .answer ≡ Accepted → step d flash m .device .stage ≡ Complete → (kind m ≡ Block) ⊎ ((kind m ≡ Update) ⊎ (kind m ≡ PathUpdate))
 
-abbrev pub EachCall : (H : List ℕ → List ℕ) (refusal : Device → List ℕ → List ℕ → Option Refusal) (step : Device → List ℕ → List ℕ → Outcome) → Type 0
-EachCall H refusal step = (d : Device) (flash m : List ℕ) → OneCall H refusal step d flash m
+abbrev pub EachCall : (H : List ℕ → List ℕ) (valid : (key message signature : List ℕ) → Bool) (step : Device → List ℕ → List ℕ → Outcome) → Type 0
+EachCall H valid step = (d : Device) (flash m : List ℕ) → OneCall H (refusalOf H valid) step d flash m

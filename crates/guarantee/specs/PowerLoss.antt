@@ -51,7 +51,7 @@ module _ (H : List ℕ → List ℕ) (valid : (key message signature : List ℕ)
       (step H valid d g m .answer ≡ Refused refusal.Altered)
       ⊎ ((take (s .«image_len») f ≡ take (s .«image_len») g) ⊎ Collision (plain H) (blocksOf s f) (blocksOf s g) 0 (shape (countOf s))))
 
-  -- Of the flash, answer and device of a path update depend on its length and the numbered block alone. So what is torn or altered elsewhere is not noticed.
+  -- Answer and device of a path update depend on the flash by its length and the numbered block alone. So what is torn or altered elsewhere is not noticed.
   abbrev pub PathReads : Type 0
   PathReads = (d : Device) (f g m : List ℕ) → kind m ≡ PathUpdate → length f ≡ length g
       → (let i = pred (updateNumber m) in blocksOf (manifestIn m) f i ≡ blocksOf (manifestIn m) g i)

@@ -22,7 +22,7 @@ use Rattle.guarantee.specs.Demand3.{Sendable, thenBlocks, Honest, Loaded
 use Rattle.guarantee.specs.Updates.{Installed}
 
 module _ (H : List ℕ → List ℕ) (valid : (key message signature : List ℕ) → Bool) (step : Device → List ℕ → List ℕ → Outcome) (d : Device) (flash : List ℕ) where
-  -- What it takes after a list: a program that the sender can send, for the device's model, with a serial above the current one (above 0 when idle), room in the
+  -- What a device takes after a list: a program that the sender can send, for the device's model, with a serial above the current one (above 0 when idle), room in the
   -- flash, and a signature that is valid under the device's key.
   pub record Offered (ms : Messages) (job : Job) (signature : List ℕ) : Type 0 where
     pub sendable : Sendable job
@@ -31,7 +31,7 @@ module _ (H : List ℕ → List ℕ) (valid : (key message signature : List ℕ)
     pub room : length (job .image .bytes) ≤ length flash
     pub signed : valid (d .key) (written (manifestFor H job)) signature ≡ true
 
-  -- Then the sender's messages for it load it: the new program is accepted, and its blocks in order complete it, whatever refused messages come between, and
+  -- The sender's messages for such a program load it: the new program is accepted, and its blocks in order complete it, whatever refused messages come between, and
   -- with none between too.
   pub record Recovers (ms : Messages) (job : Job) (signature : List ℕ) : Type 0 where
     pub taken : answerTo step d flash ms (programFor H job signature) ≡ Accepted
@@ -44,7 +44,7 @@ Recovery H valid step =
     (d : Device) → Fresh d → (flash : List ℕ) (ms : Messages) (job : Job) (signature : List ℕ) → Offered H valid step d flash ms job signature
     → Recovers H valid step d flash ms job signature
 
--- Of the device's own step: from every state that refusal 1 does not take, reached by a list or not.
+-- Of the device's own step: from every state to which refusal 1 does not apply, reached by a list or not.
 abbrev pub RecoveryFrom : (H : List ℕ → List ℕ) (valid : (key message signature : List ℕ) → Bool) → Type 0
 RecoveryFrom H valid =
     (d : Device) → senseless d ≡ false → (flash : List ℕ) (job : Job) (signature : List ℕ) → Offered H valid (step H valid) d flash empty job signature

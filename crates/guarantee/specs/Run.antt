@@ -35,7 +35,7 @@ module _ {D F C : Type 0} (step : D → F → C → OutcomeOf D F) (d : D) (flas
   unfoldable pub answerTo : Trace C → C → Answer
   answerTo cs c = step (after cs .device) (after cs .flash) c .answer
 
-  -- "Accepted: the call gave no refusal number": the messages of those calls that name the part and were
+  -- "Accepted: the call gave no refusal number": the messages of the calls that name the part and were accepted
   unfoldable pub accepted : Part D F C → Trace C → Messages
   accepted part empty = empty
   accepted part (cs ▷ c) =

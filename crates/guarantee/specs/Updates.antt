@@ -22,7 +22,7 @@ module _ (H : List ℕ → List ℕ) where
     pub manifest : d .manifest ≡ manifestFor H job
     pub image : flash ≡ atStart (job .image .bytes) old
 
-  -- The message was accepted, and device and flash are then as above, for this job.
+  -- The message was accepted, and the job is then installed.
   pub record Updated (job : Job) (old : List ℕ) (o : Outcome) : Type 0 where
     pub taken : o .answer ≡ Accepted
     pub installed : Installed job old (o .device) (o .flash)
@@ -40,7 +40,7 @@ module _ (H : List ℕ → List ℕ) (valid : (key message signature : List ℕ)
     pub newer : a .serial < b .serial
     pub signed : valid (d .key) (written (manifestFor H b)) signature ≡ true
 
-  -- Then it takes the sender's message of kind 3, and that of kind 4: it has b's image, and behind that the flash is as it was.
+  -- Such a device takes the sender's message of kind 3, and that of kind 4: it then has b's image, and behind that the flash is as it was.
   abbrev pub Updates : Type 0
   Updates =
       (d : Device) (flash old : List ℕ) (a b : Job) (i : ℕ) (signature : List ℕ) → Installed H a old d flash → UpdateOffered d a b i signature

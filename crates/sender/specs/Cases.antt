@@ -33,8 +33,8 @@ pub record Answers (these : ℕ → Type 0) (x : Image) : Type 0 where
   pub path : (model serial i : ℕ) (signature out : List ℕ) → these (sentNumber (sendPath (job x model serial) i signature out .answer))
 
 -- "Counts worked out by hand. Marked * for proof": messages are counted from 1, held hashes after 0, 1, .. blocks; eight blocks of 256 bytes are 2,048 bytes.
--- 02, change 6: "T = 393,216 with L = 256 passes and 393,217 is refused 5". `wrongSize` is the test of refusal 5, for the device and for the sender; of the sender
--- then every image of these lengths.
+-- 02, change 6: "T = 393,216 with L = 256 passes and 393,217 is refused 5": the rows with `wrongSize` are of the test of refusal 5, which device and sender share;
+-- the two behind them are of the sender's answers, for every image of these lengths.
 abbrev pub Starred : Type 0
 Starred =
     (values 1 1 (carriedCount 1) ≡ 0 ∷ [])
