@@ -4,7 +4,7 @@
  * refusal whatever the function could have written is as it was, but for lertxuno_ihex's *line. lertxuno_digest and lertxuno_fresh refuse nothing and return
  * nothing. Nothing is allocated, kept between calls, read or written but through the arguments, so calls on different memory may run at the same time.
  *
- * The caller's part: a pointer is not null, also where its length is 0; it has as many bytes as its length, or its array type, says; and memory that a
+ * The caller's part: a pointer is not null, unless a length of 0 goes with it; it has as many bytes as its length, or its array type, says; and memory that a
  * function writes (out, written, line, length, state, flash) overlaps no other argument. What firmware must do around the calls is in docs/INTEGRATION.md.
  *
  * The library is for x86-64 Linux. Stack of a call there, at most about: 3.6 KB for lertxuno_receive, lertxuno_boot_check and the sender's functions,

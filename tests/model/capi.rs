@@ -1,6 +1,11 @@
-//! The C library (include/lertxuno.h). Byte arrays that it reads or writes are lent (lent.rs).
+//! The C library (include/lertxuno.h). Byte arrays that it reads or writes are lent (lent.rs), those
+//! that it only reads for reading alone.
 
-use crate::lent::Lent;
+use std::ops::Range;
+
+use crate::fault::during;
+use crate::lending::Lending;
+use crate::lent::{Access, Lent};
 use crate::sender::Order;
 
 #[link(name = "capi", kind = "static")]
@@ -105,17 +110,24 @@ unsafe extern "C" {
 
 pub fn digest(message: &[u8]) -> Lent {
     let (message, mut out) = (Lent::new(message), Lent::new(&[0; 32]));
-    let (m, ml) = message.parts();
-    // SAFETY (here and below): the header's terms are kept: no null pointer, lengths as lent,
-    // written memory overlaps nothing.
-    unsafe { lertxuno_digest(m, ml, out.pointer()) };
+    let ((m, ml), (o, ol)) = (message.parts(), out.parts_mut());
+    // SAFETY (here and below): the header's terms are kept: no null pointer but for an empty array,
+    // lengths as lent, written memory overlaps nothing.
+    during(
+        "lertxuno_digest",
+        &[("message", m, ml), ("output", o, ol)],
+        || unsafe { lertxuno_digest(m, ml, o) },
+    );
     out
 }
 
 pub fn verify(key: &[u8], message: &[u8], signature: &[u8]) -> u32 {
     let [key, message, signature] = [key, message, signature].map(Lent::new);
     let ((k, kl), (m, ml), (s, sl)) = (key.parts(), message.parts(), signature.parts());
-    unsafe { lertxuno_verify(k, kl, m, ml, s, sl) }
+    let arrays = [("key", k, kl), ("message", m, ml), ("signature", s, sl)];
+    during("lertxuno_verify", &arrays, || unsafe {
+        lertxuno_verify(k, kl, m, ml, s, sl)
+    })
 }
 
 /// Which sender function, with what it is given beyond the image and its values.
@@ -136,14 +148,29 @@ impl Send<'_> {
             _ => &[],
         }
     }
+
+    fn name(&self) -> &str {
+        match self {
+            Send::Manifest => "lertxuno_manifest",
+            Send::Program(_) => "lertxuno_program",
+            Send::Block(_) => "lertxuno_block",
+            Send::Update(3, ..) => "lertxuno_update",
+            Send::Update(..) => "lertxuno_path_update",
+        }
+    }
 }
 
 pub fn send(order: &Order, what: Send, out: &mut Lent, written: &mut usize) -> u32 {
     let (image, signature) = (Lent::new(order.image), Lent::new(what.signature()));
     let ((image, length), (s, sl)) = (image.parts(), signature.parts());
     let (block, model, serial) = (order.block_length, order.model, order.serial);
-    let (out, room) = (out.pointer(), out.bytes().len());
-    unsafe {
+    let (out, room) = out.parts_mut();
+    let arrays = [
+        ("image", image, length),
+        ("signature", s, sl),
+        ("output", out, room),
+    ];
+    let call = || unsafe {
         match what {
             Send::Manifest => {
                 lertxuno_manifest(image, length, block, model, serial, out, room, written)
@@ -163,7 +190,8 @@ pub fn send(order: &Order, what: Send, out: &mut Lent, written: &mut usize) -> u
                 )
             }
         }
-    }
+    };
+    during(what.name(), &arrays, call)
 }
 
 /// The line's number, and a guard on each side of it.
@@ -171,22 +199,54 @@ pub type LineNumber = [usize; 3];
 
 pub fn ihex(text: &[u8], base: u32, length: usize, out: &mut Lent, line: &mut LineNumber) -> u32 {
     let text = Lent::new(text);
-    let (t, tl) = text.parts();
-    let (out, room) = (out.pointer(), out.bytes().len());
-    unsafe { lertxuno_ihex(t, tl, base, length, out, room, &mut line[1]) }
+    let ((t, tl), (out, room)) = (text.parts(), out.parts_mut());
+    let arrays = [("text", t, tl), ("output", out, room)];
+    during("lertxuno_ihex", &arrays, || unsafe {
+        lertxuno_ihex(t, tl, base, length, out, room, &mut line[1])
+    })
 }
 
 pub fn fresh(model: u32, key: &[u8; 56], state: &mut Lent) {
     let key = Lent::new(key);
-    unsafe { lertxuno_fresh(model, key.parts().0, state.pointer()) }
+    let ((k, kl), (s, sl)) = (key.parts(), state.parts_mut());
+    let arrays = [("key", k, kl), ("state", s, sl)];
+    during("lertxuno_fresh", &arrays, || unsafe {
+        lertxuno_fresh(model, k, s)
+    })
 }
 
-pub fn receive(state: &mut Lent, flash: &mut Lent, message: &[u8]) -> u32 {
-    let message = Lent::new(message);
+/// Both arrays in full, and of the flash the pages that hold one of these bytes open.
+fn lend_device(
+    (state, state_access): (&Lent, Access),
+    (flash, flash_access): (&Lent, Access),
+    reach: &Range<usize>,
+    call: impl FnOnce(*mut u8, usize, *mut u8, usize) -> u32,
+) -> u32 {
+    let all = 0..state.bytes().len();
+    state.lend(state_access, &all, |s, sl| {
+        flash.lend(flash_access, reach, |f, fl| call(s, sl, f, fl))
+    })
+}
+
+pub fn receive(state: &mut Lent, flash: &mut Lent, lending: &Lending) -> u32 {
+    let message = Lent::new(lending.message);
     let (m, ml) = message.parts();
-    let (state_length, flash_length) = (state.bytes().len(), flash.bytes().len());
-    let (state, flash) = (state.pointer(), flash.pointer());
-    unsafe { lertxuno_receive(state, state_length, flash, flash_length, m, ml) }
+    let name = format!("lertxuno_receive of {lending},");
+    flash.put_page_at(lending.page_at());
+    let (state, flash) = (
+        (&*state, lending.state_access()),
+        (&*flash, lending.flash_access()),
+    );
+    lend_device(state, flash, &lending.reach, |s, sl, f, fl| {
+        let arrays = [
+            ("state", s as _, sl),
+            ("flash", f as _, fl),
+            ("message", m, ml),
+        ];
+        during(name, &arrays, || unsafe {
+            lertxuno_receive(s, sl, f, fl, m, ml)
+        })
+    })
 }
 
 /// The seven numbers, and a guard on each side of them.
@@ -195,16 +255,27 @@ pub type Status = [u32; 9];
 pub fn status(state: &[u8], out: &mut Status) -> u32 {
     let state = Lent::new(state);
     let (s, sl) = state.parts();
-    unsafe { lertxuno_status(s, sl, out[1..].as_mut_ptr()) }
+    during("lertxuno_status", &[("state", s, sl)], || unsafe {
+        lertxuno_status(s, sl, out[1..].as_mut_ptr())
+    })
 }
 
 pub fn block_message_length(state: &[u8], length: &mut usize) -> u32 {
     let state = Lent::new(state);
     let (s, sl) = state.parts();
-    unsafe { lertxuno_block_message_length(s, sl, length) }
+    let arrays = [("state", s, sl)];
+    during("lertxuno_block_message_length", &arrays, || unsafe {
+        lertxuno_block_message_length(s, sl, length)
+    })
 }
 
-pub fn boot_check(state: &Lent, flash: &Lent) -> u32 {
-    let ((s, sl), (f, fl)) = (state.parts(), flash.parts());
-    unsafe { lertxuno_boot_check(s, sl, f, fl) }
+/// The part of the flash is the one that may be read.
+pub fn boot_check(state: &Lent, flash: &Lent, reach: &Range<usize>) -> u32 {
+    let (state, flash) = ((state, Access::Read), (flash, Access::Read));
+    lend_device(state, flash, reach, |s, sl, f, fl| {
+        let arrays = [("state", s as _, sl), ("flash", f as _, fl)];
+        during("lertxuno_boot_check", &arrays, || unsafe {
+            lertxuno_boot_check(s, sl, f, fl)
+        })
+    })
 }

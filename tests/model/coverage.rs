@@ -1,7 +1,7 @@
 //! How often each answer was given, by row (a kind of message, or a function), each sort of path
 //! update accepted, each number of hashes held, each case of the limit's edge, of the image's end,
-//! of a flash that others have touched and of Intel HEX texts; and which of these must have
-//! occurred at least once.
+//! of a flash that others have touched or that is closed in part and of Intel HEX texts; and which
+//! of these must have occurred at least once.
 
 use crate::edge::{COUNTS, EDGES, Edge};
 use crate::ends::{ENDS, End};
@@ -31,6 +31,8 @@ pub struct Coverage {
     touched: [Vec<Row>; 2],
     /// The same answer, and another.
     instead: [Vec<Row>; 2],
+    /// Refused ones, and accepted ones.
+    closed: [Vec<Row>; 2],
     texts: Vec<Row>,
     /// Broken lines: by a single fault, and by several.
     broken: [Row; 2],
@@ -90,6 +92,16 @@ const TOUCHED: [[(&str, &[usize]); 5]; 2] = [
         ("kind 3", &[3]),
         ("kind 4", &[0, 2, 3]),
     ],
+];
+
+/// Messages by the regions that were closed while the library judged them, be they refused or
+/// accepted.
+const CLOSED: [(&str, &[usize]); 5] = [
+    ("kind 1", &[3]),
+    ("kind 2", &[3]),
+    ("last block", &[3]),
+    ("kind 3", &[3]),
+    ("kind 4", &[0, 2, 3]),
 ];
 
 /// Messages over a flash that others have touched within the current image, by the answer that an
@@ -211,6 +223,7 @@ impl Coverage {
             ends: ENDS.iter().map(end).collect(),
             touched: TOUCHED.map(|from| rows(&from)),
             instead: INSTEAD.map(|from| answer_rows(&from)),
+            closed: [rows(&CLOSED), rows(&CLOSED)],
             texts: hexcases::CASES.concat().iter().map(text).collect(),
             broken: [row("one fault", 0..BROKEN.len()), row("several", [])],
             shapes: [[[0; 16]; 5]; SHAPED.len()],
@@ -225,6 +238,7 @@ impl Coverage {
         let lists = [&mut self.answers, &mut self.paths, &mut self.ends];
         let lists = lists.into_iter().chain([&mut self.texts]);
         let lists = lists.chain(&mut self.touched).chain(&mut self.instead);
+        let lists = lists.chain(&mut self.closed);
         let rows = arrays.chain(lists.flatten());
         let shapes = self.shapes.as_flattened_mut().as_flattened_mut();
         rows.flat_map(|row| &mut row.counts).chain(shapes)
@@ -285,6 +299,11 @@ impl Coverage {
         self.instead[other as usize][row].counts[column(&COLUMNS, without)] += 1;
     }
 
+    /// A message was judged while this region of the flash was closed.
+    pub fn closed(&mut self, row: usize, region: usize, accepted: bool) {
+        self.closed[accepted as usize][row].counts[region] += 1;
+    }
+
     /// A call of the Intel HEX reader was this case.
     pub fn text(&mut self, case: usize, answer: u32) {
         self.texts[case].counts[column(&hexcases::ANSWERS, answer)] += 1;
@@ -332,6 +351,8 @@ impl Coverage {
             + table("touched, accepted", regions(), &self.touched[1])
             + table("touched, the same", answers(), &self.instead[0])
             + table("touched, 19 or 15", answers(), &self.instead[1])
+            + table("closed, refused", regions(), &self.closed[0])
+            + table("closed, accepted", regions(), &self.closed[1])
             + table("texts, by answer", text_answers, &self.texts)
             + table("broken lines", faults, &self.broken)
             + table("shapes, n:last", shapes.concat().into_iter(), &self.least());

@@ -1,4 +1,4 @@
-/* What the header types by hand, against what the library does: words, limits, lengths, and the places of a state's fields. */
+/* What the header types by hand, against what the library does: words, limits, lengths, the places of a state's fields, and null pointers to no bytes. */
 #include "../../examples/sample.h"
 #include "lertxuno.h"
 #include <stdio.h>
@@ -183,14 +183,62 @@ static void fields(size_t stage, size_t next, size_t serial) {
     expect_field("image length", LERTXUNO_STATE_MANIFEST + 12, 4, status[LERTXUNO_STATUS_IMAGE_LENGTH], IMAGE_LENGTH);
 }
 
+/* A call with a null pointer and length 0 for each array of its arguments in turn: what is copied may be empty, all else is refused. */
+static void null_readers(void) {
+    const uint8_t empty[] = {0xe3, 0xb0, 0xc4, 0x42, 0x98, 0xfc, 0x1c, 0x14, 0x9a, 0xfb, 0xf4, 0xc8, 0x99, 0x6f, 0xb9, 0x24,
+                             0x27, 0xae, 0x41, 0xe4, 0x64, 0x9b, 0x93, 0x4c, 0xa4, 0x95, 0x99, 0x1b, 0x78, 0x52, 0xb8, 0x55};
+    size_t due, line;
+    lertxuno_digest(NULL, 0, out);
+    expect_true("digest of null", memcmp(out, empty, sizeof empty) == 0);
+    expect("null key", lertxuno_verify(NULL, 0, out, 48, sample_signature, sizeof sample_signature), LERTXUNO_UNSIGNED);
+    expect("null message", lertxuno_verify(sample_key, sizeof sample_key, NULL, 0, sample_signature, sizeof sample_signature), LERTXUNO_UNSIGNED);
+    expect("null signature", lertxuno_verify(sample_key, sizeof sample_key, out, 48, NULL, 0), LERTXUNO_UNSIGNED);
+    expect("null text", lertxuno_ihex(NULL, 0, 0, 1, out, sizeof out, &line), LERTXUNO_TEXT);
+    expect("line of a null text", line, 1);
+    expect("text into null", lertxuno_ihex((const uint8_t *)"", 0, 0, 1, NULL, 0, &line), LERTXUNO_AREA);
+    expect("status of null", lertxuno_status(NULL, 0, status), LERTXUNO_STATE);
+    expect("length due by null", lertxuno_block_message_length(NULL, 0, &due), LERTXUNO_STATE);
+}
+
+typedef uint32_t sender_update(const uint8_t *, size_t, uint32_t, uint32_t, uint32_t, uint32_t, const uint8_t *, size_t, uint8_t *, size_t, size_t *);
+
+static void null_update(sender_update *sender, size_t kind, size_t length) {
+    expect("update, null image", sender(NULL, 0, 256, MODEL, SERIAL, 1, signature, 1, out, sizeof out, &written), LERTXUNO_SIZE);
+    expect("update into null", sender(image, 257, 256, MODEL, SERIAL, 2, signature, 1, NULL, 0, &written), LERTXUNO_AREA);
+    uint32_t answer = sender(image, 257, 256, MODEL, SERIAL, 2, NULL, 0, out, sizeof out, &written);
+    expect_message("update, null signature", answer, kind, length);
+}
+
+static void null_sender(void) {
+    expect("manifest, null image", lertxuno_manifest(NULL, 0, 256, MODEL, SERIAL, out, sizeof out, &written), LERTXUNO_SIZE);
+    expect("manifest into null", lertxuno_manifest(image, 257, 256, MODEL, SERIAL, NULL, 0, &written), LERTXUNO_AREA);
+    expect("program, null image", lertxuno_program(NULL, 0, 256, MODEL, SERIAL, signature, 1, out, sizeof out, &written), LERTXUNO_SIZE);
+    expect("program into null", lertxuno_program(image, 257, 256, MODEL, SERIAL, signature, 1, NULL, 0, &written), LERTXUNO_AREA);
+    uint32_t answer = lertxuno_program(image, 257, 256, MODEL, SERIAL, NULL, 0, out, sizeof out, &written);
+    expect_message("program, null signature", answer, LERTXUNO_PROGRAM, LERTXUNO_PROGRAM_HEAD);
+    expect("block, null image", lertxuno_block(NULL, 0, 256, 1, out, sizeof out, &written), LERTXUNO_SIZE);
+    expect("block into null", lertxuno_block(image, 257, 256, 2, NULL, 0, &written), LERTXUNO_AREA);
+    null_update(lertxuno_update, LERTXUNO_UPDATE, LERTXUNO_UPDATE_HEAD + 1);
+    null_update(lertxuno_path_update, LERTXUNO_PATH_UPDATE, LERTXUNO_UPDATE_HEAD + 1 + LERTXUNO_HASH_LENGTH);
+}
+
+/* The same for the device, with the message that the sender has just written: no byte of a flash is too few, and no byte is no message. */
+static void null_device(void) {
+    expect("null flash", lertxuno_receive(state, LERTXUNO_STATE_LENGTH, NULL, 0, out, written), LERTXUNO_AREA);
+    expect("null message", lertxuno_receive(state, LERTXUNO_STATE_LENGTH, flash, sizeof flash, NULL, 0), LERTXUNO_KIND);
+    expect("null state", lertxuno_receive(NULL, 0, flash, sizeof flash, out, written), LERTXUNO_STATE);
+    expect("boot check, null state", lertxuno_boot_check(NULL, 0, flash, sizeof flash), LERTXUNO_STATE);
+}
+
 static uint32_t receive(size_t flash_length) { return lertxuno_receive(state, LERTXUNO_STATE_LENGTH, flash, flash_length, out, written); }
 
 static uint32_t boot_check(size_t flash_length) {
     return lertxuno_boot_check(state, LERTXUNO_STATE_LENGTH, flash, flash_length);
 }
 
-/* The message that the sender has just written: refused for a flash of a byte less than the image, then taken. */
+/* The message that the sender has just written: refused for a flash of a byte less than the image or of none, then taken. */
 static void taken(const char *what, size_t flash_length) {
+    null_device();
     expect(what, receive(IMAGE_LENGTH - 1), LERTXUNO_AREA);
     expect(what, receive(flash_length), LERTXUNO_ACCEPTED);
 }
@@ -212,6 +260,7 @@ static void altered(const char *what, size_t flash_length) {
 static void booted(size_t flash_length) {
     expect("boot check", boot_check(flash_length), LERTXUNO_ACCEPTED);
     expect("boot check, a byte too little flash", boot_check(IMAGE_LENGTH - 1), LERTXUNO_AREA);
+    expect("boot check, null flash", lertxuno_boot_check(state, LERTXUNO_STATE_LENGTH, NULL, 0), LERTXUNO_AREA);
     expect("boot check, a state of a byte less",
            lertxuno_boot_check(state, LERTXUNO_STATE_LENGTH - 1, flash, flash_length), LERTXUNO_STATE);
     flash[0] ^= 1;
@@ -251,8 +300,6 @@ static void download(size_t flash_length) {
     booted(flash_length);
 }
 
-typedef uint32_t sender_update(const uint8_t *, size_t, uint32_t, uint32_t, uint32_t, uint32_t, const uint8_t *, size_t, uint8_t *, size_t, size_t *);
-
 /* The sample's update, of the last block; `hashes` are those that its message has. */
 static void update(sender_update *sender, size_t hashes, size_t flash_length) {
     const size_t least = LERTXUNO_UPDATE_HEAD + LAST + hashes * LERTXUNO_HASH_LENGTH;
@@ -281,6 +328,8 @@ int main(void) {
     intel_hex();
     state_length();
     most_hashes();
+    null_readers();
+    null_sender();
     expect("key's length", LERTXUNO_KEY_LENGTH, sizeof sample_key);
     expect("signature's length", LERTXUNO_SIGNATURE_LENGTH(CHAINS, HEIGHT), sizeof sample_signature);
     expect("image's blocks", LERTXUNO_BLOCKS(IMAGE_LENGTH, BLOCK_LENGTH), BLOCKS);

@@ -16,6 +16,7 @@ mod damage;
 mod device;
 mod edge;
 mod ends;
+mod fault;
 mod functions;
 mod handed;
 mod handmade;
@@ -26,6 +27,7 @@ mod hexhand;
 mod hextexts;
 mod ihex;
 mod layout;
+mod lending;
 mod lengths;
 mod lent;
 mod limit;
@@ -49,7 +51,6 @@ mod touch;
 mod tree;
 
 use std::collections::BTreeMap;
-use std::sync::atomic::{AtomicU64, Ordering};
 use std::thread;
 use std::time::{SystemTime, UNIX_EPOCH};
 
@@ -58,6 +59,7 @@ use bundles::Bundles;
 use compare::Compared;
 use coverage::Coverage;
 use craft::Image;
+use fault::Place;
 use handmade::Case;
 use lists::List;
 use manifest::BLOCK_LENGTHS;
@@ -69,9 +71,6 @@ const THREADS: u64 = 2;
 
 /// One list in so many has a large image: an odd number, so that each thread has such lists.
 const LARGE: u64 = 101;
-
-/// All comparisons so far, for a call that never comes back.
-static COMPARED: AtomicU64 = AtomicU64::new(0);
 
 /// With so many calls every case is sure to occur; with fewer a rare one may not.
 const ENOUGH: u64 = 100_000;
@@ -113,32 +112,26 @@ fn named(image: &Image) -> impl Fn(String) -> String + use<> {
     move |what| format!("L {block_length}, T {length}: {what}")
 }
 
-extern "C" fn fault(_: i32) {
-    let number = COMPARED.load(Ordering::Relaxed) + 1;
-    println!("DIFFERENCE in comparison {number}: memory touched that was not lent");
-    std::process::exit(1);
-}
-
 impl Test<'_> {
-    fn self_test(&mut self) {
-        for (index, (what, holds)) in selftest::run().into_iter().enumerate() {
-            let result = holds.then_some(()).ok_or(format!("{what} of the model"));
-            self.record("self test", 0, index, result);
-        }
+    /// This is what is compared next.
+    fn at(&self, group: &'static str, list: u64, index: usize) {
+        let seed = self.seed;
+        fault::at(Place {
+            group,
+            list,
+            index,
+            seed,
+        });
     }
 
-    /// Counts one comparison; the first difference is printed with all that is needed to see it
+    /// Counts the comparison; the first difference is printed with all that is needed to see it
     /// again.
-    fn record(&mut self, group: &str, list: u64, index: usize, result: Compared<()>) -> bool {
-        COMPARED.fetch_add(1, Ordering::Relaxed);
+    fn record(&mut self, result: Compared<()>) -> bool {
         match &result {
             Ok(()) => self.passed += 1,
             Err(what) => {
                 if self.failed == 0 {
-                    let seed = self.seed;
-                    println!(
-                        "DIFFERENCE in {group}, list {list}, message {index}, seed {seed}: {what}"
-                    );
+                    println!("DIFFERENCE in {}: {what}", fault::place());
                 }
                 self.failed += 1;
             }
@@ -146,24 +139,35 @@ impl Test<'_> {
         result.is_ok()
     }
 
+    fn self_test(&mut self) {
+        for (index, (what, holds)) in selftest::run().into_iter().enumerate() {
+            self.at("self test", 0, index);
+            self.record(holds.then_some(()).ok_or(format!("{what} of the model")));
+        }
+    }
+
     /// The image's end, with the library's device and sender and with the loader.
     fn by_hand(&mut self) {
         let bundles = Bundles::new();
         let signer = &self.signers[0][0];
         let mut rng = Rng::new(self.seed, u64::MAX - 2);
+        self.at("one byte by hand", 0, 0);
         let result = handmade::one_byte(Rng::new(self.seed, u64::MAX - 3), signer);
-        self.record("one byte by hand", 0, 0, result);
+        self.record(result);
         for (index, length) in BLOCK_LENGTHS.into_iter().enumerate() {
+            self.at("longest images by hand", 0, index);
             let result = bundles.longest_images(&mut rng, signer, length as usize);
-            self.record("longest images by hand", 0, index, result);
+            self.record(result);
         }
         for (index, image) in handmade::images(&mut rng).into_iter().enumerate() {
             let named = named(&image);
+            self.at("loader by hand", 0, index);
             let result = bundles.last_blocks(&mut rng, signer, &image);
-            self.record("loader by hand", 0, index, result.map_err(&named));
+            self.record(result.map_err(&named));
+            self.at("device by hand", 0, index);
             let case_rng = Rng::new(self.seed, rng.next());
             let result = Case::new(case_rng, signer, image).run();
-            self.record("device by hand", 0, index, result.map_err(named));
+            self.record(result.map_err(named));
         }
     }
 
@@ -173,23 +177,32 @@ impl Test<'_> {
         let mut rng = Rng::new(self.seed, u64::MAX - 6);
         for (index, length) in BLOCK_LENGTHS.into_iter().enumerate() {
             for case in [limit::sizes, handed::counts, handed::next_numbers] {
+                self.at("limit by hand", 0, index);
                 let result = case(&mut rng, signer, length as usize);
-                let named = |what| format!("L {length}: {what}");
-                self.record("limit by hand", 0, index, result.map_err(named));
+                self.record(result.map_err(|what| format!("L {length}: {what}")));
             }
         }
         for (index, case) in [limit::carried, limit::longest_messages].iter().enumerate() {
+            self.at("messages at the limit", 0, index);
             let result = case(&mut rng, signer);
-            self.record("messages at the limit", 0, index, result);
+            self.record(result);
         }
         for (index, length) in limit::DOWNLOADS.into_iter().enumerate() {
+            self.at("download at the limit", 0, index);
             let result = limit::download(&mut rng, signer, length);
-            self.record("download at the limit", 0, index, result);
+            self.record(result);
         }
+        self.counted("stored states", |record| stored::run(&mut rng, record));
+    }
+
+    /// A group that hands over its results one by one.
+    fn counted(&mut self, group: &'static str, run: impl FnOnce(&mut dyn FnMut(Compared<()>))) {
         let mut index = 0;
-        stored::run(&mut rng, |result| {
-            self.record("stored states", 0, index, result);
+        self.at(group, 0, index);
+        run(&mut |result| {
+            self.record(result);
             index += 1;
+            self.at(group, 0, index);
         });
     }
 
@@ -197,22 +210,20 @@ impl Test<'_> {
         let mut rng = Rng::new(self.seed, u64::MAX - 5);
         for (index, image) in altered::images(&mut rng).into_iter().enumerate() {
             let named = named(&image);
+            self.at("touched flash by hand", 0, index);
             let case = Case::new(Rng::new(self.seed, rng.next()), &self.signers[0][0], image);
             let result = Altered::new(case).and_then(|mut altered| altered.run());
-            self.record("touched flash by hand", 0, index, result.map_err(named));
+            self.record(result.map_err(named));
         }
     }
 
     fn texts(&mut self, calls: u64) {
         let mut rng = Rng::new(self.seed, u64::MAX - 4);
-        let mut index = 0;
-        hexhand::run(&mut rng, |result| {
-            self.record("Intel HEX by hand", 0, index, result);
-            index += 1;
-        });
+        self.counted("Intel HEX by hand", |record| hexhand::run(&mut rng, record));
         for index in 0..calls as usize / 4 {
+            self.at("Intel HEX", 0, index);
             let result = hexcall::random(&mut rng, &mut self.coverage);
-            self.record("Intel HEX", 0, index, result);
+            self.record(result);
         }
     }
 
@@ -220,16 +231,18 @@ impl Test<'_> {
     /// devices are in different states.
     fn list(&mut self, number: u64, most: u64) {
         let large = number % LARGE == 7;
+        self.at("fresh", number, 0);
         let mut list = match List::new(Rng::new(self.seed, number), self.signers, large) {
             Ok(list) => list,
             Err(what) => {
-                self.record("fresh", number, 0, Err(what));
+                self.record(Err(what));
                 return;
             }
         };
         for index in 0..list.length().min(most as usize) {
+            self.at("lists", number, index);
             let result = list.step(&mut self.coverage);
-            if !self.record("lists", number, index, result) {
+            if !self.record(result) {
                 break;
             }
         }
@@ -267,19 +280,22 @@ impl Test<'_> {
     fn functions(&mut self, calls: u64) {
         let mut rng = Rng::new(self.seed, u64::MAX);
         for index in 0..calls as usize / 3 {
+            self.at("sender", 0, index);
             let result = functions::sender_call(&mut rng, &mut self.coverage);
-            self.record("sender", 0, index, result);
+            self.record(result);
         }
         for index in 0..calls as usize / 20 {
+            self.at("digest", 0, index);
             let result = functions::digest_call(&mut rng);
-            self.record("digest", 0, index, result);
+            self.record(result);
         }
         let beyond = [(); 2].map(|()| Signer::beyond(&mut rng, 5, 3));
         for index in 0..calls as usize / 50 {
-            let at = index % (self.signers.len() + 1);
-            let pair = self.signers.get(at).unwrap_or(&beyond);
+            self.at("verify", 0, index);
+            let pair = self.signers.get(index % (self.signers.len() + 1));
+            let pair = pair.unwrap_or(&beyond);
             let result = functions::verify_call(&mut rng, &mut self.coverage, pair);
-            self.record("verify", 0, index, result);
+            self.record(result);
         }
     }
 
@@ -287,12 +303,13 @@ impl Test<'_> {
         let mut rng = Rng::new(self.seed, u64::MAX - 1);
         let bundles = Bundles::new();
         for index in 0..runs as usize {
+            self.at("loader", 0, index);
             let signer = &self.signers[index % self.signers.len()][0];
             let result = bundles.random(&mut rng, signer);
             if let Ok(end) = &result {
                 *self.bundle_ends.entry(end.clone()).or_default() += 1;
             }
-            self.record("loader", 0, index, result.map(|_| ()));
+            self.record(result.map(|_| ()));
         }
     }
 
@@ -326,7 +343,7 @@ fn main() {
     println!("seed {seed}");
     let signers = signers(seed);
     let mut test = Test::new(seed, &signers);
-    lent::on_fault(fault);
+    fault::tell_of_faults();
     test.self_test();
     println!("the image's end");
     test.by_hand();

@@ -9,6 +9,7 @@ use crate::device::Device;
 use crate::edge;
 use crate::ends::{Call, subject};
 use crate::layout::{self, MANIFEST_AT, STATE_LENGTH};
+use crate::lending::{Lending, boot_reach, reach};
 use crate::lent::Lent;
 use crate::manifest::STATE;
 use crate::readers;
@@ -54,8 +55,7 @@ impl Pair {
             .as_ref()
             .and_then(|device| Meeting::new(device, &self.flash, &self.untouched, message));
         let answer = layout::receive(&mut self.state, &mut self.flash, message);
-        let library = capi::receive(&mut self.library_state, &mut self.library_flash, message);
-        same_answer(library, answer)?;
+        self.receive(before.as_ref(), message, answer, coverage)?;
         coverage.count(BOOT_CHECK, self.boot_check()?);
         readers::compare(&self.state, coverage)?;
         if let Some(device) = &before {
@@ -79,6 +79,28 @@ impl Pair {
         Ok(answer)
     }
 
+    /// The library's device gets the message, and is lent no more than it may touch where this
+    /// answer is due.
+    fn receive(
+        &mut self,
+        before: Option<&Device>,
+        message: &[u8],
+        answer: u32,
+        coverage: &mut Coverage,
+    ) -> Compared<()> {
+        let length = self.flash.len();
+        let lending = Lending {
+            message,
+            answer,
+            reach: before.map_or(0..length, |device| reach(device, message, length)),
+        };
+        let library = capi::receive(&mut self.library_state, &mut self.library_flash, &lending);
+        if let Some(device) = before {
+            lending.count(device, &self.library_flash, coverage);
+        }
+        same_answer(library, answer)
+    }
+
     /// The block of an accepted message goes to the untouched flash as well.
     fn follow(&mut self, device: &Device, message: &[u8]) {
         let (manifest, i) = subject(device, message).expect("an accepted message");
@@ -91,7 +113,10 @@ impl Pair {
 
     /// The boot check, and behind it a look at state and flash, which it must leave as they are.
     pub fn boot_check(&self) -> Compared<u32> {
-        let library = capi::boot_check(&self.library_state, &self.library_flash);
+        let length = self.flash.len();
+        let device = layout::read(&self.state).ok();
+        let reach = device.map_or(0..length, |device| boot_reach(&device, length));
+        let library = capi::boot_check(&self.library_state, &self.library_flash, &reach);
         same("state", &self.library_state, &self.state)?;
         same("flash", &self.library_flash, &self.flash)?;
         let answer = layout::boot_check(&self.state, &self.flash);

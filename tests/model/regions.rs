@@ -26,7 +26,6 @@ pub fn regions(device: &Device, message: &[u8], length: usize) -> Option<[Range<
 
 /// What a message meets that comes to a touched flash.
 pub struct Meeting {
-    /// By kind, and the last block behind the others: a row of the coverage's tables.
     row: usize,
     /// The one region that is touched, if it is one.
     region: Option<usize>,
@@ -70,7 +69,8 @@ impl Meeting {
     }
 }
 
-fn row(device: &Device, message: &[u8]) -> Option<usize> {
+/// By kind, and the last block behind the others: a row of the coverage's tables.
+pub fn row(device: &Device, message: &[u8]) -> Option<usize> {
     let (manifest, i) = subject(device, message)?;
     Some(match message[0] {
         1 => 0,
