@@ -21,7 +21,8 @@ static uint8_t image[IMAGE_LENGTH];
 static uint8_t bundle[4096];
 static size_t starts[BLOCKS + 2];
 
-/* What the device keeps: in a drive, a page of its own and the program memory. Straight behind the program this one has travel heights, which are no part of
+/* What the device keeps: in a drive, the stored state, in pages of its own, and the program memory. Power cuts are left out here (docs/INTEGRATION.md,
+ * 'Power loss'; an update then needs a copy of the flash). Straight behind the program this one has travel heights, which are no part of
  * any image: it lends the bytes before them and no more, so that a program too long for these is refused (8, area). */
 static const uint8_t heights[] = {72, 105, 118};
 static uint8_t state[LERTXUNO_STATE_LENGTH];
@@ -122,7 +123,7 @@ static void touch_board(void) {
     expect("device, and put back", boot_check(), LERTXUNO_ACCEPTED);
 }
 
-/* The image's last byte changes, and so its last block. The device reads that block of its flash, and no other. */
+/* The image's last byte changes, and so its last block. Its answer depends on that block of the flash and no other. */
 static void update(void) {
     uint8_t message[LERTXUNO_MAX_PATH_UPDATE_LENGTH];
     size_t length;

@@ -145,7 +145,8 @@ uint32_t lertxuno_block(const uint8_t *image, size_t image_length, uint32_t bloc
 uint32_t lertxuno_update(const uint8_t *image, size_t image_length, uint32_t block_length, uint32_t model, uint32_t serial, uint32_t number,
                          const uint8_t *signature, size_t signature_length, uint8_t *out, size_t room, size_t *written);
 
-/* Kind 4, path update: the same update for a device whose answer is to depend on that one block of its flash, and not on the whole of it. */
+/* Kind 4, path update: the same update with the hashes beside the block's way to the root, so that the device's answer depends on that block of its flash and
+ * on no other. */
 uint32_t lertxuno_path_update(const uint8_t *image, size_t image_length, uint32_t block_length, uint32_t model, uint32_t serial, uint32_t number,
                               const uint8_t *signature, size_t signature_length, uint8_t *out, size_t room, size_t *written);
 
