@@ -7,7 +7,6 @@ use mathlib.Core.Option.{Option, none, some}
 use Prim.Native.Nat.{ℕ, _^_, _<_}
 use native.Mathlib.Omega.{arith}
 use lib.Dec.{eqb}
-use lib.ListN.{length}
 use Rattle.octets.specs.Octets.{Bytes, number, part}
 use Rattle.octets.proofs.CopyLaws.{length-part}
 use Rattle.octets.proofs.NumberLaws.{part-bytes, part-below}
@@ -15,7 +14,6 @@ use Rattle.sha256.specs.Sha256.{digest}
 use Rattle.merkle.specs.Limits.{heldBytes}
 use Rattle.lms.specs.Lms.{keyLength, valid}
 use Rattle.wire.specs.declared.kind.Kind.the-variants.{Block, Update}
-use Rattle.wire.specs.declared.refusal.Refusal.{Refusal}
 use Rattle.wire.specs.Manifest.{manifestLength}
 use Rattle.wire.specs.Message.{kind}
 use Rattle.wire.proofs.ManifestLaws.{read-fits}
@@ -32,31 +30,31 @@ use Rattle.capi.specs.Call.{CallOutcome, callOutcome, stateAfter, receiv
 use Rattle.capi.specs.Claims.{Fits, DecodedFits, PassesAfter}
 use Rattle.capi.proofs.RunLaws.{fits-step}
 use Rattle.capi.proofs.StateLaws.{right-length, decode-none, decode-some, stage-encode, decode-encode}
-use Rattle.capi.proofs.CallLaws.{stage-read-length}
-use Rattle.capi.proofs.FromCLaws.{zero-accepted, boot-check-decoded}
+use Rattle.capi.proofs.CallLaws.{receive-decoded, boot-check-decoded, stage-read-length}
+use Rattle.capi.proofs.FromCLaws.{zero-accepted}
 
-module _ (b : List ℕ) (bytes : Bytes b) where
-  next-from : (k n : ℕ) {t : Stage} → stageFrom k n ≡ some t → n < 256 ^ 2 → nextOf t < 256 ^ 2
-  unfolding stageFrom nextOf
-  next-from k n {t} e h = go (eqb k 0) (eqb k 1) (eqb k 2) e
-    where
-      go : (x y z : Bool) → cond x (some Idle) (cond y (some (Loading n)) (cond z (some Complete) none)) ≡ some t → nextOf t < 256 ^ 2
-      go true y z e = let s : Idle ≡ t = cc in rw (sym s) (omega arith)
-      go false true z e = let s : Loading n ≡ t = cc in rw (sym s) (omega arith)
-      go false false true e = let s : Complete ≡ t = cc in rw (sym s) (omega arith)
-      go false false false e = absurd (let w : _≡_ {A = ℕ} 0 1 = cc in omega arith)
+-- a stage that two numbers give has the second for its next number, or none
+next-from : (k n : ℕ) {t : Stage} → stageFrom k n ≡ some t → n < 256 ^ 2 → nextOf t < 256 ^ 2
+unfolding stageFrom nextOf
+next-from k n {t} e h = go (eqb k 0) (eqb k 1) (eqb k 2) e
+  where
+    go : (x y z : Bool) → cond x (some Idle) (cond y (some (Loading n)) (cond z (some Complete) none)) ≡ some t → nextOf t < 256 ^ 2
+    go true y z e = let s : Idle ≡ t = cc in rw (sym s) (omega arith)
+    go false true z e = let s : Loading n ≡ t = cc in rw (sym s) (omega arith)
+    go false false true e = let s : Complete ≡ t = cc in rw (sym s) (omega arith)
+    go false false false e = absurd (let w : _≡_ {A = ℕ} 0 1 = cc in omega arith)
 
-  fits-at : (t : Stage) → stageIn b ≡ some t → Fits (deviceIn b t)
-  unfolding deviceIn
-  fits-at t e =
-      let l = stage-read-length b e in
-      record {
-        model = part-below b bytes 0 4 (omega arith);
-        key = length-part b keyAt keyLength (omega arith);
-        next = next-from (number (part stageAt 2 b)) (number (part nextAt 2 b)) (sym (right-length b l refl refl) ∙ e) (part-below b bytes nextAt 2 (omega arith));
-        manifest = read-fits (part manifestAt manifestLength b) (length-part b manifestAt manifestLength (omega arith)) (part-bytes b bytes manifestAt manifestLength (omega arith));
-        hashes = length-part b hashesAt heldBytes (omega arith);
-      }
+fits-at : (b : List ℕ) → Bytes b → (t : Stage) → stageIn b ≡ some t → Fits (deviceIn b t)
+unfolding deviceIn
+fits-at b bytes t e =
+    let l = stage-read-length b e in
+    record {
+      model = part-below b bytes 0 4 (omega arith);
+      key = length-part b keyAt keyLength (omega arith);
+      next = next-from (number (part stageAt 2 b)) (number (part nextAt 2 b)) (sym (right-length b l refl refl) ∙ e) (part-below b bytes nextAt 2 (omega arith));
+      manifest = read-fits (part manifestAt manifestLength b) (length-part b manifestAt manifestLength (omega arith)) (part-bytes b bytes manifestAt manifestLength (omega arith));
+      hashes = length-part b hashesAt heldBytes (omega arith);
+    }
 
 pub decoded-fits : DecodedFits
 unfolding decode
@@ -71,17 +69,13 @@ module _ (state flash m : List ℕ) (message : Bytes m) (d : Device) (f : Fits d
   abbrev o : Outcome
   o = step digest valid d flash m
 
-  is-called : receive state flash m ≡ callOutcome o state
-  unfolding receive
-  is-called = rw (e, receive)
-
   took : receive state flash m .answer ≡ 0 → o .answer ≡ Accepted
   unfolding callOutcome
-  took z = zero-accepted (o .answer) refl .0 (sym (ap (λ (c : CallOutcome). c .answer) is-called) ∙ z)
+  took z = zero-accepted (o .answer) refl .0 (sym (ap (λ (c : CallOutcome). c .answer) (receive-decoded state e flash m)) ∙ z)
 
   leaves : o .answer ≡ Accepted → receive state flash m ≡ record { answer = 0; state = encode (o .device); flash = o .flash }
   unfolding callOutcome stateAfter
-  leaves a = is-called ∙ rw (a, callOutcome, stateAfter)
+  leaves a = receive-decoded state e flash m ∙ rw (a, callOutcome, stateAfter)
 
   complete : o .answer ≡ Accepted → stageIn (receive state flash m .state) ≡ some Complete → o .device .stage ≡ Complete
   complete a s =

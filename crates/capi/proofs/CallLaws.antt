@@ -25,7 +25,7 @@ use Rattle.device.proofs.AcceptLaws.{held-step}
 use Rattle.capi.specs.declared.state.StageRead.{StageRead}
 use Rattle.capi.specs.declared.state.StageRead.the-variants.{At, Nothing}
 use Rattle.capi.specs.StageRead.{stageRead}
-use Rattle.capi.specs.State.{stateLength, encode, stageIn, deviceIn}
+use Rattle.capi.specs.State.{stateLength, encode, stageIn, deviceIn, decode}
 use Rattle.capi.proofs.StateLaws.{decode-none, decode-some, decode-encode}
 use Rattle.capi.specs.Call.{stateAfter, callOutcome, receive, bootCheckOf}
 use Rattle.capi.specs.Claims.{IsStep}
@@ -54,6 +54,16 @@ unfolding outcome
 keeps none d flash then e = absurd (let z : _≡_ {A = ℕ} 0 1 = cc in omega arith)
 keeps (some y) d flash then e = refl
 
+-- A message and the boot check, on bytes b that encode a device.
+module _ (b : List ℕ) {d : Device} (e : decode b ≡ some d) (flash : List ℕ) where
+  pub receive-decoded : (m : List ℕ) → receive b flash m ≡ callOutcome (step digest valid d flash m) b
+  unfolding receive
+  receive-decoded m = rw (e, receive)
+
+  pub boot-check-decoded : bootCheckOf b flash ≡ numberOf (bootCheck digest d flash)
+  unfolding bootCheckOf
+  boot-check-decoded = rw (e, bootCheckOf)
+
 -- What the code read in the bytes b of a state.
 module _ (b : List ℕ) {f : StageRead} (e : f ≡ stageRead (stageIn b)) where
   pub length-stage-read : {t : Stage} → f ≡ At t → length b ≡ stateLength
@@ -66,9 +76,8 @@ module _ (b : List ℕ) {f : StageRead} (e : f ≡ stageRead (stageIn b)) where
     none-boot-check g = rw (decode-none b (stage-read-none (stageIn b) (sym e ∙ g)), bootCheckOf)
 
     pub checked : {t : Stage} {d : Device} {a : Answer} {n : ℕ} → f ≡ At t → d ≡ deviceIn b t → a ≡ bootCheck digest d flash → n ≡ numberOf a → n ≡ bootCheckOf b flash
-    unfolding bootCheckOf
     checked g de ae ne =
-        rw (decode-some b (stage-read-some (stageIn b) (sym e ∙ g)), bootCheckOf) (ne ∙ ap numberOf (ae ∙ ap (λ (x : Device). bootCheck digest x flash) de))
+        ne ∙ ap numberOf (ae ∙ ap (λ (x : Device). bootCheck digest x flash) de) ∙ sym (boot-check-decoded b (decode-some b (stage-read-some (stageIn b) (sym e ∙ g))) flash)
 
   module _ (flash m : List ℕ) where
     pub unknown : f ≡ Nothing → receive b flash m ≡ record { answer = 1; state = b; flash = flash }
@@ -81,8 +90,10 @@ module _ (b : List ℕ) {f : StageRead} (e : f ≡ stageRead (stageIn b)) where
       stepped = sym (held-step d flash m l) ∙ se
 
       taken : receive b flash m ≡ callOutcome o b
-      unfolding receive
-      taken = rw (decode-some b (stage-read-some (stageIn b) (sym e ∙ g)), receive) (ap (λ (x : Device). callOutcome (step digest valid x flash m) b) (sym de) ∙ ap (λ (x : Outcome). callOutcome x b) stepped)
+      taken =
+          receive-decoded b (decode-some b (stage-read-some (stageIn b) (sym e ∙ g))) flash m
+          ∙ ap (λ (x : Device). callOutcome (step digest valid x flash m) b) (sym de)
+          ∙ ap (λ (x : Outcome). callOutcome x b) stepped
 
       -- a refusal leaves the device as it was
       pub unchanged : {x : Refusal} → o .answer ≡ Refused x → o .device ≡ d
@@ -98,5 +109,4 @@ module _ (b : List ℕ) {f : StageRead} (e : f ≡ stageRead (stageIn b)) where
       accepted z eb = taken ∙ rw (z, eb)
 
 pub receive-encode : IsStep
-unfolding receive
-receive-encode d flash m f = rw (decode-encode d f, receive)
+receive-encode d flash m f = receive-decoded (encode d) (decode-encode d f) flash m

@@ -1,5 +1,5 @@
 -- From a fresh state and a list of calls to the whole of demand 3; and what the boot check's 0 proves of any bytes and memory.
-use mathlib.Core.Path.{_≡_, refl, ap, _∙_}
+use mathlib.Core.Path.{_≡_, refl, sym, ap, _∙_}
 use mathlib.Core.Logic.{_↔_}
 use mathlib.Core.List.{List}
 use mathlib.Core.Option.{Option, none, some}
@@ -27,6 +27,7 @@ use Rattle.capi.specs.Call.{bootCheckOf}
 use Rattle.capi.specs.Claims.{BootProvesFromC}
 use Rattle.capi.specs.FromC.{FromC}
 use Rattle.capi.proofs.StateLaws.{decode-encode}
+use Rattle.capi.proofs.CallLaws.{boot-check-decoded}
 use Rattle.capi.proofs.StatusLaws.{sensible-decoded, status-is, length-is}
 use Rattle.capi.proofs.RunLaws.{fresh-fits, runs}
 
@@ -34,18 +35,13 @@ pub zero-accepted : (a : Answer) {n : ℕ} → n ≡ numberOf a → (n ≡ 0) �
 zero-accepted Accepted e = (λ z. refl, λ z. e)
 zero-accepted (Refused r) e = (λ z. absurd (omega (arith, above-zero r)), λ z. cc)
 
--- the boot check of bytes that encode a device
-pub boot-check-decoded : (b : List ℕ) {d : Device} → decode b ≡ some d → (lent : List ℕ) → bootCheckOf b lent ≡ numberOf (bootCheck digest d lent)
-unfolding bootCheckOf
-boot-check-decoded b e lent = rw (e, bootCheckOf)
-
 pub boot-proves-from-c : BootProvesFromC
 unfolding bootCheckOf
 boot-proves-from-c state flash z = go (decode state) refl
   where
     go : (o : Option Device) → decode state ≡ o → (d : Device) × (decode state ≡ some d) × Booted digest d flash
     go none e = absurd (let n : _≡_ {A = ℕ} 1 0 = rw (e, bootCheckOf) at z in omega arith)
-    go (some d) e = (d, e, boot-proves digest length-digest d flash (zero-accepted (bootCheck digest d flash) refl .0 (rw (e, bootCheckOf) at z)))
+    go (some d) e = (d, e, boot-proves digest length-digest d flash (zero-accepted (bootCheck digest d flash) refl .0 (sym (boot-check-decoded state e flash) ∙ z)))
 
 pub from-c : FromC
 from-c model key small long flash ms bytes =

@@ -21,7 +21,7 @@ use Rattle.wire.specs.Refusal.{firstThatApplies}
 use Rattle.wire.specs.Geometry.{countOf}
 use Rattle.wire.specs.Message.{leastLength, short, manifestIn}
 use Rattle.wire.proofs.SizeLaws.{Sized}
-use Rattle.sender.specs.Job.{Image, Job, count, programFor, blockFor}
+use Rattle.sender.specs.Job.{Image, Job, count, programFor}
 use Rattle.machine.specs.declared.state.Stage.{Stage}
 use Rattle.machine.specs.declared.state.Stage.the-variants.{Idle, Loading, Complete}
 use Rattle.machine.specs.declared.state.Device.{Device}

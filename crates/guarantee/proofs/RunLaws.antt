@@ -88,11 +88,11 @@ module _ (H : List ℕ → List ℕ) (valid : (key message signature : List ℕ)
       pub after-is : now (cs ▷ c) ≡ now cs
       pub taken-is : taken (cs ▷ c) ≡ taken cs
 
-    pub away : part .names c ≡ false → Same
+    away : part .names c ≡ false → Same
     unfolding after accepted
     away n = record { after-is = serves .elsewhere (state cs .device) (state cs .flash) c n; taken-is = rw (n, accepted) }
 
-    pub same : (r : Refusal) → answerTo step d flash cs c ≡ Refused r → Same
+    same : (r : Refusal) → answerTo step d flash cs c ≡ Refused r → Same
     unfolding after accepted answerTo
     same r e = record { after-is = serves .refused (state cs .device) (state cs .flash) c r e; taken-is = go (part .names c) refl }
       where

@@ -13,7 +13,7 @@ use Rattle.machine.specs.declared.state.Stage.the-variants.{Loading}
 use Rattle.machine.specs.declared.state.Device.{Device}
 use Rattle.machine.specs.declared.state.Answer.the-variants.{Accepted}
 use Rattle.machine.specs.Device.{nextOf}
-use Rattle.guarantee.specs.Run.{Messages, empty, _▷_, answerTo, blocksSince}
+use Rattle.guarantee.specs.Run.{empty, _▷_, answerTo, blocksSince}
 use Rattle.guarantee.specs.Demand3.{Begun, begin, next, SecondHalf}
 use Rattle.guarantee.proofs.Toy.{Step, toy, any, part, job, fresh, flash, program, right, refusing, but, butFlash, byKind, computing, loaded, at}
 
