@@ -14,6 +14,8 @@ pub mod CountLaws
 pub mod LowBitLaws
 pub mod HeldLaws
 pub mod FitsLaws
+pub mod CostLaws
+pub mod MessageCostLaws
 pub mod TreeLaws
 pub mod ClimbLaws
 pub mod SiblingLaws

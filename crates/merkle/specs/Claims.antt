@@ -7,10 +7,11 @@ use lib.ListN.{length, drop}
 use Rattle.merkle.specs.Limits.{maxBlocks, hashLength, maxHeld, heldBytes}
 use Rattle.merkle.specs.Blocks.{blockCount}
 use Rattle.merkle.specs.Shape.{Shape, leaf, node, size, height, depth, split, shape, Place, places}
-use Rattle.merkle.specs.Hash.{Hashing, hash, hashes, climb}
+use Rattle.merkle.specs.Hash.{Hashing, plain, hash, hashes, climb}
 use Rattle.merkle.specs.Frontier.{largest, rightSiblings, siblings, carriedCount, frontier, heldCount}
 use Rattle.merkle.specs.Path.{pathSiblings, leafDepth, way, pathHash, PathCollision}
 use Rattle.merkle.specs.Held.{hashesIn, heldIn, nextHeld, begun, advanced}
+use Rattle.merkle.specs.Cost.{messageCost, knownCost}
 
 -- "Its count n is T/L rounded up": n blocks hold the T bytes, and n - 1 do not.
 pub record Rounded (L T n : ℕ) : Type 0 where
@@ -151,3 +152,16 @@ LeafDepths =
     ((leafDepth 3 0 ≡ 2) × (leafDepth 3 1 ≡ 2) × (leafDepth 3 2 ≡ 1))
     × ((n i : ℕ) → i < n → length (way 0 (shape n) i) ≡ leafDepth n i)
     × ((n i : ℕ) → 0 < n → leafDepth n i ≤ depth n)
+
+-- Change 7: what a block message costs follows from L, T and the number alone. It is known before anything is hashed, whatever flash, block and message hold, if the
+-- hash function's results have 32 bytes.
+abbrev pub CostKnown : Type 0
+CostKnown =
+    (H : Hashing) → ((x : List ℕ) → length (H .function x) ≡ hashLength) → (L n i : ℕ) (flash block message : List ℕ) → i < n → (n - 1) * L ≤ length flash
+    → length message ≡ hashLength * carriedCount n (suc i) → messageCost H L n i flash block message ≡ knownCost H L n i (length block)
+
+-- "With L = 256 and n = 8, message 1 costs 11"; message 2 costs 5, and message 8, with the whole tree, 59. One block of one byte, which is the last one, costs 2.
+abbrev pub CostCases : Type 0
+CostCases =
+    (function : List ℕ → List ℕ) → (let known = knownCost (plain function) in
+    (known 256 8 0 256 ≡ 11) × (known 256 8 1 256 ≡ 5) × (known 256 8 7 256 ≡ 59) × (known 256 1 0 1 ≡ 2))

@@ -6,4 +6,5 @@ pub mod Frontier
 pub mod Path
 pub mod Turns
 pub mod Held
+pub mod Cost
 pub mod Claims

@@ -9,7 +9,7 @@ use Rattle.octets.specs.Octets.{bytes}
 use Rattle.octets.proofs.CopyLaws.{paste-end}
 use Rattle.octets.proofs.NumberLaws.{length-bytes, bytes-mod}
 use Rattle.sha256.specs.Sha256.{zeroBits, padding, pad, hashValue, block, compress, digest, concatenated}
-use Rattle.sha256.specs.Claims.{ZeroBits, PadLength}
+use Rattle.sha256.specs.Claims.{ZeroBits, PadLength, Compressions}
 use Rattle.sha256.specs.Context.{Pending}
 use Rattle.sha256.proofs.HashLaws.{hash-one, digest-pending, length-rest}
 
@@ -30,6 +30,9 @@ length-padding n =
 pub length-pad : PadLength
 unfolding pad
 length-pad m = length-append m (padding (8 * length m)) ∙ omega (arith, length-padding (length m))
+
+pub compressions-is : Compressions
+compressions-is m = let e = length-pad m in omega arith
 
 split : (k n : ℕ) → k ≤ n → _≡_ {A = List ℕ} (replicate n 0) (replicate k 0 ++ replicate (n - k) 0)
 split k n h =

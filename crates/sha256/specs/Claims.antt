@@ -5,7 +5,7 @@ use mathlib.Core.List.{List, [], _∷_}
 use Prim.Native.Nat.{ℕ, zero, suc, _+_, _-_, _*_, _/_, _%_, _^_, _≤_}
 use lib.Dec.{eqb, leb, ltb}
 use lib.ListN.{length, take}
-use Rattle.sha256.specs.Sha256.{K, H0, zeroBits, pad, digest}
+use Rattle.sha256.specs.Sha256.{K, H0, zeroBits, pad, compressions, compressionsFor, digest}
 
 -- whether n has a divisor from 2 to k + 1
 unfoldable pub divides : ℕ → ℕ → Bool
@@ -41,6 +41,10 @@ ZeroBits = (l : ℕ) → ((l + 1 + zeroBits l) % 512 ≡ 448) × ((k : ℕ) → 
 -- a padded message has (length + 9) / 64 blocks, rounded up
 abbrev pub PadLength : Type 0
 PadLength = (m : List ℕ) → length (pad m) ≡ 64 * ((length m + 9 + 63) / 64)
+
+-- The compressions of a digest are "its length plus 9, over 64, rounded up" (02, change 7).
+abbrev pub Compressions : Type 0
+Compressions = (m : List ℕ) → compressions m ≡ compressionsFor (length m)
 
 -- 01: "A label is 32 bytes."
 abbrev pub DigestLength : Type 0
