@@ -1,6 +1,6 @@
 -- Early returns, one test after the other, give the answer of the first refusal that applies.
 use mathlib.Core.Path.{_≡_, refl, sym, ap, _∙_}
-use mathlib.Core.Bool.{Bool, true, false}
+use mathlib.Core.Bool.{Bool, true, false, true≢false}
 use mathlib.Core.List.{List, [], _∷_, _++_}
 use mathlib.Core.Option.{none}
 use Prim.Native.Nat.{ℕ}
@@ -14,13 +14,14 @@ use Rattle.wire.specs.declared.refusal.Refusal.{Refusal}
 use Rattle.wire.specs.declared.refusal.Refusal.the-variants as refusal
 use Rattle.wire.specs.Refusal.{firstThatApplies}
 use Rattle.wire.specs.Size.{wrongSize}
-use Rattle.wire.specs.Message.{short}
+use Rattle.wire.specs.Message.{short, carries, manifestIn}
 use Rattle.machine.specs.declared.state.Device.{Device}
 use Rattle.machine.specs.declared.state.Answer.{Answer}
 use Rattle.machine.specs.declared.state.Answer.the-variants.{Accepted, Refused}
-use Rattle.machine.specs.Refusals.{noKind, tooSmall, ofManifest, ofSuccessor}
+use Rattle.machine.specs.Refusals.{noKind, notComplete, tooSmall, ofManifest, ofProgram, ofSuccessor, ofUpdate, ofPathUpdate, ofKind}
 use Rattle.machine.specs.Step.{answerOf}
-use Rattle.machine.proofs.RefusalLaws.{testOf, clear, answer-none, answer-some, Passes, behind-piece, in-piece, alike-lengths}
+use Rattle.machine.proofs.RefusalLaws.{testOf, clear, answer-none, answer-some, Passes, behind-piece, in-piece, alike-lengths, start, _past_}
+use Rattle.device.specs.Fields.{early}
 
 -- a list that is told in other words
 pub retold : {es fs : List (Refusal × Bool)} → fs ≡ es → Passes es fs
@@ -45,6 +46,9 @@ refused-in {r = r} fs rest p e = onward p (sym (ap answerOf (in-piece fs rest (a
 
 pub past-all : {es : List (Refusal × Bool)} (fs rest : List (Refusal × Bool)) → Passes es (fs ++ rest) → Accepted ≡ answerOf (firstThatApplies fs) → Passes es rest
 past-all fs rest p e = record { same = p .same ∙ behind-piece fs rest (answer-none (firstThatApplies fs) (sym e)) }
+
+pub past-none : {es : List (Refusal × Bool)} (fs rest : List (Refusal × Bool)) → Passes es (fs ++ rest) → firstThatApplies fs ≡ none → Passes es rest
+past-none fs rest p e = record { same = p .same ∙ behind-piece fs rest e }
 
 -- An update that passed its first tests has a manifest of an allowed size, and room; and so has the current manifest, with the same lengths.
 abbrev pub Known : Manifest → List ℕ → Type 0
@@ -73,3 +77,23 @@ known-short Block m e = refl
 known-short Update m e = refl
 known-short PathUpdate m e = refl
 known-short Unknown m e = absurd (let l = ltb-true (length m) 0 e in omega arith)
+
+module _ (H : List ℕ → List ℕ) (valid : (key message signature : List ℕ) → Bool) (d : Device) (f m : List ℕ) where
+  -- 10 of an update
+  pub early-refused : (k : Kind) → early k (d .stage) ≡ true → Refused refusal.Stage ≡ answerOf (firstThatApplies (ofKind H valid k d f m))
+  unfolding early ofKind ofUpdate ofPathUpdate ofSuccessor
+  early-refused Program e = absurd (true≢false (sym e))
+  early-refused Block e = absurd (true≢false (sym e))
+  early-refused Update e = refused (start _) e
+  early-refused PathUpdate e = refused (start _) e
+  early-refused Unknown e = absurd (true≢false (sym e))
+
+  -- 4, 5, 6, 7 of the manifest
+  pub manifest-refused : (k : Kind) → carries k ≡ true → early k (d .stage) ≡ false → {r : Refusal} → Refused r ≡ answerOf (firstThatApplies (ofManifest d (manifestIn m)))
+      → Refused r ≡ answerOf (firstThatApplies (ofKind H valid k d f m))
+  unfolding carries early ofKind ofProgram ofUpdate ofPathUpdate ofSuccessor ofManifest
+  manifest-refused Program c e q = refused-in (ofManifest d (manifestIn m)) _ (start _) q
+  manifest-refused Block c e q = absurd (true≢false (sym c))
+  manifest-refused Update c e q = let n : notComplete (d .stage) ≡ false = e in refused-in (ofManifest d (manifestIn m)) _ (start (ofKind H valid Update d f m) past n) q
+  manifest-refused PathUpdate c e q = let n : notComplete (d .stage) ≡ false = e in refused-in (ofManifest d (manifestIn m)) _ (start (ofKind H valid PathUpdate d f m) past n) q
+  manifest-refused Unknown c e q = absurd (true≢false (sym c))

@@ -1,5 +1,6 @@
 // When each refusal is given: a test for each, but for 2 and 3, which stand in `judge`.
 use machine::Stage;
+use wire::Kind;
 use wire::Manifest;
 ghost use mathlib.Core.Path.{_≡_};
 ghost use mathlib.Core.Bool.{false, _||_};
@@ -23,6 +24,7 @@ ghost use Rattle.machine.specs.Device.{serialOf, nextOf};
 ghost use Rattle.machine.specs.Refusals.{wrongVersion, otherModel, notNewer, tooSmall, notLoading, notComplete, notNext, wrongLength};
 ghost use Rattle.machine.specs.Refusals as spec;
 ghost use Rattle.device.specs.Fields.{deviceOf};
+ghost use Rattle.device.specs.Fields as fields;
 
 // The block count (01: n) of a manifest that refusal 5 does not apply to.
 pub fn count(manifest: Manifest) -> usize
@@ -130,6 +132,19 @@ pub fn not_complete(stage: Stage) -> bool
         Stage::Idle => true,
         Stage::Loading(_) => true,
         Stage::Complete => false,
+    }
+}
+
+// 10, of the kinds that carry a manifest: an update, and not complete. A new program comes at any stage.
+pub fn early(kind: Kind, stage: Stage) -> bool
+    ensures { λ r. ⌜ r ≡ fields.early kind stage ⌝ }
+{
+    match kind {
+        Kind::Program => false,
+        Kind::Block => false,
+        Kind::Update => not_complete(stage),
+        Kind::PathUpdate => not_complete(stage),
+        Kind::Unknown => false,
     }
 }
 

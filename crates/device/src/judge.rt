@@ -2,13 +2,13 @@
 // device that its tests look at. Its callers meet its `requires`: `receive_in_place` calls `judge`, and all other calls stand in this file.
 use crate::conditions::below_least_path;
 use crate::conditions::below_least_update;
+use crate::conditions::early;
 use crate::conditions::lacks_root;
 use crate::conditions::lacks_root_with;
 use crate::conditions::last_altered;
 use crate::conditions::leaf_depth;
 use crate::conditions::mismatch;
 use crate::conditions::next_of;
-use crate::conditions::not_complete;
 use crate::conditions::not_loading;
 use crate::conditions::not_newer;
 use crate::conditions::not_next;
@@ -30,7 +30,7 @@ use wire::Kind;
 use wire::Manifest;
 use wire::Refusal;
 ghost use mathlib.Core.Path.{_≡_};
-ghost use mathlib.Core.Bool.{false};
+ghost use mathlib.Core.Bool.{true, false};
 ghost use mathlib.Core.List.{List, [], _∷_};
 ghost use Prim.Native.Nat.{ℕ, pred, _+_, _*_, _≤_};
 ghost use lib.ListN.{length};
@@ -44,12 +44,12 @@ ghost use Rattle.wire.specs.Refusal.{firstThatApplies};
 ghost use Rattle.wire.specs.Size.{wrongSize};
 ghost use Rattle.wire.specs.Size as size;
 ghost use Rattle.wire.specs.Geometry.{countOf, blocksOf};
-ghost use Rattle.wire.specs.Message.{leastLength, manifestIn, updateNumber, updateBlock, pathIn};
+ghost use Rattle.wire.specs.Message.{carries, leastLength, manifestIn, updateNumber, updateBlock, pathIn};
 ghost use Rattle.machine.specs.Device.{nextOf};
-ghost use Rattle.machine.specs.Refusals.{tooSmall, ofManifest, ofProgram, ofBlock, ofSuccessor, ofUpdate, ofPathUpdate, refusals};
+ghost use Rattle.machine.specs.Refusals.{notComplete, tooSmall, ofKind, ofManifest, ofProgram, ofBlock, ofSuccessor, ofUpdate, ofPathUpdate, refusals};
 ghost use Rattle.machine.specs.Refusals as spec;
 ghost use Rattle.machine.specs.Step.{answerOf};
-ghost use Rattle.device.specs.Fields.{deviceOf};
+ghost use Rattle.device.specs.Fields.{deviceOf, Newer};
 
 // Always 1, 2, 3; then those of the kind. No message of an unknown kind is short, so 2 can wait for the match.
 pub fn judge(
@@ -73,10 +73,41 @@ pub fn judge(
     }
     match kind {
         Kind::Unknown => Answer::Refused(Refusal::Kind),
-        Kind::Program => judge_program(model, key, stage, current, flash, message),
         Kind::Block => judge_block(stage, current, hashes, flash, message),
-        Kind::Update => judge_update(model, key, stage, current, flash, message),
-        Kind::PathUpdate => judge_path_update(model, key, stage, current, flash, message),
+        Kind::Program | Kind::Update | Kind::PathUpdate => {
+            judge_carrier(model, key, stage, current, kind, flash, message)
+        }
+    }
+}
+
+// Kinds 1, 3 and 4, which carry a manifest: 10 of an update, 4, 5, 6, 7 of the manifest, then the kind's own. One call for all of them, and one of
+// `judge_manifest`: the compiler writes such a test out at each place that calls it.
+fn judge_carrier(
+    model: u32,
+    key: &[u8],
+    stage: Stage,
+    current: Manifest,
+    kind: Kind,
+    flash: &[u8],
+    message: &[u8],
+) -> Answer
+    requires { ⌜ (carries kind ≡ true) × (leastLength kind ≤ length (now message)) ⌝ }
+    ensures { λ r. ⌜ ((hashes : List ℕ) → r ≡ answerOf (firstThatApplies (ofKind digest valid kind (deviceOf model (now (key .entry)) stage current hashes) (now (flash .entry)) (now (message .entry))))) ⌝ }
+{
+    if early(kind, stage) {
+        return Answer::Refused(Refusal::Stage);
+    }
+    let manifest = wire::manifest_in(message);
+    let first = judge_manifest(model, stage, current, manifest);
+    let Answer::Accepted = first else {
+        return first;
+    };
+    match kind {
+        Kind::Program => judge_program(model, key, stage, current, manifest, flash, message),
+        Kind::Update => judge_update(model, key, stage, current, manifest, flash, message),
+        Kind::PathUpdate => judge_path_update(model, key, stage, current, manifest, flash, message),
+        // Neither comes here: they carry none.
+        Kind::Block | Kind::Unknown => Answer::Refused(Refusal::Kind),
     }
 }
 
@@ -99,23 +130,19 @@ fn judge_manifest(model: u32, stage: Stage, current: Manifest, manifest: Manifes
     Answer::Accepted
 }
 
-// Kind 1: 4, 5, 6, 7, 8, 9.
+// Kind 1: 4, 5, 6, 7, which have passed, then 8, 9.
 fn judge_program(
     model: u32,
     key: &[u8],
     stage: Stage,
     current: Manifest,
+    manifest: Manifest,
     flash: &[u8],
     message: &[u8],
 ) -> Answer
-    requires { ⌜ leastLength kinds.Program ≤ length (now message) ⌝ }
+    requires { ⌜ (leastLength kinds.Program ≤ length (now message)) × (manifest ≡ manifestIn (now message)) × Newer model stage current manifest ⌝ }
     ensures { λ r. ⌜ ((hashes : List ℕ) → r ≡ answerOf (firstThatApplies (ofProgram valid (deviceOf model (now (key .entry)) stage current hashes) (now (flash .entry)) (now (message .entry)) (manifestIn (now (message .entry)))))) ⌝ }
 {
-    let manifest = wire::manifest_in(message);
-    let first = judge_manifest(model, stage, current, manifest);
-    let Answer::Accepted = first else {
-        return first;
-    };
     if too_small(manifest, flash) {
         return Answer::Refused(Refusal::Area);
     }
@@ -162,7 +189,7 @@ fn judge_block(
     Answer::Accepted
 }
 
-// An update of either kind: 10, 4, 5, 6, 7, 13, 8.
+// An update of either kind: 10, 4, 5, 6, 7, which have passed, then 13, 8.
 fn judge_successor(
     model: u32,
     stage: Stage,
@@ -170,15 +197,9 @@ fn judge_successor(
     flash: &[u8],
     manifest: Manifest,
 ) -> Answer
+    requires { ⌜ (notComplete stage ≡ false) × Newer model stage current manifest ⌝ }
     ensures { λ r. ⌜ ((key hashes : List ℕ) → r ≡ answerOf (firstThatApplies (ofSuccessor (deviceOf model key stage current hashes) (now (flash .entry)) manifest))) ⌝ }
 {
-    if not_complete(stage) {
-        return Answer::Refused(Refusal::Stage);
-    }
-    let first = judge_manifest(model, stage, current, manifest);
-    let Answer::Accepted = first else {
-        return first;
-    };
     if unlike(manifest, current) {
         return Answer::Refused(Refusal::Unlike);
     }
@@ -194,13 +215,13 @@ fn judge_update(
     key: &[u8],
     stage: Stage,
     current: Manifest,
+    manifest: Manifest,
     flash: &[u8],
     message: &[u8],
 ) -> Answer
-    requires { ⌜ leastLength kinds.Update ≤ length (now message) ⌝ }
+    requires { ⌜ (leastLength kinds.Update ≤ length (now message)) × (manifest ≡ manifestIn (now message)) × (notComplete stage ≡ false) × Newer model stage current manifest ⌝ }
     ensures { λ r. ⌜ ((hashes : List ℕ) → r ≡ answerOf (firstThatApplies (ofUpdate digest valid (deviceOf model (now (key .entry)) stage current hashes) (now (flash .entry)) (now (message .entry)) (manifestIn (now (message .entry))) (updateNumber (now (message .entry)))))) ⌝ }
 {
-    let manifest = wire::manifest_in(message);
     let number = wire::update_number(message);
     let first = judge_successor(model, stage, current, flash, manifest);
     let Answer::Accepted = first else {
@@ -235,13 +256,13 @@ fn judge_path_update(
     key: &[u8],
     stage: Stage,
     current: Manifest,
+    manifest: Manifest,
     flash: &[u8],
     message: &[u8],
 ) -> Answer
-    requires { ⌜ leastLength kinds.PathUpdate ≤ length (now message) ⌝ }
+    requires { ⌜ (leastLength kinds.PathUpdate ≤ length (now message)) × (manifest ≡ manifestIn (now message)) × (notComplete stage ≡ false) × Newer model stage current manifest ⌝ }
     ensures { λ r. ⌜ ((hashes : List ℕ) → r ≡ answerOf (firstThatApplies (ofPathUpdate digest valid (deviceOf model (now (key .entry)) stage current hashes) (now (flash .entry)) (now (message .entry)) (manifestIn (now (message .entry))) (updateNumber (now (message .entry)))))) ⌝ }
 {
-    let manifest = wire::manifest_in(message);
     let number = wire::update_number(message);
     let first = judge_successor(model, stage, current, flash, manifest);
     let Answer::Accepted = first else {

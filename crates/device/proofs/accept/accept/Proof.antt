@@ -1,29 +1,18 @@
 use mathlib.Core.Path.{_≡_, refl, sym, _∙_}
 use mathlib.Core.Logic.{_⊎_, inl, inr, ⊎-elim}
-use Prim.Native.Nat.{ℕ, _≤_, _<_}
-use native.Mathlib.Omega.{arith}
+use Prim.Native.Nat.{_≤_, _<_}
 use lib.ListN.{length}
-use denote.Enum.Declared.{tagOf}
 use Rattle.sha256.specs.Sha256.{digest}
 use Rattle.lms.specs.Lms.{valid}
-use Rattle.wire.specs.declared.kind.Kind.{Kind}
-use Rattle.wire.proofs.kind.Kind.{the-type}
-use Rattle.wire.specs.declared.kind.Kind.the-variants.{Program, Block, Update, PathUpdate, Unknown}
+use Rattle.wire.specs.declared.kind.Kind.the-variants.{Update, PathUpdate}
 use Rattle.wire.specs.Geometry.{countOf}
 use Rattle.wire.specs.Message.{manifestIn, updateNumber, leastUpdate}
 use Rattle.machine.specs.Step.{accept}
 use Rattle.machine.proofs.RefusalLaws.{program-passed, update-passed, path-passed, path-block}
+use Rattle.device.proofs.KindLaws.{updating}
 use borrow.Author.Needs.{needs}
 use Rattle.device.proofs.accept.accept.Statement.{statement}
 use Rattle.device.proofs.accept.accept.Tie as tie
-
--- the two kinds of the updates' arm
-updating : (k : Kind) → (tagOf the-type k ≡ 2) ⊎ (tagOf the-type k ≡ 3) → (k ≡ Update) ⊎ (k ≡ PathUpdate)
-updating Program e = absurd (⊎-elim (λ (z : _≡_ {A = ℕ} 0 2). omega arith) (λ (z : _≡_ {A = ℕ} 0 3). omega arith) e)
-updating Block e = absurd (⊎-elim (λ (z : _≡_ {A = ℕ} 1 2). omega arith) (λ (z : _≡_ {A = ℕ} 1 3). omega arith) e)
-updating Update e = inl refl
-updating PathUpdate e = inr refl
-updating Unknown e = absurd (⊎-elim (λ (z : _≡_ {A = ℕ} 4 2). omega arith) (λ (z : _≡_ {A = ℕ} 4 3). omega arith) e)
 
 -- An update of either kind has its block whole, and room for it.
 enough : (s : tie.Start) → (s .args .kind ≡ Update) ⊎ (s .args .kind ≡ PathUpdate)

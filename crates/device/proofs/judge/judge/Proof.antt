@@ -11,6 +11,7 @@ use Rattle.machine.specs.declared.state.Device.{Device}
 use Rattle.machine.specs.Refusals.{noKind, always, ofKind, refusals}
 use Rattle.machine.proofs.RefusalLaws.{behind, Passes, start, _past_}
 use Rattle.device.specs.Fields.{deviceOf}
+use Rattle.device.proofs.KindLaws.{carried-known, carrying}
 use Rattle.device.proofs.JudgeLaws.{onward, refused, known-short}
 use borrow.Author.Needs.{needs}
 use Rattle.device.proofs.judge.judge.Statement.{statement}
@@ -50,32 +51,15 @@ enum-told c = search needs
 enum-told-2 : tie.Need-enum-told-2
 enum-told-2 c = search needs
 
-judge-program-requires : tie.Need-judge-program-requires
-unfolding short
-judge-program-requires c κs = ltb-false _ _ (enough (c .before .before) (c .enum-told2 .given .1))
-
-enum-told-3 : tie.Need-enum-told-3
-enum-told-3 c = search needs
-
 judge-block-requires : tie.Need-judge-block-requires
 unfolding short
 judge-block-requires c κs =
     let e1 = c .before .before .before .before in
-    (λ model key. sym (e1 .before .senseless .ensures model key _) ∙ e1 .if1 .left, e1 .before .before .before .before .before .before .pre, ltb-false _ _ (enough (c .before .before) (c .enum-told3 .given .1)))
+    (λ model key. sym (e1 .before .senseless .ensures model key _) ∙ e1 .if1 .left, e1 .before .before .before .before .before .before .pre, ltb-false _ _ (enough (c .before .before) (c .enum-told2 .given .1)))
 
-enum-told-4 : tie.Need-enum-told-4
-enum-told-4 c = search needs
-
-judge-update-requires : tie.Need-judge-update-requires
+judge-carrier-requires : tie.Need-judge-carrier-requires
 unfolding short
-judge-update-requires c κs = ltb-false _ _ (enough (c .before .before) (c .enum-told4 .given .1))
-
-enum-told-5 : tie.Need-enum-told-5
-enum-told-5 c = search needs
-
-judge-path-update-requires : tie.Need-judge-path-update-requires
-unfolding short
-judge-path-update-requires c κs = ltb-false _ _ (enough (c .before .before) (c .enum-told5 .given .1))
+judge-carrier-requires c κs = (carrying _ (c .match .keys3), ltb-false _ _ (enough (c .before) refl))
 
 returns-3 : tie.Need-returns-3
 unfolding noKind refusals always behind
@@ -85,25 +69,13 @@ returns-4 : tie.Need-returns-4
 unfolding noKind ofKind refusals always behind
 returns-4 c =
     let e = c .before .enum-told2 .given .1 in
-    rw e (onward (sensible (c .before .before .before .before .before) kinds.Program past refl past enough (c .before .before .before) e) (c .judge-program .ensures _))
-
-returns-5 : tie.Need-returns-5
-unfolding noKind ofKind refusals always behind
-returns-5 c =
-    let e = c .before .enum-told3 .given .1 in
     rw e (onward (sensible (c .before .before .before .before .before) kinds.Block past refl past enough (c .before .before .before) e) (c .judge-block .ensures _ _))
 
-returns-6 : tie.Need-returns-6
-unfolding noKind ofKind refusals always behind
-returns-6 c =
-    let e = c .before .enum-told4 .given .1 in
-    rw e (onward (sensible (c .before .before .before .before .before) kinds.Update past refl past enough (c .before .before .before) e) (c .judge-update .ensures _))
-
-returns-7 : tie.Need-returns-7
-unfolding noKind ofKind refusals always behind
-returns-7 c =
-    let e = c .before .enum-told5 .given .1 in
-    rw e (onward (sensible (c .before .before .before .before .before) kinds.PathUpdate past refl past enough (c .before .before .before) e) (c .judge-path-update .ensures _))
+returns-5 : tie.Need-returns-5
+unfolding noKind refusals always behind
+returns-5 c =
+    let k = c .before .before .before .before .before .before .before .before .before .before .args .kind in
+    onward (sensible (c .before .before .before .before) k past carried-known k (carrying k (c .before .match .keys3)) past enough (c .before .before) refl) (c .judge-carrier .ensures _)
 
 pub judge-spec : {M : Type 1} → statement M
 judge-spec =
@@ -115,15 +87,8 @@ judge-spec =
     returns-2
     enum-told
     enum-told-2
-    judge-program-requires
-    enum-told-3
     judge-block-requires
-    enum-told-4
-    judge-update-requires
-    enum-told-5
-    judge-path-update-requires
+    judge-carrier-requires
     returns-3
     returns-4
-    returns-5
-    returns-6
-    returns-7)
+    returns-5)

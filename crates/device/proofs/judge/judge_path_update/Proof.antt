@@ -26,14 +26,14 @@ use Rattle.device.proofs.judge.judge_path_update.Statement.{statement}
 use Rattle.device.proofs.judge.judge_path_update.Tie as tie
 
 abbrev start-of : tie.After-judge-successor → tie.Start
-start-of j = j .before .before .before .before .before .before
+start-of j = j .before .before .before .before .before
 
 abbrev message : tie.After-judge-successor → List ℕ
 message j = start-of j .args .message .now
 
 -- manifest and number, as they were read
 abbrev manifest : tie.After-judge-successor → Manifest
-manifest j = j .before .before .manifest-in .result
+manifest j = start-of j .args .manifest
 
 abbrev number : tie.After-judge-successor → ℕ
 number j = j .before .update-number .result
@@ -51,7 +51,7 @@ Past r j hashes = Passes (tests j hashes (manifestIn (message j)) (updateNumber 
 
 -- the tests, by what was read
 told : (j : tie.After-judge-successor) (hashes : List ℕ) → Passes (tests j hashes (manifestIn (message j)) (updateNumber (message j))) (tests j hashes (manifest j) (number j))
-told j hashes = retold (ap₂ (tests j hashes) (j .before .before .manifest-in .ensures) (j .before .update-number .ensures))
+told j hashes = retold (ap₂ (tests j hashes) (start-of j .pre .1) (j .before .update-number .ensures))
 
 -- length of the new block, and depth of its leaf
 abbrev size : tie.After-judge-successor → ℕ
@@ -98,14 +98,11 @@ known c = successor-known (device (c .before .before) []) _ _ (c .before .before
 within : (c : tie.Else1) → let j = c .before .before .before .before in outside (countOf (manifest j)) (number j) ≡ false
 within c = sym (c .before .outside .ensures) ∙ c .if1 .left
 
-manifest-in-requires : tie.Need-manifest-in-requires
-manifest-in-requires c κs = search needs
-
 update-number-requires : tie.Need-update-number-requires
 update-number-requires c κs = search needs
 
 judge-successor-requires : tie.Need-judge-successor-requires
-judge-successor-requires c κs = search needs
+judge-successor-requires c κs = let a = c .before .before .before .before in (a .pre .2, a .pre .3)
 
 enum-told : tie.Need-enum-told
 enum-told c = search needs
@@ -169,7 +166,6 @@ pub judge-path-update-spec : {M : Type 1} → statement M
 judge-path-update-spec =
     tie.close
     (tie.spec
-    manifest-in-requires
     update-number-requires
     judge-successor-requires
     enum-told
