@@ -19,6 +19,7 @@ use Rattle.wire.specs.declared.refusal.Refusal.the-variants.{State}
 use Rattle.wire.specs.Refusal.{firstThatApplies}
 use Rattle.wire.specs.Geometry.{countOf, blockLength, withBlock}
 use Rattle.wire.specs.Message.{kind, manifestIn, blockIn, hashesAfter, updateNumber, updateBlock}
+use Rattle.wire.proofs.GeometryLaws.{before-is}
 use Rattle.machine.specs.declared.state.Stage.{Stage}
 use Rattle.machine.specs.declared.state.Stage.the-variants.{Loading, Complete}
 use Rattle.machine.specs.declared.state.Device.{Device}
@@ -29,7 +30,6 @@ use Rattle.machine.specs.Flash.{stored, updated}
 use Rattle.machine.specs.Refusals.{refusals}
 use Rattle.machine.specs.Step.{stageAfter, acceptBlock, acceptUpdate, accept, answerOf, outcome, refusalOf, step}
 use Rattle.device.specs.Fields.{stepInPlace}
-use Rattle.device.proofs.ConditionLaws.{before-is}
 use Rattle.machine.proofs.RefusalLaws.{answer-none}
 
 module _ (d : Device) (flash m : List ℕ) where

@@ -1,9 +1,9 @@
 -- What a manifest, a block's place and a block message are known to be where the tests before have passed.
-use mathlib.Core.Path.{_≡_, refl, sym, ap, _∙_}
+use mathlib.Core.Path.{_≡_, sym, ap, _∙_}
 use mathlib.Core.Logic.{_⊎_, inl, inr}
 use mathlib.Core.Bool.{Bool, false, not}
 use mathlib.Core.List.{List}
-use Prim.Native.Nat.{ℕ, zero, suc, pred, _+_, _-_, _*_, _≤_, _<_}
+use Prim.Native.Nat.{ℕ, zero, suc, _+_, _-_, _*_, _≤_, _<_}
 use native.Mathlib.Nat.{zero-add}
 use native.Mathlib.Omega.{arith}
 use lib.Dec.{ltb, leb}
@@ -31,11 +31,6 @@ use Rattle.machine.specs.declared.state.Device.{Device}
 use Rattle.machine.specs.Flash.{stored}
 use Rattle.machine.specs.Refusals.{tooSmall, wrongLength, mismatch, lacksRoot, lastAltered}
 use Rattle.machine.proofs.HeldLaws.{mismatch-is}
-
--- the number of blocks before block i
-pub before-is : (i : ℕ) → i - 1 ≡ pred i
-before-is zero = refl
-before-is (suc i) = omega arith
 
 -- not below is not above
 pub not-above : (a b : ℕ) → leb a b ≡ not (ltb b a)

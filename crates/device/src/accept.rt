@@ -1,7 +1,5 @@
 // What an accepted message does. Only here are hashes and flash written, and only `receive_in_place` calls this, where no refusal applies.
-use crate::conditions::count;
-use crate::conditions::next_of;
-use crate::conditions::own_len;
+use crate::readers::next_of;
 use machine::Stage;
 use wire::Kind;
 use wire::Manifest;
@@ -96,8 +94,8 @@ fn accept_block(
     ensures { λ r. ⌜ ((model : ℕ) (key : List ℕ) → acceptBlock (deviceOf model key stage current (now (hashes .entry))) (now (flash .entry)) (now (message .entry)) ≡ record { device = deviceOf model key (r .stage) (r .manifest) (now (hashes .exit)); flash = now (flash .exit) }) ⌝ }
 {
     let next = next_of(stage);
-    let n = count(current);
-    let len = own_len(current, next);
+    let n = wire::count_of(current);
+    let len = wire::own_len(current, next);
     write_block(
         flash,
         current.block_len as usize,
@@ -124,7 +122,7 @@ fn accept_update(stage: Stage, flash: &mut [u8], message: &[u8]) -> InPlaceSitua
 {
     let manifest = wire::manifest_in(message);
     let number = wire::update_number(message);
-    let len = own_len(manifest, number);
+    let len = wire::own_len(manifest, number);
     write_block(
         flash,
         manifest.block_len as usize,

@@ -1,4 +1,5 @@
 // When each refusal is given: a test for each, but for 2 and 3, which stand in `judge`.
+use crate::readers::serial_of;
 use machine::Stage;
 use wire::Kind;
 use wire::Manifest;
@@ -16,23 +17,14 @@ ghost use Rattle.wire.specs.declared.kind.Kind.the-variants as kinds;
 ghost use Rattle.wire.specs.declared.manifest.Manifest.{Manifest};
 ghost use Rattle.wire.specs.Size.{wrongSize};
 ghost use Rattle.wire.specs.Size as size;
-ghost use Rattle.wire.specs.Geometry.{countOf, blockLength, blocksOf, withBlock};
+ghost use Rattle.wire.specs.Geometry.{countOf, blockLength, withBlock};
 ghost use Rattle.wire.specs.Message.{leastLength, leastUpdate, leastPath};
 ghost use Rattle.machine.specs.declared.state.Stage.{Stage};
 ghost use Rattle.machine.specs.declared.state.Stage.the-variants.{Loading};
-ghost use Rattle.machine.specs.Device.{serialOf, nextOf};
 ghost use Rattle.machine.specs.Refusals.{wrongVersion, otherModel, notNewer, tooSmall, notLoading, notComplete, notNext, wrongLength};
 ghost use Rattle.machine.specs.Refusals as spec;
 ghost use Rattle.device.specs.Fields.{deviceOf};
 ghost use Rattle.device.specs.Fields as fields;
-
-// The block count (01: n) of a manifest that refusal 5 does not apply to.
-pub fn count(manifest: Manifest) -> usize
-    requires { ⌜ wrongSize (manifest .«block_len») (manifest .«image_len») ≡ false ⌝ }
-    ensures { λ r. ⌜ r ≡ countOf manifest ⌝ }
-{
-    wire::block_count(manifest.block_len as usize, manifest.image_len as usize)
-}
 
 // 1.
 pub fn senseless(stage: Stage, manifest: Manifest) -> bool
@@ -44,7 +36,7 @@ pub fn senseless(stage: Stage, manifest: Manifest) -> bool
             if broken(manifest) {
                 return true;
             }
-            wire::outside(count(manifest), next as usize)
+            wire::outside(wire::count_of(manifest), next as usize)
         }
         Stage::Complete => broken(manifest),
     }
@@ -79,17 +71,6 @@ pub fn other_model(model: u32, manifest: Manifest) -> bool
     ensures { λ r. ⌜ ((key : List ℕ) (stage : Stage) (current : Manifest) (hashes : List ℕ) → r ≡ otherModel (deviceOf model key stage current hashes) manifest) ⌝ }
 {
     manifest.model != model
-}
-
-// The serial that a new one must be above: 0 when idle.
-fn serial_of(stage: Stage, current: Manifest) -> u32
-    ensures { λ r. ⌜ ((model : ℕ) (key hashes : List ℕ) → r ≡ serialOf (deviceOf model key stage current hashes)) ⌝ }
-{
-    match stage {
-        Stage::Idle => 0,
-        Stage::Loading(_) => current.serial,
-        Stage::Complete => current.serial,
-    }
 }
 
 // 7.
@@ -148,29 +129,6 @@ pub fn early(kind: Kind, stage: Stage) -> bool
     }
 }
 
-// The number of the next block while loading.
-pub fn next_of(stage: Stage) -> u16
-    ensures { λ r. ⌜ r ≡ nextOf stage ⌝ }
-{
-    match stage {
-        Stage::Idle => 0,
-        Stage::Loading(next) => next,
-        Stage::Complete => 0,
-    }
-}
-
-// The bytes of block `number`, from 1: its own, which in the last one may be fewer than L.
-pub fn own_len(manifest: Manifest, number: u16) -> usize
-    requires { ⌜ (0 < number) × (number ≤ countOf manifest) ⌝ }
-    ensures { λ r. ⌜ r ≡ blockLength (manifest .«block_len») (manifest .«image_len») number ⌝ }
-{
-    wire::block_length(
-        manifest.block_len as usize,
-        manifest.image_len as usize,
-        number as usize,
-    )
-}
-
 // 11, kind 2.
 pub fn not_next(next: u16, message: &[u8]) -> bool
     requires { ⌜ leastLength kinds.Block ≤ length (now message) ⌝ }
@@ -197,7 +155,7 @@ pub fn outside(manifest: Manifest, number: u16) -> bool
     requires { ⌜ wrongSize (manifest .«block_len») (manifest .«image_len») ≡ false ⌝ }
     ensures { λ r. ⌜ r ≡ size.outside (countOf manifest) number ⌝ }
 {
-    wire::outside(count(manifest), number as usize)
+    wire::outside(wire::count_of(manifest), number as usize)
 }
 
 // 12, kind 3.
@@ -241,10 +199,10 @@ pub fn mismatch(manifest: Manifest, hashes: &[u8], next: u16, message: &[u8]) ->
     requires { ⌜ (wrongSize (manifest .«block_len») (manifest .«image_len») ≡ false) × (length (now hashes) ≡ heldBytes) × (0 < next) × (next ≤ countOf manifest) × (wrongLength manifest next (now message) ≡ false) ⌝ }
     ensures { λ r. ⌜ ((model : ℕ) (key : List ℕ) → r ≡ spec.mismatch digest (deviceOf model key (Loading next) manifest (now (hashes .entry))) next (now (message .entry))) ⌝ }
 {
-    let len = own_len(manifest, next);
+    let len = wire::own_len(manifest, next);
     !merkle::fits(
         hashes,
-        count(manifest),
+        wire::count_of(manifest),
         next as usize - 1,
         wire::block_in(message, len),
         wire::hashes_after(message, len),
@@ -258,7 +216,11 @@ pub fn lacks_root(manifest: Manifest, flash: &[u8]) -> bool
 {
     let root = manifest.root;
     let end = manifest.image_len as usize;
-    let tree = merkle::root(&flash[..end], manifest.block_len as usize, count(manifest));
+    let tree = merkle::root(
+        &flash[..end],
+        manifest.block_len as usize,
+        wire::count_of(manifest),
+    );
     !octets::equal(&tree, &root)
 }
 
@@ -272,7 +234,7 @@ pub fn lacks_root_with(manifest: Manifest, flash: &[u8], number: u16, block: &[u
     let found = merkle::root_with(
         &flash[..end],
         manifest.block_len as usize,
-        count(manifest),
+        wire::count_of(manifest),
         number as usize - 1,
         block,
     );
@@ -284,32 +246,11 @@ pub fn last_altered(manifest: Manifest, next: u16, flash: &[u8], message: &[u8])
     requires { ⌜ (wrongSize (manifest .«block_len») (manifest .«image_len») ≡ false) × (tooSmall manifest (now flash) ≡ false) × (0 < next) × (next ≤ countOf manifest) × (wrongLength manifest next (now message) ≡ false) ⌝ }
     ensures { λ r. ⌜ r ≡ spec.lastAltered digest manifest next (now (flash .entry)) (now (message .entry)) ⌝ }
 {
-    if next as usize != count(manifest) {
+    if next as usize != wire::count_of(manifest) {
         return false;
     }
-    let len = own_len(manifest, next);
+    let len = wire::own_len(manifest, next);
     lacks_root_with(manifest, flash, next, wire::block_in(message, len))
-}
-
-// The depth of a block's leaf: so many siblings has a path update.
-pub fn leaf_depth(manifest: Manifest, number: u16) -> usize
-    requires { ⌜ (wrongSize (manifest .«block_len») (manifest .«image_len») ≡ false) × (size.outside (countOf manifest) number ≡ false) ⌝ }
-    ensures { λ r. ⌜ r ≡ leafDepth (countOf manifest) (pred number) ⌝ }
-{
-    merkle::leaf_depth(count(manifest), number as usize - 1)
-}
-
-// The block as it stands in the flash.
-pub fn old_block(manifest: Manifest, flash: &[u8], number: u16) -> &[u8]
-    requires { ⌜ (tooSmall manifest (now flash) ≡ false) × (size.outside (countOf manifest) number ≡ false) ⌝ }
-    ensures { λ r. ⌜ now r ≡ blocksOf manifest (now (flash .entry)) (pred number) ⌝ }
-{
-    wire::block_of(
-        flash,
-        manifest.block_len as usize,
-        manifest.image_len as usize,
-        number as usize,
-    )
 }
 
 // 15 and 14, kind 4: the block with these siblings does not lead to the root.
@@ -323,6 +264,11 @@ pub fn strays(
     requires { ⌜ (wrongSize (manifest .«block_len») (manifest .«image_len») ≡ false) × (size.outside (countOf manifest) number ≡ false) × (length (now siblings) ≡ hashLength * leafDepth (countOf manifest) (pred number)) ⌝ }
     ensures { λ r. ⌜ r ≡ spec.strays digest manifest number (now (block .entry)) (now (siblings .entry)) (now (root .entry)) ⌝ }
 {
-    let found = merkle::path_hash(count(manifest), number as usize - 1, block, siblings);
+    let found = merkle::path_hash(
+        wire::count_of(manifest),
+        number as usize - 1,
+        block,
+        siblings,
+    );
     !octets::equal(&found, root)
 }

@@ -6,16 +6,12 @@ use crate::conditions::early;
 use crate::conditions::lacks_root;
 use crate::conditions::lacks_root_with;
 use crate::conditions::last_altered;
-use crate::conditions::leaf_depth;
 use crate::conditions::mismatch;
-use crate::conditions::next_of;
 use crate::conditions::not_loading;
 use crate::conditions::not_newer;
 use crate::conditions::not_next;
-use crate::conditions::old_block;
 use crate::conditions::other_model;
 use crate::conditions::outside;
-use crate::conditions::own_len;
 use crate::conditions::senseless;
 use crate::conditions::strays;
 use crate::conditions::too_small;
@@ -24,6 +20,7 @@ use crate::conditions::unsigned;
 use crate::conditions::wrong_length;
 use crate::conditions::wrong_size;
 use crate::conditions::wrong_version;
+use crate::readers::next_of;
 use machine::Answer;
 use machine::Stage;
 use wire::Kind;
@@ -236,7 +233,7 @@ fn judge_update(
     if below_least_update(manifest, number, message) {
         return Answer::Refused(Refusal::Length);
     }
-    let len = own_len(manifest, number);
+    let len = wire::own_len(manifest, number);
     if unsigned(
         key,
         wire::manifest_bytes(message),
@@ -274,8 +271,8 @@ fn judge_path_update(
     if below_least_path(manifest, number, message) {
         return Answer::Refused(Refusal::Length);
     }
-    let len = own_len(manifest, number);
-    let depth = leaf_depth(manifest, number);
+    let len = wire::own_len(manifest, number);
+    let depth = wire::leaf_depth(manifest, number);
     if unsigned(
         key,
         wire::manifest_bytes(message),
@@ -300,7 +297,7 @@ fn judge_path(
     ensures { λ r. ⌜ r ≡ answerOf (firstThatApplies ((refusal.Path, spec.strays digest manifest number (blocksOf manifest (now (flash .entry)) (pred number)) (pathIn len depth (now (message .entry))) (current .root)) ∷ (refusal.Mismatch, spec.strays digest manifest number (updateBlock len (now (message .entry))) (pathIn len depth (now (message .entry))) (manifest .root)) ∷ [])) ⌝ }
 {
     let siblings = wire::path_in(message, len, depth);
-    let old = old_block(manifest, flash, number);
+    let old = wire::flash_block(manifest, flash, number);
     let old_root = current.root;
     if strays(manifest, number, old, siblings, &old_root) {
         return Answer::Refused(Refusal::Path);

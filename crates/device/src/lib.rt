@@ -6,13 +6,13 @@ mod judge;
 mod readers;
 
 pub use boot::boot_check;
-pub use conditions::next_of;
 pub use conditions::senseless;
 use machine::Answer;
 use machine::Device;
 use machine::Stage;
 pub use readers::accepted_blocks;
 pub use readers::answer_number;
+pub use readers::next_of;
 use wire::Manifest;
 use wire::Refusal;
 ghost use mathlib.Core.Path.{_≡_};

@@ -1,9 +1,14 @@
-// What a caller reads of an answer and of a device.
+// What is read of an answer and of a device.
 use machine::Answer;
 use machine::Device;
 use machine::Stage;
+use wire::Manifest;
 ghost use mathlib.Core.Path.{_≡_};
+ghost use mathlib.Core.List.{List};
+ghost use Prim.Native.Nat.{ℕ};
+ghost use Rattle.machine.specs.Device.{serialOf, nextOf};
 ghost use Rattle.machine.specs.Readers.{numberOf, acceptedBlocks};
+ghost use Rattle.device.specs.Fields.{deviceOf};
 
 // 0 if accepted, else the refusal's number.
 pub fn answer_number(answer: Answer) -> u8
@@ -38,5 +43,27 @@ pub fn accepted_blocks(device: Device) -> usize
             }
             wire::block_count(manifest.block_len as usize, manifest.image_len as usize)
         }
+    }
+}
+
+// The number of the next block while loading.
+pub fn next_of(stage: Stage) -> u16
+    ensures { λ r. ⌜ r ≡ nextOf stage ⌝ }
+{
+    match stage {
+        Stage::Idle => 0,
+        Stage::Loading(next) => next,
+        Stage::Complete => 0,
+    }
+}
+
+// The serial that a new one must be above: 0 when idle.
+pub fn serial_of(stage: Stage, current: Manifest) -> u32
+    ensures { λ r. ⌜ ((model : ℕ) (key hashes : List ℕ) → r ≡ serialOf (deviceOf model key stage current hashes)) ⌝ }
+{
+    match stage {
+        Stage::Idle => 0,
+        Stage::Loading(_) => current.serial,
+        Stage::Complete => current.serial,
     }
 }

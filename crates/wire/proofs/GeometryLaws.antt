@@ -3,7 +3,7 @@ use mathlib.Core.Path.{_≡_, refl, sym, ap, ap₂, _∙_}
 use mathlib.Core.Logic.{_⊎_, inl, inr, _≢_}
 use mathlib.Core.Bool.{false}
 use mathlib.Core.List.{List, _++_, append-assoc}
-use Prim.Native.Nat.{ℕ, suc, _+_, _-_, _*_, min, _≤_, _<_}
+use Prim.Native.Nat.{ℕ, zero, suc, pred, _+_, _-_, _*_, min, _≤_, _<_}
 use native.Mathlib.Nat.{zero-add}
 use native.Mathlib.Omega.{arith}
 use lib.ListN.{length, take, drop, length-take, length-drop, length-append, take-append-drop}
@@ -19,6 +19,11 @@ use Rattle.wire.specs.Geometry.{countOf, blockLength, blockStart, blocks
 use Rattle.wire.specs.Message.{atStart}
 use Rattle.wire.specs.Claims.{BlockLengths}
 use Rattle.wire.proofs.SizeLaws.{sized}
+
+-- the number of blocks before block i
+pub before-is : (i : ℕ) → i - 1 ≡ pred i
+before-is zero = refl
+before-is (suc i) = omega arith
 
 -- no block is longer than L
 pub block-length-most : (L T i : ℕ) → blockLength L T i ≤ L

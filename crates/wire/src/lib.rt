@@ -3,6 +3,7 @@
 mod blocks;
 mod kind;
 mod manifest;
+mod measures;
 mod message;
 mod refusal;
 mod sizes;
@@ -18,6 +19,10 @@ pub use manifest::MANIFEST_LEN;
 pub use manifest::Manifest;
 pub use manifest::read;
 pub use manifest::to_bytes;
+pub use measures::count_of;
+pub use measures::flash_block;
+pub use measures::leaf_depth;
+pub use measures::own_len;
 pub use message::block_in;
 pub use message::due_len;
 pub use message::hashes_after;

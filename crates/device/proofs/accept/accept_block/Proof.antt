@@ -32,8 +32,8 @@ is-due c = due _ _ _ _ (rw (c .next-of .ensures) (accepted (c .before .before .b
 next-of-requires : tie.Need-next-of-requires
 next-of-requires c κs = search needs
 
-count-requires : tie.Need-count-requires
-count-requires c κs = awaited c .size
+count-of-requires : tie.Need-count-of-requires
+count-of-requires c κs = awaited c .size
 
 own-len-requires : tie.Need-own-len-requires
 own-len-requires c κs = let w = awaited (c .before) in omega (arith, w .low, w .high)
@@ -69,12 +69,12 @@ advance-requires c κs =
     let s = n .before .before .before .before in
     let w = awaited n in
     let z = sized _ _ (w .size) in
-    let e = c .before .before .before .before .before .before .before .before .before .count .ensures in
+    let e = c .before .before .before .before .before .before .before .before .before .count-of .ensures in
     (s .pre .0, omega (arith, e, w .low, w .high), omega (arith, e, z .count), rest-long (s .args .current) _ _ _ (s .args .message .now) _ (w .low) e (c .before .before .before .before .before .before .before .before .own-len .ensures) (c .hashes-after .ensures) (is-due n))
 
 stage-after-requires : tie.Need-stage-after-requires
 unfolding countOf
-stage-after-requires c κs = let z = sized _ _ (awaited (c .before .before .before .before .before .before .before .before .before .before .before .before .before) .size) in omega (arith, c .before .before .before .before .before .before .before .before .before .before .before .before .count .ensures, z .count)
+stage-after-requires c κs = let z = sized _ _ (awaited (c .before .before .before .before .before .before .before .before .before .before .before .before .before) .size) in omega (arith, c .before .before .before .before .before .before .before .before .before .before .before .before .count-of .ensures, z .count)
 
 same-length : tie.Need-same-length
 same-length c = search needs
@@ -84,7 +84,7 @@ same-length-2 c = search needs
 
 returns : tie.Need-returns
 returns c model key =
-    block-is _ _ _ (c .before .before .before .before .before .before .before .before .before .before .before .before .before .before .next-of .ensures) (c .before .before .before .before .before .before .before .before .before .before .before .before .before .count .ensures) (c .before .before .before .before .before .before .before .before .before .before .before .before .own-len .ensures) (c .before .before .before .before .before .before .before .before .before .block-in .ensures) (c .before .before .before .before .hashes-after .ensures) (c .stage-after .ensures)
+    block-is _ _ _ (c .before .before .before .before .before .before .before .before .before .before .before .before .before .before .next-of .ensures) (c .before .before .before .before .before .before .before .before .before .before .before .before .before .count-of .ensures) (c .before .before .before .before .before .before .before .before .before .before .before .before .own-len .ensures) (c .before .before .before .before .before .before .before .before .before .block-in .ensures) (c .before .before .before .before .hashes-after .ensures) (c .stage-after .ensures)
     (c .before .before .before .advance .ensures) (c .before .before .before .before .before .before .before .before .write-block .ensures)
 
 pub accept-block-spec : {M : Type 1} → statement M
@@ -92,7 +92,7 @@ accept-block-spec =
     tie.close
     (tie.spec
     next-of-requires
-    count-requires
+    count-of-requires
     own-len-requires
     cast-write-block
     block-in-requires

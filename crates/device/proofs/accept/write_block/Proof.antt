@@ -1,6 +1,5 @@
 use mathlib.Core.Path.{_∙_}
-use Rattle.wire.proofs.GeometryLaws.{with-copied}
-use Rattle.device.proofs.ConditionLaws.{before-is}
+use Rattle.wire.proofs.GeometryLaws.{before-is, with-copied}
 use borrow.Author.Needs.{needs}
 use Rattle.device.proofs.accept.write_block.Statement.{statement}
 use Rattle.device.proofs.accept.write_block.Tie as tie

@@ -24,13 +24,13 @@ slice-aggregate-root c = let s = c .before .before .before .before in sym (lengt
 cast-root : tie.Need-cast-root
 cast-root c = search needs
 
-count-requires : tie.Need-count-requires
-count-requires c κs = search needs
+count-of-requires : tie.Need-count-of-requires
+count-of-requires c κs = search needs
 
 root-requires : tie.Need-root-requires
 root-requires c κs =
     let s = c .before .before .before .before .before .before in
-    rest-fits _ _ _ (s .pre .0) (s .pre .1) (c .count .ensures)
+    rest-fits _ _ _ (s .pre .0) (s .pre .1) (c .count-of .ensures)
 
 slice-aggregate-equal : tie.Need-slice-aggregate-equal
 slice-aggregate-equal c = search needs
@@ -48,7 +48,7 @@ returns c =
     let n = e .before in
     let a = n .before .before .before .before .before .before .args in
     let s = a .manifest in
-    ap not (c .equal .ensures ∙ ap (λ y. equal y (s .root)) (e .root2 .ensures ∙ ap (rootOver (plain digest) (cut (s .«block_len») (take (s .«image_len») (a .flash .now)))) (n .count .ensures)))
+    ap not (c .equal .ensures ∙ ap (λ y. equal y (s .root)) (e .root2 .ensures ∙ ap (rootOver (plain digest) (cut (s .«block_len») (take (s .«image_len») (a .flash .now)))) (n .count-of .ensures)))
 
 pub lacks-root-spec : {M : Type 1} → statement M
 lacks-root-spec =
@@ -57,7 +57,7 @@ lacks-root-spec =
     cast-end
     slice-aggregate-root
     cast-root
-    count-requires
+    count-of-requires
     root-requires
     slice-aggregate-equal
     slice-aggregate-equal-2

@@ -19,8 +19,8 @@ slice-aggregate-root-with c = let s = c .before .before .before .before .before 
 cast-root-with : tie.Need-cast-root-with
 cast-root-with c = search needs
 
-count-requires : tie.Need-count-requires
-count-requires c κs = search needs
+count-of-requires : tie.Need-count-of-requires
+count-of-requires c κs = search needs
 
 sub-root-with : tie.Need-sub-root-with
 sub-root-with c = inside _ _ (c .before .before .before .before .before .before .before .pre .2) .0
@@ -28,7 +28,7 @@ sub-root-with c = inside _ _ (c .before .before .before .before .before .before 
 root-with-requires : tie.Need-root-with-requires
 root-with-requires c κs =
     let s = c .before .before .before .before .before .before .before in
-    rest-fits _ _ _ (s .pre .0) (s .pre .1) (c .count .ensures)
+    rest-fits _ _ _ (s .pre .0) (s .pre .1) (c .count-of .ensures)
 
 slice-aggregate-equal : tie.Need-slice-aggregate-equal
 slice-aggregate-equal c = search needs
@@ -45,8 +45,8 @@ returns c =
     let n = e .before in
     let s = n .before .before .before .before .before .before .before in
     let z = inside _ _ (s .pre .2) in
-    lacks-is (s .args .manifest) (s .args .flash .now) digest (s .args .block .now) (s .args .number) (n .count .result) (e .root-with .result) _ (s .pre .1) (z .0) (z .1)
-    (n .count .ensures) (s .pre .3) (e .root-with .ensures) (c .equal .ensures)
+    lacks-is (s .args .manifest) (s .args .flash .now) digest (s .args .block .now) (s .args .number) (n .count-of .result) (e .root-with .result) _ (s .pre .1) (z .0) (z .1)
+    (n .count-of .ensures) (s .pre .3) (e .root-with .ensures) (c .equal .ensures)
 
 pub lacks-root-with-spec : {M : Type 1} → statement M
 lacks-root-with-spec =
@@ -55,7 +55,7 @@ lacks-root-with-spec =
     cast-end
     slice-aggregate-root-with
     cast-root-with
-    count-requires
+    count-of-requires
     sub-root-with
     root-with-requires
     slice-aggregate-equal

@@ -12,11 +12,11 @@ use Rattle.device.proofs.conditions.last_altered.Tie as tie
 is-due : (c : tie.Start) → Due (c .args .manifest .«block_len») (c .args .manifest .«image_len») (c .args .next) (c .args .message .now)
 is-due c = due _ _ _ _ (measured _ _ _ (c .pre .4))
 
-count-requires : tie.Need-count-requires
-count-requires c κs = search needs
+count-of-requires : tie.Need-count-of-requires
+count-of-requires c κs = search needs
 
 returns : tie.Need-returns
-returns c = let s = c .before .before .before .before in not-last digest (s .args .manifest) (s .args .next) _ (s .args .flash .now) (s .args .message .now) (c .before .count .ensures) (c .if1 .taken)
+returns c = let s = c .before .before .before .before in not-last digest (s .args .manifest) (s .args .next) _ (s .args .flash .now) (s .args .message .now) (c .before .count-of .ensures) (c .if1 .taken)
 
 own-len-requires : tie.Need-own-len-requires
 own-len-requires c κs = let s = c .before .before .before .before in (s .pre .2, s .pre .3)
@@ -36,13 +36,13 @@ returns-2 c =
     let k = b .before in
     let e = k .before in
     let s = e .before .before .before .before in
-    at-last digest (s .args .manifest) (s .args .next) _ (s .args .flash .now) (s .args .message .now) (e .before .count .ensures) _ _ _ (e .if1 .left) (k .own-len .ensures) (b .block-in .ensures) (c .lacks-root-with .ensures)
+    at-last digest (s .args .manifest) (s .args .next) _ (s .args .flash .now) (s .args .message .now) (e .before .count-of .ensures) _ _ _ (e .if1 .left) (k .own-len .ensures) (b .block-in .ensures) (c .lacks-root-with .ensures)
 
 pub last-altered-spec : {M : Type 1} → statement M
 last-altered-spec =
     tie.close
     (tie.spec
-    count-requires
+    count-of-requires
     returns
     own-len-requires
     block-in-requires

@@ -17,8 +17,8 @@ is-due c = due _ _ _ _ (measured _ _ _ (c .pre .4))
 own-len-requires : tie.Need-own-len-requires
 own-len-requires c κs = search needs
 
-count-requires : tie.Need-count-requires
-count-requires c κs = search needs
+count-of-requires : tie.Need-count-of-requires
+count-of-requires c κs = search needs
 
 sub-fits : tie.Need-sub-fits
 sub-fits c = search needs
@@ -34,7 +34,7 @@ unfolding countOf
 fits-requires c κs =
     let s = c .before .before .before .before .before .before in
     let z = sized _ _ (s .pre .0) in
-    let e = c .before .before .count .ensures in (
+    let e = c .before .before .count-of .ensures in (
       s .pre .1,
       omega (arith, e, s .pre .2, s .pre .3),
       omega (arith, e, z .count),
@@ -45,9 +45,9 @@ returns : tie.Need-returns
 returns c model key =
     let s = c .before .before .before .before .before .before .before in
     mismatch-found digest (deviceOf model key (Loading (s .args .next)) (s .args .manifest) (s .args .hashes .now)) (s .args .next) _ _ (s .args .message .now) _ _ _ refl (s .pre .2) (s .pre .3)
-    (c .before .before .before .count .ensures) (c .before .before .before .before .own-len .ensures) (c .before .before .block-in .ensures) (c .before .hashes-after .ensures) (c .fits2 .ensures)
+    (c .before .before .before .count-of .ensures) (c .before .before .before .before .own-len .ensures) (c .before .before .block-in .ensures) (c .before .hashes-after .ensures) (c .fits2 .ensures)
 
 pub mismatch-spec : {M : Type 1} → statement M
 mismatch-spec =
     tie.close
-    (tie.spec own-len-requires count-requires sub-fits block-in-requires hashes-after-requires fits-requires returns)
+    (tie.spec own-len-requires count-of-requires sub-fits block-in-requires hashes-after-requires fits-requires returns)

@@ -18,8 +18,8 @@ returns : tie.Need-returns
 unfolding senseless
 returns c model key hashes = rw (c .before .before .before .stage .given .1, sym (c .before .broken .ensures) ∙ c .if1 .taken)
 
-count-requires : tie.Need-count-requires
-count-requires c κs = or-false (wrongVersion (c .before .before .before .before .before .args .manifest)) _ (sym (c .before .broken .ensures) ∙ c .if1 .left) .1
+count-of-requires : tie.Need-count-of-requires
+count-of-requires c κs = or-false (wrongVersion (c .before .before .before .before .before .args .manifest)) _ (sym (c .before .broken .ensures) ∙ c .if1 .left) .1
 
 cast-outside : tie.Need-cast-outside
 cast-outside c = search needs
@@ -41,7 +41,7 @@ returns-3 : tie.Need-returns-3
 unfolding senseless
 returns-3 c model key hashes =
     let b = c .before .before in
-    rw (b .before .before .before .stage .given .1, sym (b .before .broken .ensures) ∙ b .if1 .left, ← c .before .count .ensures) (c .outside .ensures)
+    rw (b .before .before .before .stage .given .1, sym (b .before .broken .ensures) ∙ b .if1 .left, ← c .before .count-of .ensures) (c .outside .ensures)
 
 returns-4 : tie.Need-returns-4
 unfolding senseless
@@ -55,7 +55,7 @@ senseless-spec =
     enum-known-stage
     broken-requires
     returns
-    count-requires
+    count-of-requires
     cast-outside
     outside-requires
     enum-told-2

@@ -12,13 +12,13 @@ use Rattle.merkle.specs.Path.{leafDepth, pathHash}
 use Rattle.merkle.specs.Held.{hashesIn}
 use Rattle.wire.proofs.SizeLaws.{inside}
 use Rattle.machine.specs.Refusals.{strays}
-use Rattle.device.proofs.ConditionLaws.{before-is}
+use Rattle.wire.proofs.GeometryLaws.{before-is}
 use borrow.Author.Needs.{needs}
 use Rattle.device.proofs.conditions.strays.Statement.{statement}
 use Rattle.device.proofs.conditions.strays.Tie as tie
 
-count-requires : tie.Need-count-requires
-count-requires c κs = search needs
+count-of-requires : tie.Need-count-of-requires
+count-of-requires c κs = search needs
 
 sub-path-hash : tie.Need-sub-path-hash
 sub-path-hash c = omega (arith, inside _ _ (c .before .before .before .pre .1))
@@ -26,7 +26,7 @@ sub-path-hash c = omega (arith, inside _ _ (c .before .before .before .pre .1))
 path-hash-requires : tie.Need-path-hash-requires
 path-hash-requires c κs =
     let p = c .before .before .before .pre in
-    (omega (arith, inside _ _ (p .1), c .count .ensures), p .2 ∙ ap (λ k. hashLength * k) (sym (ap₂ leafDepth (c .count .ensures) (before-is _))))
+    (omega (arith, inside _ _ (p .1), c .count-of .ensures), p .2 ∙ ap (λ k. hashLength * k) (sym (ap₂ leafDepth (c .count-of .ensures) (before-is _))))
 
 slice-aggregate-equal : tie.Need-slice-aggregate-equal
 slice-aggregate-equal c = search needs
@@ -38,7 +38,7 @@ returns : tie.Need-returns
 unfolding strays
 returns c =
     let a = c .before .before .before .before .before .before .before .args in
-    let n = c .before .before .before .before .count in
+    let n = c .before .before .before .before .count-of in
     ap not (c .equal .ensures ∙ ap (λ (x : List ℕ). equal x (a .root .now)) (c .before .before .before .path-hash .ensures
     ∙ ap₂ (λ n i. pathHash (plain digest) 0 (shape n) i (a .block .now) (hashesIn (leafDepth n i) (a .siblings .now))) (n .ensures) (before-is _)))
 
@@ -46,7 +46,7 @@ pub strays-spec : {M : Type 1} → statement M
 strays-spec =
     tie.close
     (tie.spec
-    count-requires
+    count-of-requires
     sub-path-hash
     path-hash-requires
     slice-aggregate-equal

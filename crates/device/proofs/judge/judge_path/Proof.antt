@@ -3,6 +3,7 @@ use mathlib.Core.Bool.{false}
 use Prim.Native.Nat.{pred, _*_}
 use native.Mathlib.Omega.{arith}
 use lib.ListN.{length}
+use borrow.Author.Tests.{ltb-false}
 use Rattle.sha256.specs.Sha256.{digest}
 use Rattle.merkle.specs.Limits.{hashLength}
 use Rattle.merkle.specs.Path.{leafDepth}
@@ -10,7 +11,7 @@ use Rattle.wire.specs.Size.{wrongSize, outside}
 use Rattle.wire.specs.Geometry.{countOf, blocksOf}
 use Rattle.wire.specs.Message.{updateBlock, pathIn}
 use Rattle.wire.proofs.MessageLaws.{length-path-in}
-use Rattle.machine.specs.Refusals.{strays}
+use Rattle.machine.specs.Refusals.{tooSmall, strays}
 use Rattle.machine.proofs.RefusalLaws.{start, _past_}
 use Rattle.device.proofs.JudgeLaws.{refused, accepted}
 use borrow.Author.Needs.{needs}
@@ -25,7 +26,7 @@ strays-needs c =
 
 -- the old block and the new one, each with the siblings
 from : (c : tie.After-strays) → let a = c .before .before .before .before .before .before .before .args in c .strays .result ≡ strays digest (a .manifest) (a .number) (blocksOf (a .manifest) (a .flash .now) (pred (a .number))) (pathIn (a .len) (a .depth) (a .message .now)) (a .current .root)
-from c = let a = c .before .before .before .before .before .before .before .args in c .strays .ensures ∙ ap₂ (λ b y. strays digest (a .manifest) (a .number) b y (a .current .root)) (c .before .before .before .old-block .ensures) (c .before .before .before .before .path-in .ensures)
+from c = let a = c .before .before .before .before .before .before .before .args in c .strays .ensures ∙ ap₂ (λ b y. strays digest (a .manifest) (a .number) b y (a .current .root)) (c .before .before .before .flash-block .ensures) (c .before .before .before .before .path-in .ensures)
 
 to : (c : tie.After-strays2) → let a = c .before .before .before .before .before .before .before .before .before .before .before .before .args in c .strays2 .result ≡ strays digest (a .manifest) (a .number) (updateBlock (a .len) (a .message .now)) (pathIn (a .len) (a .depth) (a .message .now)) (a .manifest .root)
 to c = let a = c .before .before .before .before .before .before .before .before .before .before .before .before .args in c .strays2 .ensures ∙ ap₂ (λ b y. strays digest (a .manifest) (a .number) b y (a .manifest .root)) (c .before .before .before .update-block .ensures) (c .before .before .before .before .before .before .before .before .before .path-in .ensures)
@@ -33,8 +34,9 @@ to c = let a = c .before .before .before .before .before .before .before .before
 path-in-requires : tie.Need-path-in-requires
 path-in-requires c κs = search needs
 
-old-block-requires : tie.Need-old-block-requires
-old-block-requires c κs = search needs
+flash-block-requires : tie.Need-flash-block-requires
+unfolding tooSmall
+flash-block-requires c κs = let p = c .before .before .before .pre in (ltb-false _ _ (p .1), p .2)
 
 strays-requires : tie.Need-strays-requires
 strays-requires c κs = strays-needs (c .before .before .before)
@@ -59,7 +61,7 @@ judge-path-spec =
     tie.close
     (tie.spec
     path-in-requires
-    old-block-requires
+    flash-block-requires
     strays-requires
     returns
     update-block-requires

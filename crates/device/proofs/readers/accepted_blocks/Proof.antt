@@ -5,7 +5,7 @@ use native.Mathlib.Omega.{arith}
 use Rattle.merkle.specs.Blocks.{blockCount}
 use Rattle.wire.specs.Geometry.{countOf}
 use Rattle.machine.specs.Readers.{acceptedBlocks}
-use Rattle.device.proofs.ConditionLaws.{before-is}
+use Rattle.wire.proofs.GeometryLaws.{before-is}
 use borrow.Author.Needs.{needs}
 use Rattle.device.proofs.readers.accepted_blocks.Statement.{statement}
 use Rattle.device.proofs.readers.accepted_blocks.Tie as tie

@@ -1,7 +1,7 @@
 use Rattle.machine.specs.Device.{nextOf}
 use borrow.Author.Needs.{needs}
-use Rattle.device.proofs.conditions.next_of.Statement.{statement}
-use Rattle.device.proofs.conditions.next_of.Tie as tie
+use Rattle.device.proofs.readers.next_of.Statement.{statement}
+use Rattle.device.proofs.readers.next_of.Tie as tie
 
 enum-told : tie.Need-enum-told
 enum-told c = search needs

@@ -1,7 +1,7 @@
 use Rattle.machine.specs.Device.{serialOf}
 use borrow.Author.Needs.{needs}
-use Rattle.device.proofs.conditions.serial_of.Statement.{statement}
-use Rattle.device.proofs.conditions.serial_of.Tie as tie
+use Rattle.device.proofs.readers.serial_of.Statement.{statement}
+use Rattle.device.proofs.readers.serial_of.Tie as tie
 
 enum-told : tie.Need-enum-told
 enum-told c = search needs

@@ -1,7 +1,7 @@
 use borrow.Author.Needs.{needs}
 use Rattle.wire.specs.Geometry.{countOf}
-use Rattle.device.proofs.conditions.own_len.Statement.{statement}
-use Rattle.device.proofs.conditions.own_len.Tie as tie
+use Rattle.wire.proofs.measures.own_len.Statement.{statement}
+use Rattle.wire.proofs.measures.own_len.Tie as tie
 
 cast-block-length : tie.Need-cast-block-length
 cast-block-length c = search needs

@@ -1,9 +1,9 @@
 use native.Mathlib.Omega.{arith}
 use Rattle.wire.specs.Geometry.{countOf}
 use Rattle.wire.proofs.SizeLaws.{sized}
 use borrow.Author.Needs.{needs}
-use Rattle.device.proofs.conditions.count.Statement.{statement}
-use Rattle.device.proofs.conditions.count.Tie as tie
+use Rattle.wire.proofs.measures.count_of.Statement.{statement}
+use Rattle.wire.proofs.measures.count_of.Tie as tie
 
 cast-block-count : tie.Need-cast-block-count
 cast-block-count c = search needs
@@ -18,5 +18,5 @@ returns : tie.Need-returns
 unfolding countOf
 returns c = c .block-count .ensures
 
-pub count-spec : {M : Type 1} → statement M
-count-spec = tie.close (tie.spec cast-block-count cast-block-count-2 block-count-requires returns)
+pub count-of-spec : {M : Type 1} → statement M
+count-of-spec = tie.close (tie.spec cast-block-count cast-block-count-2 block-count-requires returns)
