@@ -46,7 +46,7 @@ ghost use Rattle.machine.specs.Device.{nextOf};
 ghost use Rattle.machine.specs.Refusals.{notComplete, tooSmall, ofKind, ofManifest, ofProgram, ofBlock, ofSuccessor, ofUpdate, ofPathUpdate, refusals};
 ghost use Rattle.machine.specs.Refusals as spec;
 ghost use Rattle.machine.specs.Step.{answerOf};
-ghost use Rattle.device.specs.Fields.{deviceOf, Newer};
+ghost use Rattle.device.specs.Fields.{deviceOf, Sensible, Newer, ofPlace};
 
 // Always 1, 2, 3; then those of the kind. No message of an unknown kind is short, so 2 can wait for the match.
 pub fn judge(
@@ -153,16 +153,11 @@ fn judge_program(
     Answer::Accepted
 }
 
-// Kind 2: 10, 8, 11, 12, 14, 19. The last block's message walks the whole tree; a damaged one does not come so far.
-fn judge_block(
-    stage: Stage,
-    current: Manifest,
-    hashes: &[u8],
-    flash: &[u8],
-    message: &[u8],
-) -> Answer
-    requires { ⌜ ((model : ℕ) (key : List ℕ) → spec.senseless (deviceOf model key stage current (now hashes)) ≡ false) × (length (now hashes) ≡ heldBytes) × (leastLength kinds.Block ≤ length (now message)) ⌝ }
-    ensures { λ r. ⌜ ((model : ℕ) (key : List ℕ) → r ≡ answerOf (firstThatApplies (ofBlock digest (deviceOf model key stage current (now (hashes .entry))) (now (flash .entry)) (now (message .entry)) (nextOf stage)))) ⌝ }
+// The first of kind 2, before anything is hashed: 10, 8, 11, 12. In a function of their own, so that the compiler does not take the tree behind them for a rare
+// case and give it a frame of its own above the device's.
+fn judge_place(stage: Stage, current: Manifest, flash: &[u8], message: &[u8]) -> Answer
+    requires { ⌜ Sensible stage current × (leastLength kinds.Block ≤ length (now message)) ⌝ }
+    ensures { λ r. ⌜ r ≡ answerOf (firstThatApplies (ofPlace stage current (now (flash .entry)) (now (message .entry)) (nextOf stage))) ⌝ }
 {
     if not_loading(stage) {
         return Answer::Refused(Refusal::Stage);
@@ -177,6 +172,25 @@ fn judge_block(
     if wrong_length(current, next, message) {
         return Answer::Refused(Refusal::Length);
     }
+    Answer::Accepted
+}
+
+// Kind 2: those of `judge_place`, then 14, 19. The last block's message walks the whole tree; a damaged one does not come so far.
+fn judge_block(
+    stage: Stage,
+    current: Manifest,
+    hashes: &[u8],
+    flash: &[u8],
+    message: &[u8],
+) -> Answer
+    requires { ⌜ Sensible stage current × (length (now hashes) ≡ heldBytes) × (leastLength kinds.Block ≤ length (now message)) ⌝ }
+    ensures { λ r. ⌜ ((model : ℕ) (key : List ℕ) → r ≡ answerOf (firstThatApplies (ofBlock digest (deviceOf model key stage current (now (hashes .entry))) (now (flash .entry)) (now (message .entry)) (nextOf stage)))) ⌝ }
+{
+    let first = judge_place(stage, current, flash, message);
+    let Answer::Accepted = first else {
+        return first;
+    };
+    let next = next_of(stage);
     if mismatch(current, hashes, next, message) {
         return Answer::Refused(Refusal::Mismatch);
     }

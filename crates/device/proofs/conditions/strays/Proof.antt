@@ -11,8 +11,8 @@ use Rattle.merkle.specs.Hash.{plain}
 use Rattle.merkle.specs.Path.{leafDepth, pathHash}
 use Rattle.merkle.specs.Held.{hashesIn}
 use Rattle.wire.proofs.SizeLaws.{inside}
-use Rattle.machine.specs.Refusals.{strays}
 use Rattle.wire.proofs.GeometryLaws.{before-is}
+use Rattle.machine.specs.Refusals.{strays}
 use borrow.Author.Needs.{needs}
 use Rattle.device.proofs.conditions.strays.Statement.{statement}
 use Rattle.device.proofs.conditions.strays.Tie as tie

@@ -55,7 +55,7 @@ judge-block-requires : tie.Need-judge-block-requires
 unfolding short
 judge-block-requires c κs =
     let e1 = c .before .before .before .before in
-    (λ model key. sym (e1 .before .senseless .ensures model key _) ∙ e1 .if1 .left, e1 .before .before .before .before .before .before .pre, ltb-false _ _ (enough (c .before .before) (c .enum-told2 .given .1)))
+    (λ model key hashes. sym (e1 .before .senseless .ensures model key hashes) ∙ e1 .if1 .left, e1 .before .before .before .before .before .before .pre, ltb-false _ _ (enough (c .before .before) (c .enum-told2 .given .1)))
 
 judge-carrier-requires : tie.Need-judge-carrier-requires
 unfolding short

@@ -4,8 +4,8 @@ use native.Mathlib.Nat.{div-zero, div-eq-of-lt}
 use native.Mathlib.Omega.{arith}
 use Rattle.merkle.specs.Blocks.{blockCount}
 use Rattle.wire.specs.Geometry.{countOf}
-use Rattle.machine.specs.Readers.{acceptedBlocks}
 use Rattle.wire.proofs.GeometryLaws.{before-is}
+use Rattle.machine.specs.Readers.{acceptedBlocks}
 use borrow.Author.Needs.{needs}
 use Rattle.device.proofs.readers.accepted_blocks.Statement.{statement}
 use Rattle.device.proofs.readers.accepted_blocks.Tie as tie
