@@ -21,7 +21,7 @@ use Rattle.machine.specs.declared.state.Answer.the-variants.{Accepted, Refused}
 use Rattle.machine.specs.Refusals.{noKind, notComplete, tooSmall, ofManifest, ofProgram, ofSuccessor, ofUpdate, ofPathUpdate, ofKind}
 use Rattle.machine.specs.Step.{answerOf}
 use Rattle.machine.proofs.RefusalLaws.{testOf, clear, answer-none, answer-some, Passes, behind-piece, in-piece, alike-lengths, start, _past_}
-use Rattle.device.specs.Fields.{early}
+use Rattle.device.specs.Inner.{updates, early}
 
 -- a list that is told in other words
 pub retold : {es fs : List (Refusal × Bool)} → fs ≡ es → Passes es fs
@@ -81,7 +81,7 @@ known-short Unknown m e = absurd (let l = ltb-true (length m) 0 e in omega arith
 module _ (H : List ℕ → List ℕ) (valid : (key message signature : List ℕ) → Bool) (d : Device) (f m : List ℕ) where
   -- 10 of an update
   pub early-refused : (k : Kind) → early k (d .stage) ≡ true → Refused refusal.Stage ≡ answerOf (firstThatApplies (ofKind H valid k d f m))
-  unfolding early ofKind ofUpdate ofPathUpdate ofSuccessor
+  unfolding updates early ofKind ofUpdate ofPathUpdate ofSuccessor
   early-refused Program e = absurd (true≢false (sym e))
   early-refused Block e = absurd (true≢false (sym e))
   early-refused Update e = refused (start _) e
@@ -91,7 +91,7 @@ module _ (H : List ℕ → List ℕ) (valid : (key message signature : List ℕ)
   -- 4, 5, 6, 7 of the manifest
   pub manifest-refused : (k : Kind) → carries k ≡ true → early k (d .stage) ≡ false → {r : Refusal} → Refused r ≡ answerOf (firstThatApplies (ofManifest d (manifestIn m)))
       → Refused r ≡ answerOf (firstThatApplies (ofKind H valid k d f m))
-  unfolding carries early ofKind ofProgram ofUpdate ofPathUpdate ofSuccessor ofManifest
+  unfolding carries updates early ofKind ofProgram ofUpdate ofPathUpdate ofSuccessor ofManifest
   manifest-refused Program c e q = refused-in (ofManifest d (manifestIn m)) _ (start _) q
   manifest-refused Block c e q = absurd (true≢false (sym c))
   manifest-refused Update c e q = let n : notComplete (d .stage) ≡ false = e in refused-in (ofManifest d (manifestIn m)) _ (start (ofKind H valid Update d f m) past n) q

@@ -1,5 +1,6 @@
 // When each refusal is given: a test for each, but for 2 and 3, which stand in `judge`.
 use crate::readers::serial_of;
+use crate::readers::updates;
 use machine::Stage;
 use wire::Kind;
 use wire::Manifest;
@@ -24,7 +25,7 @@ ghost use Rattle.machine.specs.declared.state.Stage.the-variants.{Loading};
 ghost use Rattle.machine.specs.Refusals.{wrongVersion, otherModel, notNewer, tooSmall, notLoading, notComplete, notNext, wrongLength};
 ghost use Rattle.machine.specs.Refusals as spec;
 ghost use Rattle.device.specs.Fields.{deviceOf};
-ghost use Rattle.device.specs.Fields as fields;
+ghost use Rattle.device.specs.Inner as inner;
 
 // 1.
 pub fn senseless(stage: Stage, manifest: Manifest) -> bool
@@ -116,17 +117,14 @@ pub fn not_complete(stage: Stage) -> bool
     }
 }
 
-// 10, of the kinds that carry a manifest: an update, and not complete. A new program comes at any stage.
+// 10, of the kinds that carry a manifest: an update, and not complete. A new program may come at any stage.
 pub fn early(kind: Kind, stage: Stage) -> bool
-    ensures { λ r. ⌜ r ≡ fields.early kind stage ⌝ }
+    ensures { λ r. ⌜ r ≡ inner.early kind stage ⌝ }
 {
-    match kind {
-        Kind::Program => false,
-        Kind::Block => false,
-        Kind::Update => not_complete(stage),
-        Kind::PathUpdate => not_complete(stage),
-        Kind::Unknown => false,
+    if updates(kind) {
+        return not_complete(stage);
     }
+    false
 }
 
 // 11, kind 2.

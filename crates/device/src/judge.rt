@@ -46,7 +46,8 @@ ghost use Rattle.machine.specs.Device.{nextOf};
 ghost use Rattle.machine.specs.Refusals.{notComplete, tooSmall, ofKind, ofManifest, ofProgram, ofBlock, ofSuccessor, ofUpdate, ofPathUpdate, refusals};
 ghost use Rattle.machine.specs.Refusals as spec;
 ghost use Rattle.machine.specs.Step.{answerOf};
-ghost use Rattle.device.specs.Fields.{deviceOf, Sensible, Newer, ofPlace};
+ghost use Rattle.device.specs.Fields.{deviceOf};
+ghost use Rattle.device.specs.Inner.{Sensible, Newer, ofPlace};
 
 // Always 1, 2, 3; then those of the kind. No message of an unknown kind is short, so 2 can wait for the match.
 pub fn judge(

@@ -1,7 +1,8 @@
-// What is read of an answer and of a device.
+// What is read of an answer, of a kind and of a device.
 use machine::Answer;
 use machine::Device;
 use machine::Stage;
+use wire::Kind;
 use wire::Manifest;
 ghost use mathlib.Core.Path.{_≡_};
 ghost use mathlib.Core.List.{List};
@@ -9,6 +10,7 @@ ghost use Prim.Native.Nat.{ℕ};
 ghost use Rattle.machine.specs.Device.{serialOf, nextOf};
 ghost use Rattle.machine.specs.Readers.{numberOf, acceptedBlocks};
 ghost use Rattle.device.specs.Fields.{deviceOf};
+ghost use Rattle.device.specs.Inner as inner;
 
 // 0 if accepted, else the refusal's number.
 pub fn answer_number(answer: Answer) -> u8
@@ -17,6 +19,19 @@ pub fn answer_number(answer: Answer) -> u8
     match answer {
         Answer::Accepted => 0,
         Answer::Refused(refusal) => wire::refusal_number(refusal),
+    }
+}
+
+// Whether a message of this kind is an update.
+pub fn updates(kind: Kind) -> bool
+    ensures { λ r. ⌜ r ≡ inner.updates kind ⌝ }
+{
+    match kind {
+        Kind::Program => false,
+        Kind::Block => false,
+        Kind::Update => true,
+        Kind::PathUpdate => true,
+        Kind::Unknown => false,
     }
 }
 

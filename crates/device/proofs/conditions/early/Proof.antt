@@ -1,62 +1,22 @@
-use Rattle.device.specs.Fields.{early}
+use mathlib.Core.Path.{sym, _∙_}
+use Rattle.device.specs.Inner.{early}
 use borrow.Author.Needs.{needs}
 use Rattle.device.proofs.conditions.early.Statement.{statement}
 use Rattle.device.proofs.conditions.early.Tie as tie
 
-enum-told : tie.Need-enum-told
-enum-told c = search needs
-
-enum-told-2 : tie.Need-enum-told-2
-enum-told-2 c = search needs
-
-enum-told-3 : tie.Need-enum-told-3
-enum-told-3 c = search needs
+updates-requires : tie.Need-updates-requires
+updates-requires c κs = search needs
 
 not-complete-requires : tie.Need-not-complete-requires
 not-complete-requires c κs = search needs
 
-enum-told-4 : tie.Need-enum-told-4
-enum-told-4 c = search needs
-
-not-complete-requires-2 : tie.Need-not-complete-requires-2
-not-complete-requires-2 c κs = search needs
-
-enum-told-5 : tie.Need-enum-told-5
-enum-told-5 c = search needs
-
 returns : tie.Need-returns
 unfolding early
-returns c = rw (c .enum-told .given .1)
+returns c = rw (sym (c .before .before .updates .ensures) ∙ c .before .if1 .taken) (c .not-complete .ensures)
 
 returns-2 : tie.Need-returns-2
 unfolding early
-returns-2 c = rw (c .enum-told2 .given .1)
-
-returns-3 : tie.Need-returns-3
-unfolding early
-returns-3 c = rw (c .before .enum-told3 .given .1) (c .not-complete .ensures)
-
-returns-4 : tie.Need-returns-4
-unfolding early
-returns-4 c = rw (c .before .enum-told4 .given .1) (c .not-complete2 .ensures)
-
-returns-5 : tie.Need-returns-5
-unfolding early
-returns-5 c = rw (c .enum-told5 .given .1)
+returns-2 c = rw (sym (c .before .updates .ensures) ∙ c .if1 .left)
 
 pub early-spec : {M : Type 1} → statement M
-early-spec =
-    tie.close
-    (tie.spec
-    enum-told
-    enum-told-2
-    enum-told-3
-    not-complete-requires
-    enum-told-4
-    not-complete-requires-2
-    enum-told-5
-    returns
-    returns-2
-    returns-3
-    returns-4
-    returns-5)
+early-spec = tie.close (tie.spec updates-requires not-complete-requires returns returns-2)

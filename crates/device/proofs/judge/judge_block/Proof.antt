@@ -12,7 +12,8 @@ use Rattle.machine.specs.declared.state.Device.{Device}
 use Rattle.machine.specs.Device.{nextOf}
 use Rattle.machine.specs.Refusals.{tooSmall, wrongLength, mismatch, ofBlock}
 use Rattle.machine.proofs.RefusalLaws.{testOf, clear, answer-none, behind, Passes, start, _past_, Awaits, awaits}
-use Rattle.device.specs.Fields.{deviceOf, ofPlace}
+use Rattle.device.specs.Fields.{deviceOf}
+use Rattle.device.specs.Inner.{ofPlace}
 use Rattle.device.proofs.JudgeLaws.{refused, accepted, refused-in, past-none}
 use borrow.Author.Needs.{needs}
 use Rattle.device.proofs.judge.judge_block.Statement.{statement}

@@ -8,7 +8,8 @@ use Rattle.lms.specs.Lms.{valid}
 use Rattle.machine.specs.declared.state.Device.{Device}
 use Rattle.machine.specs.Refusals.{ofKind}
 use Rattle.machine.proofs.RefusalLaws.{answer-none}
-use Rattle.device.specs.Fields.{deviceOf, early, Newer}
+use Rattle.device.specs.Fields.{deviceOf}
+use Rattle.device.specs.Inner.{updates, early, Newer}
 use Rattle.device.proofs.KindLaws.{carried-long, bare}
 use Rattle.device.proofs.JudgeLaws.{early-refused, manifest-refused}
 use borrow.Author.Needs.{needs}
@@ -60,14 +61,14 @@ enum-told-4 : tie.Need-enum-told-4
 enum-told-4 c = search needs
 
 judge-update-requires : tie.Need-judge-update-requires
-unfolding early
+unfolding updates early
 judge-update-requires c κs = ((let q = c .enum-told4 .given .1 in rw q at (c .before .before .before .before .before .before .before .before .before .before .before .pre .1)), c .before .before .before .before .before .manifest-in .ensures, (let q = c .enum-told4 .given .1 in rw q at (late (c .before .before .before .before .before .before))), newer (c .before .before))
 
 enum-told-5 : tie.Need-enum-told-5
 enum-told-5 c = search needs
 
 judge-path-update-requires : tie.Need-judge-path-update-requires
-unfolding early
+unfolding updates early
 judge-path-update-requires c κs = ((let q = c .enum-told5 .given .1 in rw q at (c .before .before .before .before .before .before .before .before .before .before .before .pre .1)), c .before .before .before .before .before .manifest-in .ensures, (let q = c .enum-told5 .given .1 in rw q at (late (c .before .before .before .before .before .before))), newer (c .before .before))
 
 returns-3 : tie.Need-returns-3

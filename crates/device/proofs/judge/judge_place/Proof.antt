@@ -6,7 +6,7 @@ use Rattle.wire.specs.declared.refusal.Refusal.{Refusal}
 use Rattle.wire.specs.declared.refusal.Refusal.the-variants as refusal
 use Rattle.machine.specs.Device.{nextOf}
 use Rattle.machine.proofs.RefusalLaws.{behind, Passes, start, _past_, awaits}
-use Rattle.device.specs.Fields.{ofPlace}
+use Rattle.device.specs.Inner.{ofPlace}
 use Rattle.device.proofs.JudgeLaws.{retold, refused, accepted}
 use borrow.Author.Needs.{needs}
 use Rattle.device.proofs.judge.judge_place.Statement.{statement}
