@@ -1,25 +1,29 @@
 -- What the accepting functions do, and the step that follows.
 use mathlib.Core.Path.{_≡_, sym, ap, _∙_}
-use mathlib.Core.Bool.{Bool}
+use mathlib.Core.Logic.{_⊎_, inl, inr}
+use mathlib.Core.Bool.{Bool, true, false, true≢false}
 use mathlib.Core.List.{List}
 use mathlib.Core.Option.{Option, none, some}
-use Prim.Native.Nat.{ℕ, _+_, _-_, _≤_, _<_}
+use Prim.Native.Nat.{ℕ, pred, _+_, _*_, _≤_, _<_}
 use native.Mathlib.Numerals.{add-one}
 use native.Mathlib.Omega.{arith}
 use lib.ListN.{length}
 use borrow.Author.Tests.{lt-ltb, le-ltb, eq-eqb, ne-eqb}
 use Rattle.sha256.specs.Sha256.{digest}
-use Rattle.merkle.specs.Limits.{heldBytes}
+use Rattle.merkle.specs.Limits.{hashLength, heldBytes}
+use Rattle.merkle.specs.Frontier.{carriedCount}
 use Rattle.merkle.specs.Held.{advanced}
 use Rattle.lms.specs.Lms.{valid}
 use Rattle.wire.specs.declared.kind.Kind.{Kind}
+use Rattle.wire.specs.declared.kind.Kind.the-variants.{Block, Update, PathUpdate}
 use Rattle.wire.specs.declared.manifest.Manifest.{Manifest}
 use Rattle.wire.specs.declared.refusal.Refusal.{Refusal}
 use Rattle.wire.specs.declared.refusal.Refusal.the-variants.{State}
 use Rattle.wire.specs.Refusal.{firstThatApplies}
+use Rattle.wire.specs.Size.{wrongSize}
 use Rattle.wire.specs.Geometry.{countOf, blockLength, withBlock}
-use Rattle.wire.specs.Message.{kind, manifestIn, blockIn, hashesAfter, updateNumber, updateBlock}
-use Rattle.wire.proofs.GeometryLaws.{before-is}
+use Rattle.wire.specs.Message.{kind, leastLength, manifestIn, hashesAfter, updateNumber, leastUpdate}
+use Rattle.wire.proofs.MessageLaws.{length-block, length-update-block, due}
 use Rattle.machine.specs.declared.state.Stage.{Stage}
 use Rattle.machine.specs.declared.state.Stage.the-variants.{Loading, Complete}
 use Rattle.machine.specs.declared.state.Device.{Device}
@@ -29,23 +33,61 @@ use Rattle.machine.specs.Device.{nextOf, Situation}
 use Rattle.machine.specs.Flash.{stored, updated}
 use Rattle.machine.specs.Refusals.{refusals}
 use Rattle.machine.specs.Step.{stageAfter, acceptBlock, acceptUpdate, accept, answerOf, outcome, refusalOf, step}
+use Rattle.machine.proofs.RefusalLaws.{answer-none, block-passed, update-passed, path-passed, path-block}
 use Rattle.device.specs.Fields.{stepInPlace}
-use Rattle.machine.proofs.RefusalLaws.{answer-none}
+use Rattle.device.specs.Inner.{updates, programOf, numberOf, headOf, blockOf}
+use Rattle.device.proofs.KindLaws.{updating}
 
-module _ (d : Device) (flash m : List ℕ) where
-  -- two accepted steps, as the code makes them
-  pub block-is : {i n k : ℕ} {t : Stage} {b r hashes f : List ℕ} → i ≡ nextOf (d .stage) → n ≡ countOf (d .manifest)
-      → k ≡ blockLength (d .manifest .«block_len») (d .manifest .«image_len») i → b ≡ blockIn k m → r ≡ hashesAfter k m → t ≡ stageAfter n i
-      → hashes ≡ advanced n (i - 1) (d .hashes) r → f ≡ withBlock (d .manifest .«block_len») flash i b
-      → acceptBlock d flash m ≡ record { device = record { model = d .model; key = d .key; stage = t; manifest = d .manifest; hashes = hashes }; flash = f }
-  unfolding acceptBlock stored
-  block-is {i} ei en ek eb er et eh ef = rw (et, eh, ef, eb, er, ek, before-is i, en, ei)
+-- A block that a message brings: block i of the program of manifest s, behind the message's first bytes, with room for it in the flash.
+pub record Brought (s : Manifest) (i head : ℕ) (flash m : List ℕ) : Type 0 where
+  pub low : 0 < i
+  pub high : i ≤ countOf s
+  pub room : s .«image_len» ≤ length flash
+  pub long : head + blockLength (s .«block_len») (s .«image_len») i ≤ length m
 
-  pub update-is : {s : Manifest} {i k : ℕ} {b f : List ℕ} → s ≡ manifestIn m → i ≡ updateNumber m → k ≡ blockLength (s .«block_len») (s .«image_len») i
-      → b ≡ updateBlock k m → f ≡ withBlock (s .«block_len») flash i b
-      → acceptUpdate d flash m ≡ record { device = record { model = d .model; key = d .key; stage = d .stage; manifest = s; hashes = d .hashes }; flash = f }
-  unfolding acceptUpdate updated
-  update-is es ei ek eb ef = rw (ef, eb, ek, es, ei)
+pub length-brought : (u : Bool) (k : ℕ) (m : List ℕ) → headOf u + k ≤ length m → length (blockOf u k m) ≡ k
+unfolding headOf blockOf
+length-brought true k m l = length-update-block k m l
+length-brought false k m l = length-block k m l
+
+module _ (d : Device) (flash m : List ℕ) (k : Kind) (is : k ≡ kind m) (one : updates k ≡ false → k ≡ Block) (passed : refusalOf digest valid d flash m ≡ none) where
+  pub brought : (u : Bool) → u ≡ updates k → Brought (programOf u (d .manifest) m) (numberOf u (d .stage) m) (headOf u) flash m
+  unfolding programOf numberOf headOf leastUpdate
+  brought true e = go (updating k (sym e))
+    where
+      go : (k ≡ Update) ⊎ (k ≡ PathUpdate) → Brought (manifestIn m) (updateNumber m) (leastLength Update) flash m
+      go (inl q) = let p = update-passed digest valid d flash m (sym is ∙ q) passed .successor in record { low = p .turn .0; high = p .turn .1; room = p .room; long = p .long }
+      go (inr q) =
+          let w = path-passed digest valid d flash m (sym is ∙ q) passed in
+          let p = w .successor in
+          record { low = p .turn .0; high = p .turn .1; room = p .room; long = path-block digest valid d flash m w }
+  brought false e =
+      let p = block-passed digest valid d flash m (sym is ∙ one (sym e)) passed in
+      record { low = p .awaited .low; high = p .awaited .high; room = p .room; long = due (d .manifest .«block_len») (d .manifest .«image_len») (nextOf (d .stage)) m (p .long) .long }
+
+  -- the siblings behind a block of kind 2
+  pub siblings : (u : Bool) → u ≡ updates k → u ≡ false
+      → (let s = programOf u (d .manifest) m in let i = numberOf u (d .stage) m in
+      (wrongSize (s .«block_len») (s .«image_len») ≡ false) × (length (hashesAfter (blockLength (s .«block_len») (s .«image_len») i) m) ≡ hashLength * carriedCount (countOf s) i))
+  unfolding programOf numberOf countOf
+  siblings true e t = absurd (true≢false t)
+  siblings false e t = let p = block-passed digest valid d flash m (sym is ∙ one (sym e)) passed in (p .awaited .size, due _ _ _ _ (p .long) .rest)
+
+-- The accepted steps, as the code makes them.
+module _ (d : Device) (flash m : List ℕ) (k : Kind) {u : Bool} {s : Manifest} {i n : ℕ} {b f : List ℕ} (eu : u ≡ updates k) (es : s ≡ programOf u (d .manifest) m)
+    (ei : i ≡ numberOf u (d .stage) m) (en : n ≡ blockLength (s .«block_len») (s .«image_len») i) (eb : b ≡ blockOf u n m) (ef : f ≡ withBlock (s .«block_len») flash i b) where
+  pub update-is : u ≡ true → accept k d flash m ≡ record { device = record { model = d .model; key = d .key; stage = d .stage; manifest = s; hashes = d .hashes }; flash = f }
+  unfolding accept acceptUpdate updated programOf numberOf blockOf
+  update-is t = go (updating k (sym eu ∙ t))
+    where
+      go : (k ≡ Update) ⊎ (k ≡ PathUpdate) → accept k d flash m ≡ record { device = record { model = d .model; key = d .key; stage = d .stage; manifest = s; hashes = d .hashes }; flash = f }
+      go (inl q) = rw (q, ef, eb, en, es, ei, t)
+      go (inr q) = rw (q, ef, eb, en, es, ei, t)
+
+  pub block-is : {t : Stage} {r hashes : List ℕ} → k ≡ Block → u ≡ false → r ≡ hashesAfter n m → t ≡ stageAfter (countOf s) i → hashes ≡ advanced (countOf s) (pred i) (d .hashes) r
+      → accept k d flash m ≡ record { device = record { model = d .model; key = d .key; stage = t; manifest = s; hashes = hashes }; flash = f }
+  unfolding accept acceptBlock stored programOf numberOf blockOf
+  block-is q z er et eh = rw (q, et, eh, ef, eb, er, en, es, ei, z)
 
 -- The stage after block i of n.
 pub goes-on : (n i : ℕ) → i < n → Loading (i + 1) ≡ stageAfter n i

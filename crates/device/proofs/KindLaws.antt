@@ -10,6 +10,7 @@ use Rattle.wire.proofs.kind.Kind.{the-type}
 use Rattle.wire.specs.declared.kind.Kind.the-variants.{Program, Block, Update, PathUpdate, Unknown}
 use Rattle.wire.specs.Message.{carries, leastLength}
 use Rattle.machine.specs.Refusals.{noKind}
+use Rattle.device.specs.Inner.{updates}
 
 -- it is known, and has a manifest's bytes
 pub carried-known : (k : Kind) → carries k ≡ true → noKind k ≡ false
@@ -45,10 +46,19 @@ bare Update e = absurd (⊎-elim (λ (z : _≡_ {A = ℕ} 2 1). omega arith) (λ
 bare PathUpdate e = absurd (⊎-elim (λ (z : _≡_ {A = ℕ} 3 1). omega arith) (λ (z : _≡_ {A = ℕ} 3 4). omega arith) e)
 bare Unknown e = refl
 
--- the arm of the updates
-pub updating : (k : Kind) → (tagOf the-type k ≡ 2) ⊎ (tagOf the-type k ≡ 3) → (k ≡ Update) ⊎ (k ≡ PathUpdate)
-updating Program e = absurd (⊎-elim (λ (z : _≡_ {A = ℕ} 0 2). omega arith) (λ (z : _≡_ {A = ℕ} 0 3). omega arith) e)
-updating Block e = absurd (⊎-elim (λ (z : _≡_ {A = ℕ} 1 2). omega arith) (λ (z : _≡_ {A = ℕ} 1 3). omega arith) e)
+-- the arm of those that bring a block, and the updates among them
+pub bringing : (k : Kind) → (tagOf the-type k ≡ 1) ⊎ ((tagOf the-type k ≡ 2) ⊎ (tagOf the-type k ≡ 3)) → updates k ≡ false → k ≡ Block
+unfolding updates
+bringing Program e q = absurd (⊎-elim (λ (z : _≡_ {A = ℕ} 0 1). omega arith) (⊎-elim (λ (z : _≡_ {A = ℕ} 0 2). omega arith) (λ (z : _≡_ {A = ℕ} 0 3). omega arith)) e)
+bringing Block e q = refl
+bringing Update e q = absurd (true≢false q)
+bringing PathUpdate e q = absurd (true≢false q)
+bringing Unknown e q = absurd (⊎-elim (λ (z : _≡_ {A = ℕ} 4 1). omega arith) (⊎-elim (λ (z : _≡_ {A = ℕ} 4 2). omega arith) (λ (z : _≡_ {A = ℕ} 4 3). omega arith)) e)
+
+pub updating : (k : Kind) → updates k ≡ true → (k ≡ Update) ⊎ (k ≡ PathUpdate)
+unfolding updates
+updating Program e = absurd (true≢false (sym e))
+updating Block e = absurd (true≢false (sym e))
 updating Update e = inl refl
 updating PathUpdate e = inr refl
-updating Unknown e = absurd (⊎-elim (λ (z : _≡_ {A = ℕ} 4 2). omega arith) (λ (z : _≡_ {A = ℕ} 4 3). omega arith) e)
+updating Unknown e = absurd (true≢false (sym e))
