@@ -1,9 +1,10 @@
-use mathlib.Core.Path.{_≡_}
-use Prim.Native.Nat.{_+_, _-_}
+use mathlib.Core.Path.{_≡_, ap, _∙_}
+use Prim.Native.Nat.{ℕ, _+_, _-_}
 use native.Mathlib.Omega.{arith}
 use Rattle.wire.specs.Geometry.{countOf}
 use Rattle.wire.proofs.SizeLaws.{sized}
 use Rattle.wire.proofs.GeometryLaws.{before-is}
+use Rattle.machine.specs.Step.{stageAfter}
 use borrow.Author.Needs.{needs}
 use Rattle.device.proofs.accept.advance.Statement.{statement}
 use Rattle.device.proofs.accept.advance.Tie as tie
@@ -33,8 +34,8 @@ same-length c = search needs
 returns : tie.Need-returns
 returns c =
     let e = c .before .before .before .before .before .count-of .ensures in
-    let i = before-is (c .before .before .before .before .before .before .before .before .args .next) in
-    (rw e at (c .stage-after .ensures), rw (e, i) at (c .before .before .before .advance .ensures))
+    let i = c .before .before .before .before .before .before .before .before .args .next in
+    (c .stage-after .ensures ∙ ap (λ (n : ℕ). stageAfter n i) e, rw (e, before-is i) at (c .before .before .before .advance .ensures))
 
 pub advance-spec : {M : Type 1} → statement M
 advance-spec =
