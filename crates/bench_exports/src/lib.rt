@@ -9,8 +9,7 @@ ghost use Rattle.sha256.specs.Sha256.{digest};
 pub extern "C" fn bench_digest(message: &[u8], out: &mut [u8; 32])
     ensures { λ _. ⌜ now (out .exit) ≡ digest (now (message .entry)) ⌝ }
 {
-    let d = sha256::digest(message);
-    *out = d;
+    sha256::digest(message, out);
 }
 
 // The digest of a message that is fed in pieces of the given length; 0 counts as 1.
@@ -26,8 +25,7 @@ pub extern "C" fn bench_pieces(message: &[u8], piece: usize, out: &mut [u8; 32])
         context = next;
         from = end;
     }
-    let d = context.finish();
-    *out = d;
+    context.finish(out);
 }
 
 // Where the piece that starts at `from` ends.

@@ -67,7 +67,13 @@ fn message_hash(id: &[u8], q: u32, c: &[u8], message: &[u8]) -> [u8; 32]
     ensures { λ r. ⌜ r ≡ spec.messageHash (now (id .entry)) q (now (c .entry)) (now (message .entry)) ⌝ }
 {
     let s = start(id, q, D_MESG);
-    Context::new().update(&s).update(c).update(message).finish()
+    let mut hash = [0u8; 32];
+    Context::new()
+        .update(&s)
+        .update(c)
+        .update(message)
+        .finish(&mut hash);
+    hash
 }
 
 // Chain i from its digit a up to the largest, on y. One padded block holds each step's hash input: only j and tmp change in it.
@@ -114,5 +120,7 @@ pub fn candidate(id: &[u8], q: u32, t: Chains, message: &[u8], signature: &[u8])
         context = next;
         i += 1;
     }
-    context.finish()
+    let mut key = [0u8; 32];
+    context.finish(&mut key);
+    key
 }

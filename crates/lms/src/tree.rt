@@ -1,7 +1,9 @@
-// RFC 8554, section 5: the top hash that a leaf's one-time key and its path lead to.
+// RFC 8554, section 5: the top hash that a leaf's one-time key and its path lead to. Leaf and parent go through a context: the compiler sees how long their inputs
+// are, and would write a digest in one call out at both.
 use crate::hash::D_INTR;
 use crate::hash::D_LEAF;
 use crate::hash::start;
+use sha256::Context;
 ghost use mathlib.Core.Path.{_≡_};
 ghost use Prim.Native.Nat.{_*_, _^_, _≤_, _<_};
 ghost use lib.ListN.{length};
@@ -17,7 +19,9 @@ fn leaf(id: &[u8], node: u32, key: &[u8]) -> [u8; 32]
     let mut b = [0u8; 54];
     octets::copy(&mut b, 0, &s);
     octets::copy(&mut b, 22, key);
-    sha256::digest(&b)
+    let mut hash = [0u8; 32];
+    Context::new().update(&b).finish(&mut hash);
+    hash
 }
 
 // The hash of a node's parent, from the node's hash and its sibling's.
@@ -36,7 +40,9 @@ fn parent(id: &[u8], node: u32, sibling: &[u8], hash: &[u8]) -> [u8; 32]
         octets::copy(&mut b, 22, hash);
         octets::copy(&mut b, 54, sibling);
     }
-    sha256::digest(&b)
+    let mut above = [0u8; 32];
+    Context::new().update(&b).finish(&mut above);
+    above
 }
 
 // The candidate for the top hash, of leaf q of a tree of the given height.

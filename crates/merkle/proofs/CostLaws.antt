@@ -1,9 +1,9 @@
 -- What hashing costs depends on lengths alone: closed forms for general prefixes.
 use mathlib.Core.Path.{_≡_, refl, sym, ap, ap₂, _∙_}
-use mathlib.Core.Bool.{Bool, true, false, cond}
+use mathlib.Core.Bool.{Bool, true, false}
 use mathlib.Core.List.{List, [], _∷_, _++_}
 use mathlib.Core.Logic.{_⊎_, inl, inr, ⊎-elim}
-use Prim.Native.Nat.{ℕ, zero, suc, _+_, _-_, _*_, _/_, _≤_, _<_}
+use Prim.Native.Nat.{ℕ, zero, suc, _+_, _-_, _*_, _≤_, _<_}
 use native.Mathlib.Nat.{add-mul, one-mul, add-zero, add-assoc}
 use native.Mathlib.Omega.{arith}
 use lib.ListN.{length, take, drop, length-append, length-take, length-drop}
@@ -18,7 +18,7 @@ use Rattle.merkle.specs.Path.{besideInput, ascend}
 use Rattle.merkle.specs.Turns.{turnsOf}
 use Rattle.merkle.specs.Held.{hashesIn}
 use Rattle.merkle.specs.Cost.{cost, climbFromCost, climbCost, ascendCost, fitsCost, leafCost, nodeCost, costWithout}
-use Rattle.merkle.proofs.ShapeLaws.{lt-or-le, size-pos, size-node, size-leaf, size-shape, size-left, split-between, halves, shape-leaf}
+use Rattle.merkle.proofs.ShapeLaws.{lt-or-le, size-pos, size-node, size-leaf, size-left, halves, shape-leaf}
 use Rattle.merkle.proofs.HashLaws.{Same, same-left, same-right, hash-same, length-hash}
 
 -- The compressions of a block of k bytes, and of two hashes, behind their prefixes.

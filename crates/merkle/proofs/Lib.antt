@@ -17,7 +17,6 @@ pub mod FitsLaws
 pub mod CostLaws
 pub mod MessageCostLaws
 pub mod TreeLaws
-pub mod ClimbLaws
 pub mod SiblingLaws
 pub mod WayLaws
 pub mod TurnLaws

@@ -1,20 +1,24 @@
 -- What a block message costs, by lengths alone.
-use mathlib.Core.Path.{_≡_, refl, ap, ap₂, _∙_}
+use mathlib.Core.Path.{_≡_, refl, sym, ap, ap₂, _∙_}
 use mathlib.Core.Logic.{⊎-elim}
+use mathlib.Core.Bool.{cond}
 use mathlib.Core.List.{List}
 use Prim.Native.Nat.{ℕ, suc, _+_, _-_, _*_, _≤_, _<_}
 use native.Mathlib.Nat.{mul-le-mul-right, add-mul, one-mul, zero-add}
 use native.Mathlib.Omega.{arith}
+use lib.Dec.{eqb}
 use lib.ListN.{length, length-take, length-drop}
 use borrow.Author.Tests.{eq-eqb, ne-eqb}
-use Rattle.merkle.specs.Limits.{hashLength}
+use Rattle.sha256.specs.Sha256.{digest, compressionsFor}
+use Rattle.merkle.specs.Limits.{hashLength, maxBlocks}
 use Rattle.merkle.specs.Shape.{depth, split, size, shape, build, leastFrom}
 use Rattle.merkle.specs.Blocks.{cut, overlay}
-use Rattle.merkle.specs.Frontier.{carriedCount, siblings, largest, rightSiblings}
-use Rattle.merkle.specs.Hash.{Hashing}
-use Rattle.merkle.specs.Claims.{CostKnown, CostCases}
-use Rattle.merkle.specs.Cost.{cost, messageCost, leafCost, nodeCost, knownCost}
+use Rattle.merkle.specs.Frontier.{heldCount, carriedCount, siblings, largest, rightSiblings}
+use Rattle.merkle.specs.Hash.{Hashing, plain}
+use Rattle.merkle.specs.Claims.{CostKnown, CostMost, CostCases}
+use Rattle.merkle.specs.Cost.{cost, fitsCost, leafCost, nodeCost, knownCost}
 use Rattle.merkle.proofs.ShapeLaws.{lt-or-le, size-shape}
+use Rattle.merkle.proofs.CountLaws.{held-all, held-next, held-pos, room}
 use Rattle.merkle.proofs.BlockLaws.{overlay-same, overlay-other}
 use Rattle.merkle.proofs.CostLaws.{cost-is, fits-cost-is}
 
@@ -39,8 +43,8 @@ module _ (H : Hashing) (sized : (x : List ℕ) → length (H .function x) ≡ ha
       )
 
   known : (L n i : ℕ) (flash b m : List ℕ) → i < n → (n - 1) * L ≤ length flash → length m ≡ hashLength * carriedCount n (suc i)
-      → messageCost H L n i flash b m ≡ knownCost H L n i (length b)
-  unfolding messageCost knownCost
+      → fitsCost H n i b m + cond (eqb (suc i) n) (cost H (overlay (cut L flash) i b) 0 (shape n)) 0 ≡ knownCost H L n i (length b)
+  unfolding knownCost
   known L n i flash b m lt room lm =
       let compared = fits-cost-is H sized n i b m lm in
       ⊎-elim (λ q. rw (ne-eqb (suc i) n (λ e. omega arith)) (omega arith))
@@ -56,4 +60,40 @@ cost-known H sized L n i flash b m = known H sized L n i flash b m
 -- The cases, computed.
 pub cost-cases : CostCases
 unfolding knownCost carriedCount siblings largest rightSiblings shape build split depth leastFrom size
-cost-cases function = (refl, refl, refl, refl)
+cost-cases function = (refl, refl, refl, refl, refl)
+
+-- The last block's message carries no hash.
+last-carries : (n i : ℕ) → suc i ≡ n → carriedCount n (suc i) ≡ 0
+last-carries n i e = omega (arith, held-next n i (omega arith), held-pos n i (omega arith), ap (heldCount n) e, held-all n (omega arith))
+
+pub cost-most : CostMost
+unfolding knownCost
+cost-most function L n i k short own lt le =
+    let r = room n i lt le in
+    let p : n - 1 ≤ 1535 = omega arith in
+    let whole = mul-le-mul-right (leafCost (plain function) L + 2) p in
+    ⊎-elim (λ q. rw (ne-eqb (suc i) n (λ e. omega arith)) (omega (arith, r .some, r .enough)))
+    (λ q. let e : suc i ≡ n = omega arith in rw (eq-eqb (suc i) n e) (omega (arith, last-carries n i e)))
+    (lt-or-le (suc i) n)
+
+-- What the code works out: c the hashes carried, a and d the compressions of this block, of k bytes, and of one of L bytes.
+module _ (L n i k c a : ℕ) (lt : i < n) (le : n ≤ maxBlocks) (ec : c ≡ carriedCount n (i + 1)) (ea : a ≡ compressionsFor k) where
+  next : i + 1 ≡ suc i
+  next = omega arith
+
+  carried : c ≡ carriedCount n (suc i)
+  carried = ec ∙ ap (carriedCount n) next
+
+  pub carried-few : c ≤ 11
+  carried-few = let r = room n i lt le in omega (arith, carried, r .enough, r .some)
+
+  pub early-known : (i + 1 ≡ n → ⊥) → a + 2 * c ≡ knownCost (plain digest) L n i k
+  unfolding knownCost
+  early-known h = rw (ne-eqb (suc i) n (λ e. h (omega arith))) (omega (arith, carried))
+
+  pub last-known : (d : ℕ) → d ≡ compressionsFor L → i + 1 ≡ n → a + 2 * c + ((n - 1) * (d + 2) + a) ≡ knownCost (plain digest) L n i k
+  unfolding knownCost
+  last-known d ed e =
+      let all : (n - 1) * (d + 2) ≡ (n - 1) * (leafCost (plain digest) L + nodeCost (plain digest)) =
+      ap (λ x. (n - 1) * (x + 2)) (ed ∙ ap compressionsFor (sym (zero-add L))) in
+      rw (eq-eqb (suc i) n (sym next ∙ e)) (omega (arith, carried))

@@ -32,7 +32,7 @@ module _ (H : Hashing) (sized : (x : List ℕ) → length (H .function x) ≡ ha
   length-ascend x (w ∷ ws) [] e = e
   length-ascend x (w ∷ ws) (y ∷ ys) e = length-ascend (H .function (besideInput H x (w .1) y)) ws ys (sized (besideInput H x (w .1) y))
 
-  length-path : (o : ℕ) (s : Shape) (i : ℕ) (b : List ℕ) (ys : List (List ℕ)) → length (pathHash H o s i b ys) ≡ hashLength
+  pub length-path : (o : ℕ) (s : Shape) (i : ℕ) (b : List ℕ) (ys : List (List ℕ)) → length (pathHash H o s i b ys) ≡ hashLength
   unfolding pathHash
   length-path o s i b ys = length-ascend (leafHash H b) (way o s i) ys (sized (leafInput H b))
 

@@ -67,7 +67,7 @@ least-least (suc tries) d n e le h = go (lt-or-le (2 ^ d) n) (least-least tries 
     go (inr p) ih = rw (least-here tries d n p) le
 
 -- The depth d is the least with 2 to the power d at least n.
-depth-fits : (n : ℕ) → n ≤ 2 ^ depth n
+pub depth-fits : (n : ℕ) → n ≤ 2 ^ depth n
 unfolding depth
 depth-fits n = least-fits n 0 n (let e : 0 + n ≡ n = omega arith in rw e (omega (arith, lt-pow n)))
 

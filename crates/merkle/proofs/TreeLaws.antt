@@ -1,20 +1,25 @@
 -- The tree over blocks by halves, and its hashes in one array: what the proofs of `put_hash` and its callers cite.
 use mathlib.Core.Path.{_≡_, refl, sym, ap, ap₂, _∙_}
 use mathlib.Core.List.{List}
+use mathlib.Core.Logic.{inr}
 use Prim.Native.Nat.{ℕ, _+_, _-_, _*_, _%_, _^_, _≤_, _<_}
 use native.Mathlib.Nat.{zero-add, mul-le-mul-right, add-mul}
 use native.Mathlib.Omega.{arith}
 use lib.ListN.{length, take, drop, length-drop}
+use lib.Pow.{pow-mono}
 use lib.Seq.{paste, take-at, take-take, drop-drop, length-take-le, take-paste}
 use Rattle.octets.specs.Octets.{part}
+use Rattle.sha256.specs.Sha256.{compressions}
 use Rattle.octets.proofs.CopyLaws.{part-part, paste-from, paste-later}
 use Rattle.merkle.specs.Limits.{hashLength, heldBytes}
 use Rattle.merkle.specs.Blocks.{cut, overlay}
-use Rattle.merkle.specs.Shape.{split, shape}
-use Rattle.merkle.specs.Hash.{Hashing, leafHash, nodeHash, hash}
-use Rattle.merkle.proofs.ShapeLaws.{shape-leaf, halves, size-left, size-shape}
+use Rattle.merkle.specs.Shape.{depth, split, shape}
+use Rattle.merkle.specs.Hash.{Hashing, leafInput, leafHash, nodeHash, hash}
+use Rattle.merkle.specs.Cost.{cost, costWithout}
+use Rattle.merkle.proofs.ShapeLaws.{shape-leaf, halves, size-left, size-shape, depth-fits}
 use Rattle.merkle.proofs.HashLaws.{hash-node, hash-same}
 use Rattle.merkle.proofs.BlockLaws.{overlay-same, overlay-other}
+use Rattle.merkle.proofs.CostLaws.{without-new, without-kept, without-beyond, without-within, cost-same}
 
 -- The subtree over n blocks of len bytes that starts with block `first` (blocks before it), with block `at` of the bytes replaced: the rest is what the bytes have
 -- from `first` on, `skip` says how far block `at` is from there, and `new` is the hash of the block that replaces it.
@@ -60,6 +65,22 @@ module _ {H : Hashing} {len : ℕ} {bytes block : List ℕ} {at : ℕ} {new rest
       let k = s .skips in
       ap (leafHash H) (sym (overlay-other (cut len bytes) at block first (λ f. z (omega arith)) ∙ unfold cut in ap (take len) (s .starts))) ∙ one e
 
+  -- and what that takes
+  pub one-new-cost : n ≡ 1 → skip ≡ 0 → 0 ≡ costWithout H at (overlay (cut len bytes) at block) first (shape n)
+  one-new-cost e z =
+      let l = s .small in
+      let k = s .skips in
+      without-new H at (overlay (cut len bytes) at block) first n e (omega arith)
+
+  pub one-kept-cost : n ≡ 1 → skip < 2 ^ 64 → (skip ≡ 0 → ⊥)
+      → compressions (leafInput H (take len rest)) ≡ costWithout H at (overlay (cut len bytes) at block) first (shape n)
+  one-kept-cost e g z =
+      let l = s .small in
+      let k = s .skips in
+      let other : first ≡ at → ⊥ = λ f. z (omega arith) in
+      ap (λ b. compressions (leafInput H b)) (sym (overlay-other (cut len bytes) at block first other ∙ unfold cut in ap (take len) (s .starts)))
+      ∙ without-kept H at (overlay (cut len bytes) at block) first n e other
+
 -- The hash of the tree over n blocks, o before it, from those of its halves.
 pub hash-two : (H : Hashing) (f : ℕ → List ℕ) (o n k : ℕ) (x y : List ℕ) → 1 < n → k ≡ split n → x ≡ hash H f o (shape k) → y ≡ hash H f (o + k) (shape (n - k))
     → nodeHash H x y ≡ hash H f o (shape n)
@@ -71,6 +92,23 @@ hash-two H f o n k x y big is ex ey =
 pub hash-beyond : (H : Hashing) (f : ℕ → List ℕ) (at : ℕ) (b : List ℕ) (o n : ℕ) → 0 < n → o + n ≤ at → hash H (overlay f at b) o (shape n) ≡ hash H f o (shape n)
 hash-beyond H f at b o n pos h =
     hash-same H (shape n) (record { block = λ j k. overlay-other f at b (o + j) (λ e. omega (arith, size-shape n pos)) })
+
+pub cost-beyond : (H : Hashing) (f : ℕ → List ℕ) (at : ℕ) (b : List ℕ) (o n : ℕ) → 0 < n → o + n ≤ at → costWithout H at (overlay f at b) o (shape n) ≡ cost H f o (shape n)
+cost-beyond H f at b o n pos h =
+    without-beyond H at (overlay f at b) o (shape n) (inr (omega (arith, size-shape n pos)))
+    ∙ cost-same H (shape n) (record { block = λ j k. overlay-other f at b (o + j) (λ e. omega (arith, size-shape n pos)) })
+
+-- A replaced block that is one of the tree's.
+pub cost-with : (H : Hashing) (f : ℕ → List ℕ) (at : ℕ) (b : List ℕ) (n c r : ℕ) → at < n → c ≡ compressions (leafInput H b) → r ≡ costWithout H at (overlay f at b) 0 (shape n)
+    → c + r ≡ cost H (overlay f at b) 0 (shape n)
+cost-with H f at b n c r lt ec er =
+    let w = without-within H at (overlay f at b) 0 (shape n) (omega arith) (omega (arith, size-shape n (omega arith))) in
+    let e : compressions (leafInput H (overlay f at b at)) ≡ c = ap (λ x. compressions (leafInput H x)) (overlay-same f at b) ∙ sym ec in
+    omega arith
+
+-- So deep a tree has no more blocks than this.
+pub blocks-few : (to n : ℕ) → to + hashLength * depth n ≤ heldBytes → n ≤ 2048
+blocks-few to n h = let d : depth n ≤ 11 = omega arith in omega (arith, depth-fits n, pow-mono d)
 
 -- The bytes are long enough for both halves.
 pub left-fits : (L A n k : ℕ) → k < n → (n - 1) * L ≤ A → k * L ≤ A

@@ -1,17 +1,19 @@
 -- What is shown of the definitions (in proofs/), in 01's order.
 use mathlib.Core.Path.{_≡_}
 use mathlib.Core.Logic.{_⊎_, _↔_, _≢_}
+use mathlib.Core.Bool.{cond}
 use mathlib.Core.List.{List, [], _∷_, _++_, List·Memᴰ}
 use Prim.Native.Nat.{ℕ, suc, pred, _+_, _-_, _*_, _^_, max, _≤_, _<_}
+use lib.Dec.{eqb}
 use lib.ListN.{length, drop}
 use Rattle.merkle.specs.Limits.{maxBlocks, hashLength, maxHeld, heldBytes}
-use Rattle.merkle.specs.Blocks.{blockCount}
+use Rattle.merkle.specs.Blocks.{blockCount, cut, overlay}
 use Rattle.merkle.specs.Shape.{Shape, leaf, node, size, height, depth, split, shape, Place, places}
 use Rattle.merkle.specs.Hash.{Hashing, plain, hash, hashes, climb}
 use Rattle.merkle.specs.Frontier.{largest, rightSiblings, siblings, carriedCount, frontier, heldCount}
 use Rattle.merkle.specs.Path.{pathSiblings, leafDepth, way, pathHash, PathCollision}
 use Rattle.merkle.specs.Held.{hashesIn, heldIn, nextHeld, begun, advanced}
-use Rattle.merkle.specs.Cost.{messageCost, knownCost}
+use Rattle.merkle.specs.Cost.{cost, fitsCost, knownCost, mostCost}
 
 -- "Its count n is T/L rounded up": n blocks hold the T bytes, and n - 1 do not.
 pub record Rounded (L T n : ℕ) : Type 0 where
@@ -153,15 +155,20 @@ LeafDepths =
     × ((n i : ℕ) → i < n → length (way 0 (shape n) i) ≡ leafDepth n i)
     × ((n i : ℕ) → 0 < n → leafDepth n i ≤ depth n)
 
--- Change 7: what a block message costs follows from L, T and the number alone. It is known before anything is hashed, whatever flash, block and message hold, if the
--- hash function's results have 32 bytes.
+-- Change 7: what a block message costs, its comparison's and for the last block the whole tree's besides, follows from L, n, the number and the block's length alone. It is known before
+-- anything is hashed, whatever flash, block and message hold, if the hash function's results have 32 bytes.
 abbrev pub CostKnown : Type 0
 CostKnown =
     (H : Hashing) → ((x : List ℕ) → length (H .function x) ≡ hashLength) → (L n i : ℕ) (flash block message : List ℕ) → i < n → (n - 1) * L ≤ length flash
-    → length message ≡ hashLength * carriedCount n (suc i) → messageCost H L n i flash block message ≡ knownCost H L n i (length block)
+    → length message ≡ hashLength * carriedCount n (suc i)
+    → fitsCost H n i block message + cond (eqb (suc i) n) (cost H (overlay (cut L flash) i block) 0 (shape n)) 0 ≡ knownCost H L n i (length block)
 
--- "With L = 256 and n = 8, message 1 costs 11"; message 2 costs 5, and message 8, with the whole tree, 59. One block of one byte, which is the last one, costs 2.
+-- No block message within the limits costs more than `mostCost`, if nothing goes before what is hashed.
+abbrev pub CostMost : Type 0
+CostMost = (function : List ℕ → List ℕ) (L n i k : ℕ) → L ≤ 1024 → k ≤ 1024 → i < n → n ≤ maxBlocks → knownCost (plain function) L n i k ≤ mostCost
+
+-- "With L = 256 and n = 8, message 1 costs 11"; message 2 costs 5, and message 8, with the whole tree, 59. One block of one byte, which is the last one, costs 2, and the costliest of all is reached.
 abbrev pub CostCases : Type 0
 CostCases =
     (function : List ℕ → List ℕ) → (let known = knownCost (plain function) in
-    (known 256 8 0 256 ≡ 11) × (known 256 8 1 256 ≡ 5) × (known 256 8 7 256 ≡ 59) × (known 256 1 0 1 ≡ 2))
+    (known 256 8 0 256 ≡ 11) × (known 256 8 1 256 ≡ 5) × (known 256 8 7 256 ≡ 59) × (known 256 1 0 1 ≡ 2) × (known 1024 1536 1535 1024 ≡ mostCost))

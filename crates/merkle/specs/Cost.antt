@@ -6,8 +6,7 @@ use lib.Dec.{eqb}
 use lib.ListN.{length}
 use Rattle.sha256.specs.Sha256.{compressions, compressionsFor}
 use Rattle.merkle.specs.Limits.{hashLength}
-use Rattle.merkle.specs.Shape.{Shape, leaf, node, size, Place, shape}
-use Rattle.merkle.specs.Blocks.{cut, overlay}
+use Rattle.merkle.specs.Shape.{Shape, leaf, node, size, Place}
 use Rattle.merkle.specs.Hash.{Hashing, leafInput, nodeInput, leafHash, nodeHash, hash}
 use Rattle.merkle.specs.Frontier.{carriedCount}
 use Rattle.merkle.specs.Path.{way, besideInput}
@@ -41,19 +40,15 @@ module _ (H : Hashing) where
   unfoldable pub fitsCost : (n i : ℕ) (block message : List ℕ) → ℕ
   fitsCost n i block message = climbCost block (hashesIn (carriedCount n (suc i)) message)
 
-  -- Of a block message: "its comparison's, and for the last block Change 5's whole tree besides", which is over the flash with that block in place.
-  -- With L = 256 and n = 8, message 1 costs 11.
-  unfoldable pub messageCost : (L n i : ℕ) (flash block message : List ℕ) → ℕ
-  messageCost L n i flash block message =
-      fitsCost n i block message + cond (eqb (suc i) n) (cost (overlay (cut L flash) i block) 0 (shape n)) 0
-
-  -- By lengths alone (Claims, `CostKnown`): of a block of k bytes, of two hashes, and of a block message whose block has k bytes.
+  -- By lengths alone (Claims, `CostKnown`): of a block of k bytes, and of two hashes.
   abbrev pub leafCost : (k : ℕ) → ℕ
   leafCost k = compressionsFor (length (H .leafPrefix) + k)
 
   abbrev pub nodeCost : ℕ
   nodeCost = compressionsFor (length (H .nodePrefix) + (hashLength + hashLength))
 
+  -- Of a block message whose block has k bytes: its comparison, and where it is the last one the whole tree, n - 1 blocks of L bytes and this one. With L = 256 and
+  -- n = 8, message 1 costs 11.
   unfoldable pub knownCost : (L n i k : ℕ) → ℕ
   knownCost L n i k =
       leafCost k + carriedCount n (suc i) * nodeCost + cond (eqb (suc i) n) ((n - 1) * (leafCost L + nodeCost) + leafCost k) 0
@@ -63,3 +58,8 @@ module _ (H : Hashing) where
   costWithout at blocks o leaf = cond (eqb o at) 0 (compressions (leafInput H (blocks o)))
   costWithout at blocks o (node l r) =
       costWithout at blocks o l + costWithout at blocks (o + size l) r + compressions (nodeInput H (hash H blocks o l) (hash H blocks (o + size l) r))
+
+-- No block message within the limits costs more (Claims, `CostMost`): the last of 1,536 blocks of 1,024 bytes takes 17 for its comparison, and for the tree 17 for each
+-- block and 2 for each of 1,535 nodes.
+abbrev pub mostCost : ℕ
+mostCost = 29199

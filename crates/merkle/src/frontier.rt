@@ -12,6 +12,7 @@ ghost use Rattle.sha256.specs.Sha256 as sha;
 ghost use Rattle.merkle.specs.Limits.{maxBlocks, hashLength, heldBytes};
 ghost use Rattle.merkle.specs.Hash.{plain};
 ghost use Rattle.merkle.specs.Frontier.{carriedCount};
+ghost use Rattle.merkle.specs.Cost.{fitsCost};
 ghost use Rattle.merkle.specs.Held as spec;
 ghost use Rattle.merkle.specs.Held.{heldStart, begun, advanced};
 
@@ -34,15 +35,25 @@ fn next_at(n: usize, before: usize) -> usize
     HELD_LEN - HASH_LEN * counts.held
 }
 
+// Whether two hashes are the same, and the compressions that it took to work one of them out.
+pub struct Comparison {
+    pub same: bool,
+    pub compressions: usize,
+}
+
 // Whether the hash worked out from the block after `before` of n and its siblings is the next one held.
-pub fn fits(hashes: &[u8], n: usize, before: usize, block: &[u8], siblings: &[u8]) -> bool
+pub fn fits(hashes: &[u8], n: usize, before: usize, block: &[u8], siblings: &[u8]) -> Comparison
     requires { ⌜ (length (now hashes) ≡ heldBytes) × (before < n) × (n ≤ maxBlocks) × (length (now siblings) ≡ hashLength * carriedCount n (before + 1)) ⌝ }
-    ensures { λ r. ⌜ r ≡ spec.fits (plain sha.digest) n before (now (hashes .entry)) (now (block .entry)) (now (siblings .entry)) ⌝ }
+    ensures { λ r. ⌜ (r .same ≡ spec.fits (plain sha.digest) n before (now (hashes .entry)) (now (block .entry)) (now (siblings .entry))) × (r .compressions ≡ fitsCost (plain sha.digest) n before (now (block .entry)) (now (siblings .entry))) ⌝ }
 {
     let start = next_at(n, before);
     let end = start + HASH_LEN;
-    let x = climb(block, siblings);
-    equal(&hashes[start..end], &x)
+    let mut x = [0u8; HASH_LEN];
+    let took = climb(0, block, siblings, &mut x);
+    Comparison {
+        same: equal(&hashes[start..end], &x),
+        compressions: took,
+    }
 }
 
 // The siblings of the block after `before` of n take the place of the next hash needed.

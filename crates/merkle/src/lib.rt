@@ -1,4 +1,5 @@
 // The Merkle tree over the blocks of an image or of the flash. Only our own crates call this one, and meet its `requires`.
+mod cost;
 mod counting;
 mod frontier;
 mod limits;
@@ -7,7 +8,9 @@ mod path;
 mod siblings;
 mod tree;
 
+pub use cost::known_cost;
 pub use counting::count;
+pub use frontier::Comparison;
 pub use frontier::advance;
 pub use frontier::begin;
 pub use frontier::fits;

@@ -14,7 +14,8 @@ pub fn manifest_for(image: &[u8], len: u32, model: u32, serial: u32) -> Manifest
 {
     let block_len = len as usize;
     let n = wire::block_count(block_len, image.len());
-    let root = merkle::root(image, block_len, n);
+    let mut root = [0u8; merkle::HASH_LEN];
+    merkle::root(image, block_len, n, &mut root);
     Manifest {
         version: 1,
         block_len: len as u16,

@@ -46,13 +46,13 @@ drop-replicate : (k n : ℕ) → k ≤ n → drop {A = ℕ} k (replicate n 0) �
 drop-replicate k n h = rw (split k n h) (drop-at (replicate k 0) (replicate (n - k) 0) k (length-replicate {A = ℕ} k 0))
 
 -- the bytes left over in a block of zeros, then 0x80
-pub marked : (r : List ℕ) → length r < 64
-    → set (paste (replicate 64 0) 0 r (length r)) (length r) 0x80 ≡ r ++ (0x80 ∷ replicate (63 - length r) 0)
-marked r h =
+pub marked : (r : List ℕ) (used : ℕ) → used ≡ length r → used < 64
+    → set (paste (replicate 64 0) 0 r (length r)) used 0x80 ≡ r ++ (0x80 ∷ replicate (63 - length r) 0)
+marked r used u h =
     let e : 64 - (0 + length r) ≡ suc (63 - length r) = omega arith in
-    ap (λ (x : List ℕ). set x (length r) 0x80)
+    ap (λ (x : List ℕ). set x used 0x80)
     (ap₂ {C = List ℕ} (λ (x y : List ℕ). x ++ y) (take-length r) (drop-replicate (0 + length r) 64 (omega arith) ∙ ap (λ (k : ℕ). replicate k 0) e))
-    ∙ set-at r 0 (replicate (63 - length r) 0) 0x80 (length r) refl
+    ∙ set-at r 0 (replicate (63 - length r) 0) 0x80 used (sym u)
 
 -- eight bytes hold the length in bits modulo 2 ^ 64, and the code's shift loses none of these
 bits : (t n : ℕ) → t ≡ n % 2 ^ 64 → bytes 8 (8 * t) ≡ bytes 8 (8 * n)

@@ -40,7 +40,7 @@ ZeroBits = (l : ℕ) → ((l + 1 + zeroBits l) % 512 ≡ 448) × ((k : ℕ) → 
 
 -- a padded message has (length + 9) / 64 blocks, rounded up
 abbrev pub PadLength : Type 0
-PadLength = (m : List ℕ) → length (pad m) ≡ 64 * ((length m + 9 + 63) / 64)
+PadLength = (m : List ℕ) → length (pad m) ≡ 64 * compressionsFor (length m)
 
 -- The compressions of a digest are "its length plus 9, over 64, rounded up" (02, change 7).
 abbrev pub Compressions : Type 0

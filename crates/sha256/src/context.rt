@@ -2,12 +2,13 @@
 use crate::compress::H0;
 use crate::compress::compress;
 use crate::compress::compress_all;
+use crate::padding::compressions;
 use crate::padding::concatenated;
 use crate::padding::padding;
 use crate::padding::padding_len;
 ghost use mathlib.Core.Path.{_≡_};
 ghost use mathlib.Core.List.{List, _++_};
-ghost use Prim.Native.Nat.{ℕ, _+_, _≤_};
+ghost use Prim.Native.Nat.{ℕ, _+_, _^_, _≤_, _<_};
 ghost use lib.ListN.{length};
 ghost use lib.Seq.{paste};
 ghost use Rattle.sha256.specs.Sha256 as spec;
@@ -66,14 +67,18 @@ impl Context {
         self
     }
 
-    // The digest of the message: its padding is absorbed as a last piece.
-    pub fn finish(self) -> [u8; 32]
-        ensures { λ r. ⌜ ((m : List ℕ) → Absorbed self m → r ≡ spec.digest m) ⌝ }
+    // The digest of the message: its padding is absorbed as a last piece. The answer is the number of compressions that the message took; a context counts its bytes
+    // modulo 2^64.
+    pub fn finish(self, out: &mut [u8; 32]) -> usize
+        ensures { λ r. ⌜ ((m : List ℕ) → Absorbed self m → (now (out .exit) ≡ spec.digest m) × (length m < 2 ^ 64 → r ≡ spec.compressions m)) ⌝ }
     {
-        let p = padding(self.length);
-        let n = padding_len(self.length);
+        let len = self.length;
+        let p = padding(len);
+        let n = padding_len(len);
         let c = self.update(&p[..n]);
         let H = c.H;
-        concatenated(H)
+        let hash = concatenated(H);
+        *out = hash;
+        compressions(len as usize)
     }
 }

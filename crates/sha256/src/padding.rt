@@ -1,11 +1,8 @@
-// The end of a message: its padding (FIPS 180-4, 5.1.1), the last one or two blocks, and the digest's bytes.
-use crate::compress::compress;
+// The end of a message: its padding (FIPS 180-4, 5.1.1), the blocks that it takes with it, and the digest's bytes.
 ghost use mathlib.Core.Path.{_≡_};
-ghost use mathlib.Core.List.{List};
-ghost use Prim.Native.Nat.{ℕ, _*_, _<_};
+ghost use Prim.Native.Nat.{_*_};
 ghost use lib.ListN.{length, take};
 ghost use Rattle.sha256.specs.Sha256 as spec;
-ghost use Rattle.sha256.specs.Context.{Pending};
 
 // The digest's bytes: the eight words of the last hash value, one after the other (6.2.2).
 pub fn concatenated(H: [u32; 8]) -> [u8; 32]
@@ -17,28 +14,6 @@ pub fn concatenated(H: [u32; 8]) -> [u8; 32]
         octets::copy(&mut out, 4 * i, &b);
     }
     out
-}
-
-// The digest of a message of `total` bytes, modulo 2^64, from the hash value after its whole blocks and the bytes after them.
-// Only `digest` calls it, so that the compiler inlines it there: a second caller would cost stack and code.
-pub fn last(before: [u32; 8], rest: &[u8], total: u64) -> [u8; 32]
-    requires { ⌜ length (now rest) < 64 ⌝ }
-    ensures { λ r. ⌜ ((m : List ℕ) → Pending before (now (rest .entry)) total m → r ≡ spec.digest m) ⌝ }
-{
-    let used = rest.len();
-    let mut H = before;
-    let mut b = [0u8; 64];
-    octets::copy(&mut b, 0, rest);
-    // The bit 1 and seven zero bits; the other zero bits stand in b already.
-    b[used] = 0x80;
-    if 56 <= used {
-        compress(&mut H, &b);
-        b = [0u8; 64];
-    }
-    let bits = octets::be64(total << 3);
-    octets::copy(&mut b, 56, &bits);
-    compress(&mut H, &b);
-    concatenated(H)
 }
 
 // The bytes of the padding of a message of `len` bytes, modulo 2^64: to the end of a block, with room for the length in it.
@@ -58,4 +33,11 @@ pub fn padding(len: u64) -> [u8; 72]
     let bits = octets::be64(len << 3);
     octets::copy(&mut p, padding_len(len) - 8, &bits);
     p
+}
+
+// The compressions that a message of `len` bytes takes: its length plus 9, over 64, rounded up. The sum is of its last block alone, so that it fits for every length.
+pub fn compressions(len: usize) -> usize
+    ensures { λ r. ⌜ r ≡ spec.compressionsFor len ⌝ }
+{
+    len / 64 + (len % 64 + 72) / 64
 }

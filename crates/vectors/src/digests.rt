@@ -47,7 +47,8 @@ fn prefix(name: &[u8], n: usize)
 // A line: name, digest in one call, and how many of the cuts into two pieces give the same.
 fn show(name: &[u8], message: &[u8]) {
     io::write_all(STDOUT_FILENO, name);
-    let whole = sha256::digest(message);
+    let mut whole = [0u8; 32];
+    sha256::digest(message, &mut whole);
     hex(whole);
     io::write_all(STDOUT_FILENO, b" same in two pieces: ");
     io::print_decimal(STDOUT_FILENO, cuts(message, whole));
@@ -69,17 +70,20 @@ fn cut(message: &[u8], at: usize, whole: [u8; 32]) -> u64
     requires { ⌜ at ≤ length (now message) ⌝ }
     ensures { λ r. ⌜ r ≤ 1 ⌝ }
 {
-    let pieces = sha256::Context::new()
+    let mut pieces = [0u8; 32];
+    sha256::Context::new()
         .update(&message[..at])
         .update(&message[at..])
-        .finish();
+        .finish(&mut pieces);
     if octets::equal(&pieces, &whole) { 1 } else { 0 }
 }
 
 // One million 'a', in one call and in pieces of 1,000.
 fn million() {
     io::write_all(STDOUT_FILENO, b"a million a");
-    hex(sha256::digest(&[b'a'; 1000000]));
+    let mut digest = [0u8; 32];
+    sha256::digest(&[b'a'; 1000000], &mut digest);
+    hex(digest);
     let piece = [b'a'; 1000];
     let mut context = sha256::Context::new();
     let mut i: u32 = 0;
@@ -89,7 +93,8 @@ fn million() {
         i += 1;
     }
     io::write_all(STDOUT_FILENO, b"\na thousand times a thousand");
-    hex(context.finish());
+    context.finish(&mut digest);
+    hex(digest);
     io::write_all(STDOUT_FILENO, b"\n");
 }
 

@@ -52,9 +52,9 @@ finish-requires c κs = search needs
 
 returns : tie.Need-returns Inv-loop μ-loop
 returns c =
-    let l = c .before .before .loop in
-    let m = c .before .before .before .before .before .args .message .now in
-    c .finish .ensures _ (l .inv .1) ∙ ap digest (take-all (l .from) m (omega arith))
+    let l = c .before .before .before .loop in
+    let m = c .before .before .before .before .before .before .args .message .now in
+    c .finish .ensures _ (l .inv .1) .0 ∙ ap digest (take-all (l .from) m (omega arith))
 
 pub bench-pieces-spec : {M : Type 1} → statement M
 bench-pieces-spec =

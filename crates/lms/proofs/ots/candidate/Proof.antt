@@ -149,13 +149,13 @@ finish-requires c κs = search needs
 returns : tie.Need-returns Inv-loop μ-loop
 unfolding Kc
 returns c =
-    let k = c .before .before .before in
+    let k = c .before .before .before .before in
     let l = k .loop in
     let h = k .before .before .before .before .before .before in
     let m = h .before .before in
     let a = m .before .before .before .before .before .args in
-    let e : l .i ≡ a .t .p = omega (arith, l .inv .0, c .before .if1 .left) in
-    c .finish .ensures _ (l .inv .1)
+    let e : l .i ≡ a .t .p = omega (arith, l .inv .0, c .before .before .if1 .left) in
+    c .finish .ensures _ (l .inv .1) .0
     ∙ ap₂ (λ (S : List ℕ) (i : ℕ). H (a .id .now ++ u32str (a .q) ++ u16str D-PBLC ++ zs (a .id .now) (a .q) (a .t .w) S (part 36 (32 * a .t .p) (a .signature .now)) i))
     (h .checked .ensures ∙ ap (checked (row (a .t))) (m .message-hash .ensures)) e
 

@@ -31,12 +31,12 @@ finish-requires c κs = search needs
 returns : tie.Need-returns
 unfolding messageHash
 returns c =
-    let w = c .before in
+    let w = c .before .before in
     let v = w .before in
     let u = v .before in
     let n = u .before .before in
     let a = n .before .before .before .before .before .args in
-    c .finish .ensures _ (w .update3 .ensures _ (v .update2 .ensures _ (u .update .ensures _ (n .new .ensures))))
+    c .finish .ensures _ (w .update3 .ensures _ (v .update2 .ensures _ (u .update .ensures _ (n .new .ensures)))) .0
     ∙ ap (λ (s : List ℕ). H (s ++ a .c .now ++ a .message .now)) (n .before .start .ensures)
 
 pub message-hash-spec : {M : Type 1} → statement M

@@ -28,21 +28,29 @@ slice-aggregate-copy-3 c = search needs
 copy-requires-2 : tie.Need-copy-requires-2
 copy-requires-2 c κs = search needs
 
-slice-aggregate-digest : tie.Need-slice-aggregate-digest
-slice-aggregate-digest c = search needs
+new-requires : tie.Need-new-requires
+new-requires c κs = search needs
 
-digest-requires : tie.Need-digest-requires
-digest-requires c κs = search needs
+slice-aggregate-update : tie.Need-slice-aggregate-update
+slice-aggregate-update c = search needs
+
+update-requires : tie.Need-update-requires
+update-requires c κs = search needs
+
+finish-requires : tie.Need-finish-requires
+finish-requires c κs = search needs
 
 returns : tie.Need-returns
 unfolding leafHash
 returns c =
-    let k = c .before .before .before in
+    let u = c .before .before in
+    let n = u .before .before in
+    let k = n .before .before in
     let l = k .before .before .before in
     let s = l .before .before .before in
     let a = s .before .before .before in
     let e : length (s .start .result) ≡ 22 = search needs in
-    c .digest .ensures
+    c .finish .ensures _ (u .update .ensures _ (n .new .ensures)) .0
     ∙ ap H (whole (more (more (begun refl) refl (s .start .result) (omega arith) (l .copy .ensures)) e (a .args .key .now) (omega arith) (k .copy2 .ensures))
     (length-append (s .start .result) (a .args .key .now) ∙ omega arith))
     ∙ ap (λ (x : List ℕ). H (x ++ a .args .key .now)) (s .start .ensures)
@@ -57,6 +65,8 @@ leaf-spec =
     copy-requires
     slice-aggregate-copy-3
     copy-requires-2
-    slice-aggregate-digest
-    digest-requires
+    new-requires
+    slice-aggregate-update
+    update-requires
+    finish-requires
     returns)

@@ -69,14 +69,23 @@ slice-aggregate-copy-6 c = search needs
 copy-requires-5 : tie.Need-copy-requires-5
 copy-requires-5 c κs = search needs
 
-slice-aggregate-digest : tie.Need-slice-aggregate-digest
-slice-aggregate-digest c = sym (full (c .before))
+new-requires : tie.Need-new-requires
+new-requires c κs = search needs
 
-digest-requires : tie.Need-digest-requires
-digest-requires c κs = search needs
+slice-aggregate-update : tie.Need-slice-aggregate-update
+slice-aggregate-update c = sym (full (c .before .before))
+
+update-requires : tie.Need-update-requires
+update-requires c κs = search needs
+
+finish-requires : tie.Need-finish-requires
+finish-requires c κs = search needs
 
 returns : tie.Need-returns
-returns c = c .digest .ensures ∙ hashed (c .before .before)
+returns c =
+    let u = c .before .before in
+    let n = u .before .before in
+    c .finish .ensures _ (u .update .ensures _ (n .new .ensures)) .0 ∙ hashed (n .before)
 
 pub parent-spec : {M : Type 1} → statement M
 parent-spec =
@@ -94,6 +103,8 @@ parent-spec =
     copy-requires-4
     slice-aggregate-copy-6
     copy-requires-5
-    slice-aggregate-digest
-    digest-requires
+    new-requires
+    slice-aggregate-update
+    update-requires
+    finish-requires
     returns)

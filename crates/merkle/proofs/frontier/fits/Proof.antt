@@ -1,7 +1,16 @@
--- `merkle::frontier::fits` meets its contract.
+-- `merkle::frontier::fits` meets its contract: every sibling of the climb stands on the right.
+use mathlib.Core.Path.{_≡_, sym, ap, _∙_}
+use Prim.Native.Nat.{suc, _+_, _*_, _/_}
+use native.Mathlib.Omega.{arith}
+use lib.ListN.{length}
 use borrow.Author.Needs.{needs}
-use Rattle.sha256.specs.Sha256.{digest}
-use Rattle.merkle.specs.Hash.{plain}
+use Rattle.sha256.specs.Sha256.{digest, compressions}
+use Rattle.merkle.specs.Limits.{hashLength}
+use Rattle.merkle.specs.Hash.{plain, leafInput, leafHash, climbFrom, climb}
+use Rattle.merkle.specs.Frontier.{carriedCount}
+use Rattle.merkle.specs.Held.{hashesIn}
+use Rattle.merkle.specs.Cost.{climbFromCost, climbCost, fitsCost}
+use Rattle.merkle.proofs.CostLaws.{rights, rights-none, rights-length, rights-fit}
 use Rattle.merkle.proofs.HeldLaws.{fits-is}
 use Rattle.merkle.proofs.frontier.fits.Statement.{statement}
 use Rattle.merkle.proofs.frontier.fits.Tie as tie
@@ -25,18 +34,30 @@ part-equal-end : tie.Need-part-equal-end
 part-equal-end c = search needs
 
 slice-aggregate-equal : tie.Need-slice-aggregate-equal
-slice-aggregate-equal c = search needs
+slice-aggregate-equal c = sym (c .before .before .climb .ensures .0)
 
 equal-requires : tie.Need-equal-requires
 equal-requires c κs = search needs
 
 returns : tie.Need-returns
+unfolding climb fitsCost climbCost
 returns c =
     let climbed = c .before .before .before in
-    let found = climbed .before in
+    let found = climbed .before .before in
     let s = found .before .before .before .before in
-    fits-is (plain digest) (s .args .n) (s .args .before) (found .next-at .result) (s .args .hashes .now) (s .args .block .now) (s .args .siblings .now)
-    (climbed .climb .result) _ (found .next-at .ensures .0) (s .pre .3) (climbed .climb .ensures) (c .equal .ensures)
+    let a = s .args in
+    let H = plain digest in
+    let k = carriedCount (a .n) (a .before + 1) in
+    let m = a .siblings .now in
+    let x = leafHash H (a .block .now) in
+    let z : a .before + 1 ≡ suc (a .before) = omega arith in
+    let many : length m / hashLength ≡ k = omega (arith, s .pre .3) in
+    let e = climbed .climb .ensures .1 (rights k) (sym (rights-none k)) (s .pre .3 ∙ ap (λ j. hashLength * j) (sym (rights-length k))) in
+    let r = rights-fit H x k m in (
+      fits-is H (a .n) (a .before) (found .next-at .result) (a .hashes .now) (a .block .now) m
+          _ _ (found .next-at .ensures .0) (s .pre .3) (e .0 ∙ r .0 ∙ ap (λ j. climbFrom H x (hashesIn j m)) (sym many)) (c .equal .ensures),
+      e .1 ∙ ap (λ j. compressions (leafInput H (a .block .now)) + j) (r .1 ∙ ap (λ j. climbFromCost H x (hashesIn (carriedCount (a .n) j) m)) z),
+    )
 
 pub fits-spec : {M : Type 1} → statement M
 fits-spec =

@@ -60,6 +60,7 @@ put-subtree-requires c κs =
       omega (arith, l .inv .high, s .pre .1),
       left-fits (s .args .len) _ (s .args .n) (l .first + x .split .result + (l .m - x .split .result) - 1) (omega (arith, l .inv .high)) (s .pre .2),
       left-room (l .inv) (x .split .ensures) (omega arith) (omega arith) .1,
+      s .pre .4,
     )
 
 loop-less : tie.Need-loop-less Inv-loop μ-loop
@@ -82,6 +83,7 @@ put-subtree-requires-2 c κs =
       omega (arith, l .inv .high, s .pre .1),
       left-fits (s .args .len) _ (s .args .n) (l .first + x .split .result - 1) (omega (arith, l .inv .high)) (s .pre .2),
       right-room (l .inv) (x .split .ensures) (omega arith) (omega arith) .1,
+      s .pre .4,
     )
 
 add-first : tie.Need-add-first Inv-loop μ-loop

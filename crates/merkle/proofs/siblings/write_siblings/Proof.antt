@@ -74,6 +74,7 @@ put-subtree-requires c κs =
       omega (arith, l .inv .high, s .pre .1),
       left-fits (s .args .len) _ (s .args .n) (s .args .before + x .split .result + (l .m - x .split .result) - 1) (omega (arith, l .inv .high)) (s .pre .2),
       writing-room (l .inv) (x .split .ensures) (omega arith) .1,
+      s .pre .4,
     )
 
 loop-less : tie.Need-loop-less Inv-loop μ-loop

@@ -1,10 +1,11 @@
 -- `merkle::tree::pair` meets its contract.
-use mathlib.Core.Path.{ap, _∙_}
+use mathlib.Core.Path.{_≡_, _∙_}
+use mathlib.Core.List.{_++_}
 use Prim.Native.Nat.{_+_}
 use lib.ListN.{drop}
 use lib.Seq.{take-add, drop-drop}
 use borrow.Author.Needs.{needs}
-use Rattle.sha256.specs.Sha256.{digest}
+use Rattle.octets.specs.Octets.{part}
 use Rattle.octets.proofs.CopyLaws.{part-between}
 use Rattle.merkle.specs.Limits.{hashLength}
 use Rattle.merkle.proofs.tree.pair.Statement.{statement}
@@ -16,26 +17,27 @@ mul-end c = search needs
 add-end : tie.Need-add-end
 add-end c = search needs
 
-sub-digest : tie.Need-sub-digest
-sub-digest c = search needs
+sub-node-hash : tie.Need-sub-node-hash
+sub-node-hash c = search needs
 
-part-digest-start : tie.Need-part-digest-start
-part-digest-start c = search needs
+part-node-hash-start : tie.Need-part-node-hash-start
+part-node-hash-start c = search needs
 
-part-digest-end : tie.Need-part-digest-end
-part-digest-end c = search needs
+part-node-hash-end : tie.Need-part-node-hash-end
+part-node-hash-end c = search needs
 
-digest-requires : tie.Need-digest-requires
-digest-requires c κs = search needs
+node-hash-requires : tie.Need-node-hash-requires
+node-hash-requires c κs = search needs
 
 returns : tie.Need-returns
 returns c =
-    let a = c .before .before .before .args in
+    let a = c .before .before .before .before .args in
     let s = a .hashes .now in
-    c .digest .ensures
-    ∙ ap digest (part-between s (a .at) (hashLength + hashLength) ∙ take-add hashLength hashLength (drop (a .at) s) ∙ rw (drop-drop hashLength (a .at) s))
+    let two : part (a .at) (hashLength + hashLength) s ≡ part (a .at) hashLength s ++ part (a .at + hashLength) hashLength s =
+    take-add hashLength hashLength (drop (a .at) s) ∙ rw (drop-drop hashLength (a .at) s) in
+    rw (part-between s (a .at) (hashLength + hashLength) ∙ two) at (c .node-hash .ensures)
 
 pub pair-spec : {M : Type 1} → statement M
 pair-spec =
     tie.close
-    (tie.spec mul-end add-end sub-digest part-digest-start part-digest-end digest-requires returns)
+    (tie.spec mul-end add-end sub-node-hash part-node-hash-start part-node-hash-end node-hash-requires returns)

@@ -12,7 +12,7 @@ subtree-hash-requires c κs = search needs
 
 returns : tie.Need-returns
 returns c =
-    let a = c .before .before .args in c .subtree-hash .ensures (a .bytes .now) 0 (omega arith) (ap (λ x. drop x (a .bytes .now)) (zero-mul (a .len)))
+    let a = c .before .before .before .args in c .subtree-hash .ensures (a .bytes .now) 0 (omega arith) (ap (λ x. drop x (a .bytes .now)) (zero-mul (a .len)))
 
 pub root-spec : {M : Type 1} → statement M
 root-spec = tie.close (tie.spec subtree-hash-requires returns)

@@ -1,3 +1,4 @@
+use mathlib.Core.Path.{refl}
 use native.Mathlib.Omega.{arith}
 use lib.ListN.{length}
 use Rattle.merkle.specs.Blocks.{blockCount}
@@ -16,21 +17,21 @@ block-count-requires c κs = let z = sized _ _ (c .before .pre) in (omega (arith
 
 root-requires : tie.Need-root-requires
 root-requires c κs =
-    let z = size c in
-    let a = c .before .before .args in
+    let z = size (c .before) in
+    let a = c .before .before .before .args in
     let n = blockCount (a .len) (length (a .image .now)) in
-    let e = c .block-count .ensures in
-    (omega (arith, z .first), omega (arith, z .count), left-fits (a .len) _ n _ (omega (arith, z .first)) (omega (arith, z .below)))
-
-cast-t9 : tie.Need-cast-t9
-cast-t9 c = omega (arith, size (c .before) .most)
+    let e = c .before .block-count .ensures in
+    (omega (arith, z .first), omega (arith, z .count), left-fits (a .len) _ n _ (omega (arith, z .first)) (omega (arith, z .below)), z .most, refl)
 
 cast-t10 : tie.Need-cast-t10
-cast-t10 c = omega (arith, size (c .before) .total)
+cast-t10 c = omega (arith, size (c .before .before) .most)
+
+cast-t11 : tie.Need-cast-t11
+cast-t11 c = omega (arith, size (c .before .before) .total)
 
 returns : tie.Need-returns
 unfolding manifestFor rootOf blocks count
-returns c = cc (c .root .ensures, c .before .block-count .ensures)
+returns c = cc (c .root2 .ensures .0, c .before .before .block-count .ensures)
 
 pub manifest-for-spec : {M : Type 1} → statement M
 manifest-for-spec =
@@ -38,6 +39,6 @@ manifest-for-spec =
     (tie.spec
     block-count-requires
     root-requires
-    cast-t9
     cast-t10
+    cast-t11
     returns)

@@ -83,7 +83,7 @@ sub-write-siblings-2 : tie.Need-sub-write-siblings-2
 sub-write-siblings-2 c = omega (arith, passed (c .before .before .before .before .before .before .before .before) .low)
 
 write-siblings-requires : tie.Need-write-siblings-requires
-write-siblings-requires c κs = let t = passed (c .before .before .before .before .before .before .before .before) in (omega (arith, t .low, t .high), t .few, t .held, simp (length-take, length-drop) (omega (arith, placed (c .before .before .before))))
+write-siblings-requires c κs = let t = passed (c .before .before .before .before .before .before .before .before) in (omega (arith, t .low, t .high), t .few, t .held, simp (length-take, length-drop) (omega (arith, placed (c .before .before .before))), t .sized .most)
 
 returns-2 : tie.Need-returns-2
 unfolding sendBlock

@@ -147,7 +147,7 @@ sub-write-path-2 : tie.Need-sub-write-path-2
 sub-write-path-2 c = omega (arith, passed (c .before .before .before .before .before .before .before .before .before .before .before .before) .low)
 
 write-path-requires : tie.Need-write-path-requires
-write-path-requires c κs = let t = passed (c .before .before .before .before .before .before .before .before .before .before .before .before) in (omega (arith, t .low, t .high), t .few, t .held, simp (length-take, length-drop) (omega (arith, placed (c .before))))
+write-path-requires c κs = let t = passed (c .before .before .before .before .before .before .before .before .before .before .before .before) in (omega (arith, t .low, t .high), t .few, t .held, simp (length-take, length-drop) (omega (arith, placed (c .before))), t .sized .most)
 
 copy-requires : tie.Need-copy-requires
 copy-requires c κs = let p = c .before .before .before .before in omega (arith, room (p .before .before .before .before .before), length-put (joined (c .before)) (ends p .1))

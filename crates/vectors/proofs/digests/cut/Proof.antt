@@ -1,5 +1,7 @@
+use mathlib.Core.Path.{sym, ap, _∙_}
 use native.Mathlib.Omega.{arith}
-use lib.ListN.{length-take}
+use lib.ListN.{length, length-take}
+use Rattle.sha256.proofs.DigestLaws.{length-digest}
 use borrow.Author.Needs.{needs}
 use Rattle.vectors.proofs.digests.cut.Statement.{statement}
 use Rattle.vectors.proofs.digests.cut.Tie as tie
@@ -29,7 +31,10 @@ finish-requires : tie.Need-finish-requires
 finish-requires c κs = search needs
 
 slice-aggregate-equal : tie.Need-slice-aggregate-equal
-slice-aggregate-equal c = search needs
+slice-aggregate-equal c =
+    let second = c .before .before .before in
+    let first = second .before .before in
+    sym (ap length (c .before .finish .ensures _ (second .update2 .ensures _ (first .update .ensures _ (first .before .before .new .ensures))) .0) ∙ length-digest _)
 
 slice-aggregate-equal-2 : tie.Need-slice-aggregate-equal-2
 slice-aggregate-equal-2 c = search needs

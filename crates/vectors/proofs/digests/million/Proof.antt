@@ -6,10 +6,10 @@ use Rattle.vectors.proofs.digests.million.Statement.{statement}
 use Rattle.vectors.proofs.digests.million.Tie as tie
 
 abbrev Inv-loop : tie.InvT-loop
-Inv-loop piece context₀ i₀ t7 t8 context i = i ≤ 1000
+Inv-loop digest piece context₀ i₀ t8 t9 context i = i ≤ 1000
 
 abbrev μ-loop : tie.MeasureT-loop
-μ-loop piece context₀ i₀ t7 t8 context i = 1000 - i
+μ-loop digest piece context₀ i₀ t8 t9 context i = 1000 - i
 
 slice-aggregate-write-all : tie.Need-slice-aggregate-write-all Inv-loop μ-loop
 slice-aggregate-write-all c = search needs

@@ -1,8 +1,9 @@
-use mathlib.Core.Path.{_∙_}
+use mathlib.Core.Path.{sym, ap, _∙_}
+use Prim.Native.Nat.{_+_, _/_}
 use native.Mathlib.Omega.{arith}
 use lib.ListN.{length-take}
 use Rattle.sha256.proofs.HashLaws.{finished}
-use Rattle.sha256.proofs.PaddingLaws.{length-padding, padding-mod}
+use Rattle.sha256.proofs.PaddingLaws.{length-padding, padding-mod, compressions-is}
 use borrow.Author.Needs.{needs}
 use Rattle.sha256.proofs.context.Context.finish.Statement.{statement}
 use Rattle.sha256.proofs.context.Context.finish.Tie as tie
@@ -25,12 +26,19 @@ update-requires c κs = search needs
 concatenated-requires : tie.Need-concatenated-requires
 concatenated-requires c κs = search needs
 
+compressions-requires : tie.Need-compressions-requires
+compressions-requires c κs = search needs
+
 returns : tie.Need-returns
 returns c =
-    let u = c .before .before in
+    let d = c .before in
+    let u = d .before .before in
     let n = u .before .before in
     let e = rw (← n .padding-len .ensures) at (n .before .padding .ensures) in
-    λ m p. c .concatenated .ensures ∙ finished m _ (e ∙ padding-mod _ _ (p .counted)) (u .update .ensures m p)
+    λ m p. (
+      d .concatenated .ensures ∙ finished m _ (e ∙ padding-mod _ _ (p .counted)) (u .update .ensures m p),
+      λ h. c .compressions .ensures ∙ ap (λ k. (k + 9 + 63) / 64) (omega (arith, p .counted)) ∙ sym (compressions-is m),
+    )
 
 pub finish-spec : {M : Type 1} → statement M
 finish-spec =
@@ -42,4 +50,5 @@ finish-spec =
     slice-aggregate-update
     update-requires
     concatenated-requires
+    compressions-requires
     returns)
