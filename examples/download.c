@@ -1,5 +1,6 @@
 /* A download and an update, both sides in one program: the sender has its program from a text, makes a bundle of all messages, and the device takes it block
- * by block, then a new last one. Before the last block of the download somebody swaps the board (19), and after it a byte changes: the boot check tells.
+ * by block, each with a budget of SHA-256 compressions, then a new last one. Before the last block of the download somebody swaps the board (19), and after it
+ * a byte changes: the boot check tells.
  *
  *     rt staticlib capi
  *     gcc -Wall -Wextra -Werror -Iinclude -o target/download examples/download.c target/staticlib/libcapi.a
@@ -48,10 +49,10 @@ static void read_text(void) {
 
 static void sign(void) {
     uint8_t manifest[LERTXUNO_MANIFEST_LENGTH], hash[LERTXUNO_HASH_LENGTH];
-    size_t length;
+    size_t length, count;
     expect("sender, manifest", lertxuno_manifest(image, sizeof image, BLOCK_LENGTH, MODEL, SERIAL, manifest, sizeof manifest, &length), LERTXUNO_ACCEPTED);
-    lertxuno_digest(manifest, length, hash);
-    printf("%-24s %02x%02x..\n", "SHA-256 of the manifest", hash[0], hash[1]);
+    count = lertxuno_digest(manifest, length, hash);
+    printf("%-24s %02x%02x.., compressions: %u\n", "SHA-256 of the manifest", hash[0], hash[1], (unsigned)count);
     expect("signature", lertxuno_verify(sample_key, sizeof sample_key, manifest, length, sample_signature, sizeof sample_signature), LERTXUNO_ACCEPTED);
 }
 
@@ -73,9 +74,21 @@ static void make_bundle(void) {
 
 /* The device's side. */
 
-static uint32_t take(const uint8_t *message, size_t length) { return lertxuno_receive(state, sizeof state, flash, IMAGE_LENGTH, message, length); }
+/* What the last accepted message reported: compressions for a block, 0 for another kind. */
+static uint32_t compressions;
 
-static uint32_t receive(uint32_t i) { return take(bundle + starts[i], starts[i + 1] - starts[i]); }
+static uint32_t take(const uint8_t *message, size_t length, uint32_t budget) {
+    return lertxuno_receive(state, sizeof state, flash, IMAGE_LENGTH, message, length, budget, &compressions);
+}
+
+static uint32_t receive(uint32_t i, uint32_t budget) { return take(bundle + starts[i], starts[i + 1] - starts[i], budget); }
+
+/* What the next block costs: the least budget that it is taken with. A drive that wakes for fewer compressions would wait for a longer wake-up. */
+static uint32_t budget_due(void) {
+    uint32_t cost;
+    expect("device, cost due", lertxuno_block_cost(state, sizeof state, &cost), LERTXUNO_ACCEPTED);
+    return cost;
+}
 
 /* Where the device is: what it would tell the sender. */
 static void report(uint32_t stage, uint32_t next) {
@@ -93,12 +106,17 @@ static void take_block(uint32_t i) {
     expect("device, length due", lertxuno_block_message_length(state, sizeof state, &due), LERTXUNO_ACCEPTED);
     if (due != starts[i + 1] - starts[i])
         exit(1);
+    uint32_t budget = budget_due();
     uint8_t *first = bundle + starts[i] + LERTXUNO_BLOCK_HEAD;
     *first ^= 1;
-    expect("device, damaged block", receive(i), LERTXUNO_MISMATCH);
+    expect("device, damaged block", receive(i, budget), LERTXUNO_MISMATCH);
     *first ^= 1;
-    expect("device, block", receive(i), LERTXUNO_ACCEPTED);
-    expect("device, the same again", receive(i), (uint32_t)(i + 1 < BLOCKS ? LERTXUNO_TURN : LERTXUNO_STAGE));
+    expect("device, too little", receive(i, budget - 1), LERTXUNO_SPENT);
+    expect("device, block", receive(i, budget), LERTXUNO_ACCEPTED);
+    printf("compressions: %u\n", (unsigned)compressions);
+    if (compressions != budget)
+        exit(1);
+    expect("device, the same again", receive(i, budget), (uint32_t)(i + 1 < BLOCKS ? LERTXUNO_TURN : LERTXUNO_STAGE));
 }
 
 /* What firmware asks at each start, before it runs the program. */
@@ -110,7 +128,7 @@ static void swap_board(void) {
     uint8_t board[IMAGE_LENGTH];
     memcpy(board, flash, sizeof board);
     memset(flash, 0xFF, sizeof board);
-    expect("device, another board", receive(BLOCKS - 1), LERTXUNO_ALTERED);
+    expect("device, another board", receive(BLOCKS - 1, budget_due()), LERTXUNO_ALTERED);
     memcpy(flash, board, sizeof board);
 }
 
@@ -123,18 +141,18 @@ static void touch_board(void) {
     expect("device, and put back", boot_check(), LERTXUNO_ACCEPTED);
 }
 
-/* The image's last byte changes, and so its last block. Its answer depends on that block of the flash and no other. */
+/* The image's last byte changes, and so its last block. Its answer depends on that block of the flash and no other. Only blocks look at their budget. */
 static void update(void) {
     uint8_t message[LERTXUNO_MAX_PATH_UPDATE_LENGTH];
     size_t length;
     image[IMAGE_LENGTH - 1] ^= 1;
     expect("sender, path update", lertxuno_path_update(image, sizeof image, BLOCK_LENGTH, MODEL, SERIAL + 1, BLOCKS, sample_update_signature,
                                                        sizeof sample_update_signature, message, sizeof message, &length), LERTXUNO_ACCEPTED);
-    expect("device, path update", take(message, length), LERTXUNO_ACCEPTED);
+    expect("device, path update", take(message, length, 0), LERTXUNO_ACCEPTED);
     /* The same as kind 3, for which a device reads its whole flash, twice. This one has that serial already, and does not come so far. */
     expect("sender, update", lertxuno_update(image, sizeof image, BLOCK_LENGTH, MODEL, SERIAL + 1, BLOCKS, sample_update_signature,
                                              sizeof sample_update_signature, message, sizeof message, &length), LERTXUNO_ACCEPTED);
-    expect("device, the same again", take(message, length), LERTXUNO_SERIAL);
+    expect("device, the same again", take(message, length, 0), LERTXUNO_SERIAL);
 }
 
 int main(void) {
@@ -144,7 +162,7 @@ int main(void) {
     make_bundle();
     lertxuno_fresh(MODEL, sample_key, state);
     report(LERTXUNO_IDLE, 0);
-    expect("device, program", receive(BLOCKS), LERTXUNO_ACCEPTED);
+    expect("device, program", receive(BLOCKS, 0), LERTXUNO_ACCEPTED);
     expect("device, boot check", boot_check(), LERTXUNO_STAGE);
     for (uint32_t i = 0; i < BLOCKS; i++) {
         if (i + 1 == BLOCKS)

@@ -1,19 +1,20 @@
 /* Lertxuno: updates for motor drives. Sender, Intel HEX reader, device, signature verdict and SHA-256 for C.
  *
  * Every function ends, for all inputs. Those that return a number give 0, or the number of the first refusal that applies (enum lertxuno_refusal); after a
- * refusal whatever the function could have written is as it was, but for lertxuno_ihex's *line. lertxuno_digest and lertxuno_fresh refuse nothing and return
- * nothing. Nothing is allocated, kept between calls, read or written but through the arguments, so calls on different memory may run at the same time.
+ * refusal whatever the function could have written is as it was, but for lertxuno_ihex's *line. lertxuno_digest and lertxuno_fresh refuse nothing: the one
+ * returns what it took, the other nothing. Nothing is allocated, kept between calls, read or written but through the arguments, so calls on different memory
+ * may run at the same time.
  *
  * The caller's part: a pointer is not null, unless a length of 0 goes with it; it has as many bytes as its length, or its array type, says; and memory that a
- * function writes (out, written, line, length, state, flash) overlaps no other argument. What firmware must do around the calls is in docs/INTEGRATION.md.
+ * function writes (out, written, line, length, compressions, state, flash) overlaps no other argument. What firmware must do around the calls is in
+ * docs/INTEGRATION.md.
  *
  * The library is for x86-64 Linux. Stack of a call there, at most about: 3.6 KB for lertxuno_receive, lertxuno_boot_check and the sender's functions,
  * 4.5 KB for lertxuno_ihex, 2 KB for lertxuno_verify, 1 KB for lertxuno_digest, 100 bytes for the others. The time of lertxuno_ihex grows with its text,
- * which it reads twice. Otherwise time goes into SHA-256 compressions, one for each 64 bytes hashed: a signature's verdict takes about
- * 4,400 (signature type 4, height 5) or 600 (type 3, height 10), at the device a block takes those of its bytes and two for each hash that it carries, the
- * last one those of the whole image besides, a path update those of two blocks and four for each hash, an update those of the whole image twice; the boot
- * check (lertxuno_boot_check) and the sender's functions take those of the whole image, lertxuno_path_update twice as many, and lertxuno_block those of the
- * part that its hashes stand for. Measured time: docs/MEASURED.md; stack and code of each function: docs/INTEGRATION.md.
+ * which it reads twice. Otherwise time goes into SHA-256 compressions, each over 64 bytes ('What a block costs', below): a signature's verdict takes, on
+ * average, about 4,480 (signature type 4, height 5) or 560 (type 3, height 10); it depends on what is signed. The sender's functions take those of the tree
+ * over the whole image, lertxuno_path_update about twice as many, and lertxuno_block those of the part that its hashes stand for. Measured time:
+ * docs/MEASURED.md; stack and code of each function: docs/INTEGRATION.md.
  *
  * Words: a program is an image, cut into blocks, and its manifest, which is signed. Numbers are big-endian.
  */
@@ -38,7 +39,7 @@ enum lertxuno_refusal {
     LERTXUNO_SERIAL = 7,    /* the manifest's serial is not above the device's */
     LERTXUNO_AREA = 8,      /* flash or output buffer too short */
     LERTXUNO_UNSIGNED = 9,  /* the signature is not valid */
-    LERTXUNO_STAGE = 10,    /* a block or its length and not loading; an update of either kind or the boot check and not complete */
+    LERTXUNO_STAGE = 10,    /* a block, its length or its cost and not loading; an update of either kind or the boot check and not complete */
     LERTXUNO_TURN = 11,     /* not the next block; for updates and sender: no block of the image */
     LERTXUNO_LENGTH = 12,   /* block: not the length due; update: shorter than its block and hashes need. A longer update is one with a longer signature: 9 */
     LERTXUNO_UNLIKE = 13,   /* the update's block length or image length differs from the complete one's */
@@ -47,7 +48,8 @@ enum lertxuno_refusal {
     LERTXUNO_TEXT = 16,     /* Intel HEX: a broken line, or no end record */
     LERTXUNO_PLACE = 17,    /* Intel HEX: a byte outside the image */
     LERTXUNO_TWICE = 18,    /* Intel HEX: a byte named a second time */
-    LERTXUNO_ALTERED = 19   /* update of kind 3, last block (with it in place), boot check: the tree over the flash lacks the current root */
+    LERTXUNO_ALTERED = 19,  /* update of kind 3, last block (with it in place), boot check: the tree over the flash lacks the current root */
+    LERTXUNO_SPENT = 20     /* block: it costs more compressions than the budget has */
 };
 
 /* An answer's word, for logs: "accepted" for 0, and "unknown" for a number that no function returns. */
@@ -73,12 +75,13 @@ static inline const char *lertxuno_refusal_word(uint32_t answer) {
     case LERTXUNO_PLACE: return "place";
     case LERTXUNO_TWICE: return "twice";
     case LERTXUNO_ALTERED: return "altered";
+    case LERTXUNO_SPENT: return "spent";
     default: return "unknown";
     }
 }
 
-/* Order of the device's refusals, the first that applies: always 1, 2, 3; then new program 4, 5, 6, 7, 8, 9; block 10, 8, 11, 12, 14, and the last block
- * then 19; update 10, 4, 5, 6, 7, 13, 8, 19, 11, 12, 9, 14; path update 10, 4, 5, 6, 7, 13, 8, 11, 12, 9, 15, 14. The boot check's: 1, 10, 8, 19. The
+/* Order of the device's refusals, the first that applies: always 1, 2, 3; then new program 4, 5, 6, 7, 8, 9; block 10, 8, 11, 12, 20, 14, and the last
+ * block then 19; update 10, 4, 5, 6, 7, 13, 8, 19, 11, 12, 9, 14; path update 10, 4, 5, 6, 7, 13, 8, 11, 12, 9, 15, 14. The boot check's: 1, 10, 8, 19. The
  * sender's: 5, 11, 8. The Intel HEX reader's: 5, 8, then line by line 16, 17, 18. */
 
 /* Sizes. A block has 64, 128, 256, 512 or 1,024 bytes, but for an image's last one, which ends with the image. The flash must have as many bytes as the
@@ -94,6 +97,7 @@ enum {
     LERTXUNO_MAX_BLOCKS = 1536,
     LERTXUNO_MAX_BLOCK_LENGTH = 1024,
     LERTXUNO_MAX_HASHES = 11,   /* the most that a message carries, and the most that a device holds */
+    LERTXUNO_MAX_BLOCK_COST = 29199, /* the most that a block message costs: the last of 1,536 blocks of 1,024 bytes; a budget that suffices for every block */
     LERTXUNO_MAX_SIGNATURE_LENGTH = LERTXUNO_SIGNATURE_LENGTH(67, 25)
 };
 
@@ -118,8 +122,8 @@ enum {
     LERTXUNO_MAX_PATH_UPDATE_LENGTH = LERTXUNO_MAX_UPDATE_LENGTH + LERTXUNO_HASH_LENGTH * LERTXUNO_MAX_HASHES
 };
 
-/* SHA-256 (FIPS 180-4) of the message. */
-void lertxuno_digest(const uint8_t *message, size_t message_length, uint8_t out[LERTXUNO_HASH_LENGTH]);
+/* SHA-256 (FIPS 180-4) of the message. Returns how many compressions it took: the length plus 9, over 64, rounded up. */
+size_t lertxuno_digest(const uint8_t *message, size_t message_length, uint8_t out[LERTXUNO_HASH_LENGTH]);
 
 /* RFC 8554: 0 if this is a valid LMS signature over the message under the key, else LERTXUNO_UNSIGNED. Keys of LM-OTS type 3 or 4 and LMS type 5 to 9. */
 uint32_t lertxuno_verify(const uint8_t *key, size_t key_length, const uint8_t *message, size_t message_length,
@@ -186,13 +190,27 @@ enum lertxuno_stage { LERTXUNO_IDLE = 0, LERTXUNO_LOADING = 1, LERTXUNO_COMPLETE
 /* Makes the state of a fresh device: idle, with this model and key. */
 void lertxuno_fresh(uint32_t model, const uint8_t key[LERTXUNO_KEY_LENGTH], uint8_t state[LERTXUNO_STATE_LENGTH]);
 
-/* Hands a whole message to the device. Accepted: state and flash are those after it. Refused: both are as before. Bytes that encode no state (another
- * length, another stage than 0, 1, 2) are refused with LERTXUNO_STATE. Every byte of the flash from the manifest's image length on is as before, the manifest
- * being that of the state after the call. The contract compares memory before and after the call; that nothing is written before the last test has passed
- * follows from the types: the functions that judge are handed flash and hashes read-only. Writes are plain stores: memory that needs programming commands
- * needs a copy in RAM, programmed from that after the call; what is judged is then that copy (docs/INTEGRATION.md, 'One message'). An update needs such a copy
- * in any case, if a power cut is not to lose the program (there, 'Power loss'). */
-uint32_t lertxuno_receive(uint8_t *state, size_t state_length, uint8_t *flash, size_t flash_length, const uint8_t *message, size_t message_length);
+/* What a block costs, in SHA-256 compressions. A digest takes its length plus 9, over 64, rounded up: 2, 3, 5, 9, 17 for a whole block of 64, 128, 256, 512,
+ * 1,024 bytes, 2 for two hashes. A block message costs its comparison: the block's digest, by the bytes that the block has, and 2 for each hash that it
+ * carries. The last block costs the tree over the whole image besides: each block's digest, its own a second time, and 2 for each of the n - 1 inner nodes.
+ * With blocks of 256 bytes and n = 8, message 1 costs 11, message 2 costs 5, message 8 costs 59; an image of one byte costs 2.
+ *
+ * A budget goes with each message, and only a block looks at it: LERTXUNO_SPENT exactly if the block costs more; a budget of just the cost suffices.
+ * lertxuno_block_cost tells beforehand which does.
+ *
+ * No budget covers the rest: a signature's verdict (new program, update, path update), whose compressions depend on what is signed; beside the verdict, for an
+ * update the tree over the whole image twice, and for a path update the digests of the old block and of the new one and 4 for each hash; and the boot check,
+ * the tree over the whole image once. */
+
+/* Hands a whole message to the device. Accepted: state and flash are those after it, and *compressions is what an accepted block cost, or 0 for the other
+ * kinds; the pointer is not null, whatever the kind. Refused: all three are as before. Bytes that encode no state (another length, another stage than 0, 1, 2)
+ * are refused with LERTXUNO_STATE. Every byte of the flash from the manifest's image length on is as before, the manifest being that of the state after the
+ * call. The contract compares memory before and after the call; that nothing is written before the last test has passed follows from the types: the functions
+ * that judge are handed flash and hashes read-only. Writes are plain stores: memory that needs programming commands needs a copy in RAM, programmed from that
+ * after the call; what is judged is then that copy (docs/INTEGRATION.md, 'One message'). An update needs such a copy in any case, if a power cut is not to
+ * lose the program (there, 'Power loss'). */
+uint32_t lertxuno_receive(uint8_t *state, size_t state_length, uint8_t *flash, size_t flash_length, const uint8_t *message, size_t message_length,
+                          uint32_t budget, uint32_t *compressions);
 
 /* What a state holds, as numbers, by their place in the array that lertxuno_status writes. */
 enum {
@@ -212,6 +230,10 @@ uint32_t lertxuno_status(const uint8_t *state, size_t state_length, uint32_t out
 /* Writes to *length how many bytes the next block message has. LERTXUNO_STATE as above, LERTXUNO_STAGE where the device is not loading; *length is then as
  * before. */
 uint32_t lertxuno_block_message_length(const uint8_t *state, size_t state_length, size_t *length);
+
+/* Writes to *compressions what the next block costs: the least budget that suffices for it, and what lertxuno_receive reports once it is accepted. It follows
+ * from the state alone, before the block is there. LERTXUNO_STATE and LERTXUNO_STAGE as for its length; *compressions is then as before. */
+uint32_t lertxuno_block_cost(const uint8_t *state, size_t state_length, uint32_t *compressions);
 
 /* The boot check: 0 where the device is complete and the tree over its flash has the root of its manifest, whoever wrote the flash. Else the first that
  * applies of LERTXUNO_STATE as above, LERTXUNO_STAGE where the device is not complete, LERTXUNO_AREA where the flash is shorter than the image, and

@@ -22,12 +22,12 @@ use Rattle.machine.specs.declared.state.Device.{Device}
 use Rattle.machine.specs.declared.state.Answer.the-variants.{Accepted, Refused}
 use Rattle.machine.specs.Device.{Outcome}
 use Rattle.machine.specs.Refusals.{notLoading, notComplete}
-use Rattle.machine.specs.Step.{acceptProgram, accept, outcome, refusalOf, step}
+use Rattle.machine.specs.Step.{acceptProgram, accept, total, outcome, refusalOf, step}
 use Rattle.machine.specs.Readers.{numberOf}
 use Rattle.machine.proofs.RefusalLaws.{program-passed, block-passed, update-passed, path-passed, unknown-refused}
 use Rattle.bundle.specs.Text.{slipLine}
 use Rattle.bundle.specs.Parts.{trailerLength, nowhere, programIn, beforeProgram}
-use Rattle.bundle.specs.Load.{Printed, _before_, stop, ifAccepted, blocks, messages}
+use Rattle.bundle.specs.Load.{loaderBudget, Printed, _before_, stop, ifAccepted, blocks, messages}
 use Rattle.bundle.specs.Steps.{Appended, Ran}
 use Rattle.bundle.proofs.PartLaws.{Somewhere}
 use Rattle.bundle.proofs.AppendedLaws.{joined}
@@ -41,25 +41,26 @@ abbrev sizeOf : Device → Bool
 sizeOf d = wrongSize (d .manifest .«block_len») (d .manifest .«image_len»)
 
 module _ (d : Device) (flash m : List ℕ) (idle : d .stage ≡ Idle) where
-  by-kind : (k : Kind) → kind m ≡ k → refusalOf digest valid d flash m ≡ none → sizeOf (accept k d flash m .device) ≡ false
+  by-kind : (k : Kind) → kind m ≡ k → refusalOf digest valid loaderBudget d flash m ≡ none → sizeOf (accept k d flash m .device) ≡ false
   unfolding accept acceptProgram notLoading notComplete
-  by-kind Program e q = size-right _ _ (program-passed digest valid d flash m e q .size)
-  by-kind Block e q = absurd (true≢false (rw (idle, notLoading) at (block-passed digest valid d flash m e q .loading)))
-  by-kind Update e q = absurd (true≢false (rw (idle, notComplete) at (update-passed digest valid d flash m e q .successor .complete)))
-  by-kind PathUpdate e q = absurd (true≢false (rw (idle, notComplete) at (path-passed digest valid d flash m e q .successor .complete)))
-  by-kind Unknown e q = absurd (unknown-refused digest valid d flash m e q)
+  by-kind Program e q = size-right _ _ (program-passed digest valid d flash m loaderBudget e q .size)
+  by-kind Block e q = absurd (true≢false (rw (idle, notLoading) at (block-passed digest valid d flash m loaderBudget e q .loading)))
+  by-kind Update e q = absurd (true≢false (rw (idle, notComplete) at (update-passed digest valid d flash m loaderBudget e q .successor .complete)))
+  by-kind PathUpdate e q = absurd (true≢false (rw (idle, notComplete) at (path-passed digest valid d flash m loaderBudget e q .successor .complete)))
+  by-kind Unknown e q = absurd (unknown-refused digest valid d flash m loaderBudget e q)
 
   -- an idle device accepts a kind 1 message alone, and so a manifest of an allowed size
-  pub accepted-size : (o : Outcome) → step digest valid d flash m ≡ o → o .answer ≡ Accepted → sizeOf (o .device) ≡ false
+  pub accepted-size : (o : Outcome) → step digest valid loaderBudget d flash m ≡ o → o .answer ≡ Accepted → sizeOf (o .device) ≡ false
   unfolding step outcome
-  accepted-size o e a = go (refusalOf digest valid d flash m) refl
+  accepted-size o e a = go (refusalOf digest valid loaderBudget d flash m) refl
     where
-      go : (r : Option Refusal) → refusalOf digest valid d flash m ≡ r → sizeOf (o .device) ≡ false
-      go none q =
-          let same : outcome none d flash (accept (kind m) d flash m) ≡ o = ap (λ (r : Option Refusal). outcome r d flash (accept (kind m) d flash m)) (sym q) ∙ e in
-          ap (λ (x : Outcome). sizeOf (x .device)) (sym same) ∙ by-kind (kind m) refl q
+      by-refusal : Option Refusal → Outcome
+      by-refusal r = outcome r loaderBudget (total digest (kind m) d flash m) d flash (accept (kind m) d flash m)
+
+      go : (r : Option Refusal) → refusalOf digest valid loaderBudget d flash m ≡ r → sizeOf (o .device) ≡ false
+      go none q = let same : by-refusal none ≡ o = ap by-refusal (sym q) ∙ e in ap (λ (x : Outcome). sizeOf (x .device)) (sym same) ∙ by-kind (kind m) refl q
       go (some x) q =
-          let same : outcome (some x) d flash (accept (kind m) d flash m) ≡ o = ap (λ (r : Option Refusal). outcome r d flash (accept (kind m) d flash m)) (sym q) ∙ e in
+          let same : by-refusal (some x) ≡ o = ap by-refusal (sym q) ∙ e in
           let other : Refused x ≡ o .answer = ap (λ (x : Outcome). x .answer) same in
           absurd (let z : _≡_ {A = ℕ} 0 1 = cc in omega arith)
 
@@ -70,18 +71,18 @@ module _ (d : Device) (flash b : List ℕ) where
 
   with-program : nowhere b ≡ false
       → messages d flash b
-      ≡ (let o = step digest valid d flash (programIn b) in slipLine (numberOf (o .answer)) before ifAccepted o (blocks (o .device) (o .flash) (beforeProgram b)))
+      ≡ (let o = step digest valid loaderBudget d flash (programIn b) in slipLine (numberOf (o .answer)) before ifAccepted o (blocks (o .device) (o .flash) (beforeProgram b)))
   unfolding messages
   with-program e = rw (e, messages)
 
   pub ran-nowhere : {out out' : List ℕ} {at next : ℕ} → nowhere b ≡ true → Appended out at out' next (slipLine 3) → Ran (messages d flash b) out at out' next d flash
   ran-nowhere e w = ran (sym (before-stop _ d flash) ∙ sym (no-program e)) w
 
-  module _ (start : ℕ) (z : Somewhere b start) (o : Outcome) (done : step digest valid d flash (take (length b - trailerLength - start) (drop start b)) ≡ o) (answer : ℕ)
+  module _ (start : ℕ) (z : Somewhere b start) (o : Outcome) (done : step digest valid loaderBudget d flash (take (length b - trailerLength - start) (drop start b)) ≡ o) (answer : ℕ)
       (answer-is : answer ≡ numberOf (o .answer)) where
     follows : slipLine answer before ifAccepted o (blocks (o .device) (o .flash) (take start b)) ≡ messages d flash b
     follows =
-        let q : step digest valid d flash (programIn b) ≡ o = ap (step digest valid d flash) (sym (z .program)) ∙ done in
+        let q : step digest valid loaderBudget d flash (programIn b) ≡ o = ap (step digest valid loaderBudget d flash) (sym (z .program)) ∙ done in
         let after : Outcome → ℕ → List ℕ → Printed = λ x y f. slipLine y before ifAccepted x (blocks (x .device) (x .flash) f) in
         ap (λ (y : ℕ). after o y (take start b)) answer-is
         ∙ ap₂ {C = Printed} (λ (x : Outcome) (f : List ℕ). after x (numberOf (x .answer)) f) (sym q) (z .front)

@@ -20,7 +20,7 @@ use Rattle.machine.specs.Device.{Outcome}
 use Rattle.machine.specs.Step.{step}
 use Rattle.machine.specs.Readers.{numberOf}
 use Rattle.bundle.specs.Text.{ascii, blockLine}
-use Rattle.bundle.specs.Load.{Printed, _before_, stop, ifAccepted, blocksFrom, blocks}
+use Rattle.bundle.specs.Load.{loaderBudget, Printed, _before_, stop, ifAccepted, blocksFrom, blocks}
 use Rattle.bundle.specs.Steps.{MessageEnd, Appended, Ran}
 use Rattle.bundle.proofs.TextLaws.{message-short}
 use Rattle.bundle.proofs.AppendedLaws.{appended-none, length-kept, retold, joined}
@@ -53,7 +53,7 @@ module _ (L T n : ℕ) where
   -- one message, and the rest
   one-block : (i : ℕ) (d : Device) (f b : List ℕ) → i ≤ n
       → blocksFrom L T (n + 1 - i) i d f b
-      ≡ (let o = step digest valid d f (take (dueLength L T i) b) in
+      ≡ (let o = step digest valid loaderBudget d f (take (dueLength L T i) b) in
       blockLine i (numberOf (o .answer)) before ifAccepted o (blocksFrom L T (n + 1 - (i + 1)) (i + 1) (o .device) (o .flash) (drop (dueLength L T i) b)))
   unfolding blocksFrom
   one-block i d f b h =
@@ -106,7 +106,7 @@ module _ (L T n : ℕ) where
 
     module _ {flash out out' : List ℕ} {d : Device} {at at' read i : ℕ} (w : Looping flash out d at read i) (h : i ≤ n) (few : n ≤ maxBlocks)
         (room : from + 15 * maxBlocks ≤ length out₀) (o : Outcome) (len end : ℕ) (due : len ≡ dueLength L T i) (ends : MessageEnd bytes read len end)
-        (done : step digest valid d flash (take (end - read) (drop read bytes)) ≡ o) (answer : ℕ) (answer-is : answer ≡ numberOf (o .answer)) (small : answer < 256)
+        (done : step digest valid loaderBudget d flash (take (end - read) (drop read bytes)) ≡ o) (answer : ℕ) (answer-is : answer ≡ numberOf (o .answer)) (small : answer < 256)
         (v : Appended out at out' at' (blockLine i answer)) where
       abbrev line : List ℕ
       line = blockLine i answer
@@ -125,7 +125,7 @@ module _ (L T n : ℕ) where
           let b : List ℕ = drop read bytes in
           let m : take (dueLength L T i) b ≡ take (end - read) b = ap (λ (k : ℕ). take k b) (sym due) ∙ sym (ends .message) in
           let r : drop (dueLength L T i) b ≡ drop end bytes = ap (λ (k : ℕ). drop k b) (sym due) ∙ sym (ends .rest) in
-          let q : step digest valid d flash (take (dueLength L T i) b) ≡ o = ap (step digest valid d flash) m ∙ done in
+          let q : step digest valid loaderBudget d flash (take (dueLength L T i) b) ≡ o = ap (step digest valid loaderBudget d flash) m ∙ done in
           let after : Outcome → ℕ → List ℕ → Printed = λ x y z. blockLine i y before ifAccepted x (blocksFrom L T (n + 1 - (i + 1)) (i + 1) (x .device) (x .flash) z) in
           sym (before-both (w .text) line _)
           ∙ ap (λ (p : Printed). w .text before p)

@@ -17,15 +17,16 @@ use Rattle.sha256.proofs.DigestLaws.{length-digest}
 use Rattle.merkle.specs.Limits.{heldBytes}
 use Rattle.lms.specs.Lms.{valid}
 use Rattle.wire.specs.declared.manifest.Manifest.{Manifest}
+use Rattle.wire.specs.declared.kind.Kind.{Kind}
 use Rattle.wire.specs.declared.kind.Kind.the-variants.{Program, Block}
 use Rattle.wire.specs.Geometry.{countOf}
-use Rattle.wire.specs.Message.{dueLength}
+use Rattle.wire.specs.Message.{kind, dueLength}
 use Rattle.wire.specs.Claims.{OfProgram}
 use Rattle.sender.specs.Job.{Job, count, manifestFor, programFor, blockFor}
 use Rattle.machine.specs.declared.state.Device.{Device}
 use Rattle.machine.specs.declared.state.Answer.the-variants.{Accepted}
-use Rattle.machine.specs.Device.{Fresh, freshWith, serialOf, Situation}
-use Rattle.machine.specs.Step.{accept, refusalOf, step}
+use Rattle.machine.specs.Device.{Fresh, freshWith, serialOf, Situation, Outcome}
+use Rattle.machine.specs.Step.{accept, total, refusalOf, step}
 use Rattle.machine.specs.Readers.{acceptedBlocks}
 use Rattle.guarantee.specs.Demand3.{Sendable}
 use Rattle.machine.proofs.RefusalLaws.{program-passed}
@@ -34,9 +35,10 @@ use Rattle.guarantee.proofs.SentLaws.{block-sent}
 use Rattle.guarantee.proofs.HonestLaws.{Here, next-accepted, next-here, first-here, is-complete, flash-is}
 use Rattle.machine.proofs.SenseLaws.{sense-idle}
 use Rattle.guarantee.proofs.ProgramLaws.{is-program, program-accepted}
+use Rattle.guarantee.proofs.RecoveryHolds.{most-covers}
 use Rattle.bundle.specs.Text.{ascii, bundleLine, slipLine, blockLine, line, stateWords, stateLine}
 use Rattle.bundle.specs.Parts.{trailerLength, trailerAt, distance, nowhere, programAt, programIn, beforeProgram}
-use Rattle.bundle.specs.Load.{maxBundle, Printed, _before_, ifAccepted, blocksFrom, blocks, messages, withState, deviceFor, printedFor}
+use Rattle.bundle.specs.Load.{maxBundle, loaderBudget, Printed, _before_, ifAccepted, blocksFrom, blocks, messages, withState, deviceFor, printedFor}
 use Rattle.bundle.specs.Bundle.{blockMessages, bundleFor}
 use Rattle.bundle.specs.Claims.{Loadable, acceptedFrom, Whole, LoadsWhole}
 use Rattle.bundle.proofs.LoadLaws.{all-printed}
@@ -55,6 +57,14 @@ module _ (job : Job) where
       let e : j + suc left ≡ suc j + left = omega arith in
       ap (blockMessages digest (job .image)) e ∙ messages-after left (suc j) ∙ ap (λ (s : List ℕ). s ++ messagesAfter (suc j) left) (messages-suc (job .image) j)
       ∙ append-assoc (blockMessages digest (job .image) j) (blockFor digest (job .image) (suc j)) (messagesAfter (suc j) left)
+
+-- what comes of an accepted message of this kind
+module _ (k : Kind) (d : Device) (flash m : List ℕ) where
+  abbrev acceptedAs : Outcome
+  acceptedAs = let t = accept k d flash m in record { answer = Accepted; compressions = total digest k d flash m; budget = loaderBudget; device = t .device; flash = t .flash }
+
+  accepted-as : kind m ≡ k → refusalOf digest valid loaderBudget d flash m ≡ none → step digest valid loaderBudget d flash m ≡ acceptedAs
+  accepted-as e a = rw e at (accepted-step digest valid loaderBudget d flash m a)
 
 module _ (job : Job) (ok : Sendable job) (old : List ℕ) where
   abbrev Reached : ℕ → Situation → Type 0
@@ -76,9 +86,8 @@ module _ (job : Job) (ok : Sendable job) (old : List ℕ) where
       let due : ℕ = dueLength (job .image .«block_len») (length (job .image .bytes)) (suc j) in
       let first : take due (m ++ rest) ≡ m = take-at m rest due (b .size) in
       let behind : drop due (m ++ rest) ≡ rest = drop-at m rest due (b .size) in
-      let o : step digest valid (s .device) (s .flash) m ≡ (let t = accept Block (s .device) (s .flash) m in record { answer = Accepted; device = t .device; flash = t .flash }) =
-      accepted-step digest valid (s .device) (s .flash) m (next-accepted digest length-digest valid job ok old j s w h)
-      ∙ ap (λ k. let t = accept k (s .device) (s .flash) m in record { answer = Accepted; device = t .device; flash = t .flash }) (b .is) in
+      let within = most-covers digest length-digest job ok (suc j) (omega arith) (omega arith) in
+      let o = accepted-as Block (s .device) (s .flash) m (b .is) (next-accepted digest length-digest valid job ok old j s w loaderBudget h within) in
       rw (first, behind, o) refl
 
   runs : (left j : ℕ) (s : Situation) (filler : List ℕ) → j + left ≡ count (job .image) → Reached j s
@@ -148,14 +157,14 @@ module _ (key flash : List ℕ) (job : Job) (filler signature : List ℕ) (h : L
   unfolding deviceFor freshWith serialOf
   newer = h .serial
 
-  none-applies : refusalOf digest valid d flash program ≡ none
-  none-applies = program-accepted digest length-digest valid job ok signature d flash (sense-idle d (fresh .idle)) (h .model) newer (h .room) (h .signed)
+  none-applies : refusalOf digest valid loaderBudget d flash program ≡ none
+  none-applies = program-accepted digest length-digest valid job ok signature d flash (sense-idle d (fresh .idle)) (h .model) newer (h .room) (h .signed) loaderBudget
 
   is-sent : OfProgram (manifestFor digest job) signature program
   is-sent = is-program digest length-digest valid job ok signature
 
   here : Here digest length-digest valid job ok flash 0 begun
-  here = first-here digest length-digest valid job ok d flash program (is-sent .manifest) (program-passed digest valid d flash program (is-sent .is) none-applies)
+  here = first-here digest length-digest valid job ok d flash program (is-sent .manifest) (program-passed digest valid d flash program loaderBudget (is-sent .is) none-applies)
 
   ran : Runs job ok flash (count (job .image)) 0 (blocks (begun .device) (begun .flash) front)
   unfolding blocks
@@ -178,8 +187,7 @@ module _ (key flash : List ℕ) (job : Job) (filler signature : List ℕ) (h : L
   unfolding messages ifAccepted
   taken =
       let f = program-found front program (unfold bundleFor in h .fits) in
-      let o : step digest valid d flash program ≡ record { answer = Accepted; device = begun .device; flash = begun .flash } =
-      accepted-step digest valid d flash program none-applies ∙ ap (λ k. let t = accept k d flash program in record { answer = Accepted; device = t .device; flash = t .flash }) (is-sent .is) in
+      let o = accepted-as Program d flash program (is-sent .is) none-applies in
       rw (f .somewhere, f .program-is, f .front-is, o, messages) refl
 
   state-is : (p : Printed) → Runs job ok flash (count (job .image)) 0 p → stateLine (p .device) ≡ line (ascii "state complete ") (count (job .image))

@@ -7,6 +7,7 @@ use lib.ListN.{length, take, drop}
 use Rattle.octets.specs.Octets.{number, part}
 use Rattle.sha256.specs.Sha256.{digest}
 use Rattle.lms.specs.Lms.{keyLength, valid}
+use Rattle.merkle.specs.Cost.{mostCost}
 use Rattle.wire.specs.Geometry.{countOf}
 use Rattle.wire.specs.declared.refusal.Refusal.the-variants.{Area}
 use Rattle.wire.specs.Message.{dueLength, atStart}
@@ -31,6 +32,10 @@ maxBundle = 65536
 -- room for the longest output
 abbrev pub outputRoom : ℕ
 outputRoom = 65536
+
+-- "The loader's budgets always suffice" (02, change 7; machine/specs/Claims, `NeverSpent`): one number, enough for every program.
+abbrev pub loaderBudget : ℕ
+loaderBudget = mostCost
 
 -- Text printed so far or from here on, with device and flash at its end.
 pub record Printed : Type 0 where
@@ -57,7 +62,7 @@ unfoldable pub blocksFrom : (L T left i : ℕ) → Device → (flash bytes : Lis
 blocksFrom L T zero i d flash bytes = stop d flash
 blocksFrom L T (suc left) i d flash bytes =
     let due = dueLength L T i in
-    let o = step digest valid d flash (take due bytes) in
+    let o = step digest valid loaderBudget d flash (take due bytes) in
     blockLine i (numberOf (o .answer)) before ifAccepted o (blocksFrom L T left (suc i) (o .device) (o .flash) (drop due bytes))
 
 -- all blocks of the device's manifest
@@ -69,7 +74,7 @@ unfoldable pub messages : Device → (flash bundle : List ℕ) → Printed
 messages d flash bundle =
     cond (nowhere bundle)
     (slipLine 3 before stop d flash)
-    (let o = step digest valid d flash (programIn bundle) in slipLine (numberOf (o .answer)) before ifAccepted o (blocks (o .device) (o .flash) (beforeProgram bundle)))
+    (let o = step digest valid loaderBudget d flash (programIn bundle) in slipLine (numberOf (o .answer)) before ifAccepted o (blocks (o .device) (o .flash) (beforeProgram bundle)))
 
 -- "last `state`, the stage's name, the accepted blocks"
 unfoldable pub withState : Printed → Printed

@@ -16,6 +16,9 @@ ghost use Rattle.machine.specs.declared.state.Stage.the-variants.{Idle};
 ghost use Rattle.bundle.specs.Load as spec;
 ghost use Rattle.bundle.specs.Steps.{Ran};
 
+// The budget that goes with each message: enough for every program. specs/Load.antt has the same number for the contracts.
+const LOADER_BUDGET: u32 = 29199;
+
 // What is printed so far: the device after it, and the index behind the text.
 pub struct Printed {
     pub device: Device,
@@ -38,7 +41,7 @@ fn blocks(start: Device, flash: &mut [u8], bytes: &[u8], out: &mut [u8], from: u
     let mut number: usize = 1;
     while number <= n {
         let end = message_end(bytes, read, wire::due_len(block_len, image_len, number));
-        let outcome = device::receive(device, flash, &bytes[read..end]);
+        let outcome = device::receive(device, flash, &bytes[read..end], LOADER_BUDGET);
         let answer = outcome.answer;
         let next = outcome.device;
         at = put_message(out, at, b"block ", number, device::answer_number(answer));
@@ -70,7 +73,7 @@ pub fn messages(
         return Printed { device: fresh, at };
     };
     let end = bundle.len() - TRAILER_LEN;
-    let outcome = device::receive(fresh, flash, &bundle[start..end]);
+    let outcome = device::receive(fresh, flash, &bundle[start..end], LOADER_BUDGET);
     let answer = outcome.answer;
     let device = outcome.device;
     let at = put_message(out, from, b"slip ", 0, device::answer_number(answer));

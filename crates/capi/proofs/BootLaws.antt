@@ -26,7 +26,7 @@ use Rattle.machine.specs.Readers.{numberOf}
 use Rattle.machine.specs.Step.{step}
 use Rattle.guarantee.proofs.AlteredHolds.{boot-after}
 use Rattle.capi.specs.State.{keyAt, stageAt, nextAt, manifestAt, hashesAt, encode, stageFrom, stageIn, deviceIn, decode}
-use Rattle.capi.specs.Call.{CallOutcome, callOutcome, stateAfter, receive, bootCheckOf}
+use Rattle.capi.specs.Call.{CallOutcome, callOutcome, stateAfter, countAfter, receive, bootCheckOf}
 use Rattle.capi.specs.Claims.{Fits, DecodedFits, PassesAfter}
 use Rattle.capi.proofs.RunLaws.{fits-step}
 use Rattle.capi.proofs.StateLaws.{right-length, decode-none, decode-some, stage-encode, decode-encode}
@@ -65,34 +65,34 @@ decoded-fits state bytes d e = go (stageIn state) refl
     go (some t) s = let z : some (deviceIn state t) ≡ some d = sym (decode-some state s) ∙ e in let w : deviceIn state t ≡ d = cc in subst Fits w (fits-at state bytes t s)
 
 -- A call that is accepted, on the bytes of a device.
-module _ (state flash m : List ℕ) (message : Bytes m) (d : Device) (f : Fits d) (e : decode state ≡ some d) where
+module _ (state flash m : List ℕ) (budget before : ℕ) (message : Bytes m) (d : Device) (f : Fits d) (e : decode state ≡ some d) where
   abbrev o : Outcome
-  o = step digest valid d flash m
+  o = step digest valid budget d flash m
 
-  took : receive state flash m .answer ≡ 0 → o .answer ≡ Accepted
+  took : receive state flash m budget before .answer ≡ 0 → o .answer ≡ Accepted
   unfolding callOutcome
-  took z = zero-accepted (o .answer) refl .0 (sym (ap (λ (c : CallOutcome). c .answer) (receive-decoded state e flash m)) ∙ z)
+  took z = zero-accepted (o .answer) refl .0 (sym (ap (λ (c : CallOutcome). c .answer) (receive-decoded state e flash m budget before)) ∙ z)
 
-  leaves : o .answer ≡ Accepted → receive state flash m ≡ record { answer = 0; state = encode (o .device); flash = o .flash }
-  unfolding callOutcome stateAfter
-  leaves a = receive-decoded state e flash m ∙ rw (a, callOutcome, stateAfter)
+  leaves : o .answer ≡ Accepted → receive state flash m budget before ≡ record { answer = 0; compressions = o .compressions; state = encode (o .device); flash = o .flash }
+  unfolding callOutcome stateAfter countAfter
+  leaves a = receive-decoded state e flash m budget before ∙ rw (a, callOutcome, stateAfter, countAfter)
 
-  complete : o .answer ≡ Accepted → stageIn (receive state flash m .state) ≡ some Complete → o .device .stage ≡ Complete
+  complete : o .answer ≡ Accepted → stageIn (receive state flash m budget before .state) ≡ some Complete → o .device .stage ≡ Complete
   complete a s =
-      let z : some (o .device .stage) ≡ some Complete = sym (stage-encode (o .device) (fits-step d flash m message f)) ∙ ap (λ (c : CallOutcome). stageIn (c .state)) (sym (leaves a)) ∙ s in
+      let z : some (o .device .stage) ≡ some Complete = sym (stage-encode (o .device) (fits-step budget d flash m message f)) ∙ ap (λ (c : CallOutcome). stageIn (c .state)) (sym (leaves a)) ∙ s in
       cc
 
-  passes : o .answer ≡ Accepted → (kind m ≡ Update) ⊎ ((kind m ≡ Block) × (stageIn (receive state flash m .state) ≡ some Complete))
-      → bootCheckOf (receive state flash m .state) (receive state flash m .flash) ≡ 0
+  passes : o .answer ≡ Accepted → (kind m ≡ Update) ⊎ ((kind m ≡ Block) × (stageIn (receive state flash m budget before .state) ≡ some Complete))
+      → bootCheckOf (receive state flash m budget before .state) (receive state flash m budget before .flash) ≡ 0
   passes a w =
       ap (λ (c : CallOutcome). bootCheckOf (c .state) (c .flash)) (leaves a)
-      ∙ boot-check-decoded (encode (o .device)) (decode-encode (o .device) (fits-step d flash m message f)) (o .flash)
-      ∙ ap numberOf (boot-after digest valid d flash m a (⊎-elim (λ k. inl k) (λ k. inr (k .0, complete a (k .1))) w))
+      ∙ boot-check-decoded (encode (o .device)) (decode-encode (o .device) (fits-step budget d flash m message f)) (o .flash)
+      ∙ ap numberOf (boot-after digest valid budget d flash m a (⊎-elim (λ k. inl k) (λ k. inr (k .0, complete a (k .1))) w))
 
 pub passes-after : PassesAfter
 unfolding receive
-passes-after state flash m bytes message z w = go (decode state) refl
+passes-after state flash m budget before bytes message z w = go (decode state) refl
   where
-    go : (x : Option Device) → decode state ≡ x → bootCheckOf (receive state flash m .state) (receive state flash m .flash) ≡ 0
+    go : (x : Option Device) → decode state ≡ x → bootCheckOf (receive state flash m budget before .state) (receive state flash m budget before .flash) ≡ 0
     go none e = absurd (let n : _≡_ {A = ℕ} 1 0 = rw (e, receive) at z in omega arith)
-    go (some d) e = let f = decoded-fits state bytes d e in passes state flash m message d f e (took state flash m message d f e z) w
+    go (some d) e = let f = decoded-fits state bytes d e in passes state flash m budget before message d f e (took state flash m budget before message d f e z) w

@@ -27,7 +27,7 @@ use Rattle.capi.specs.declared.state.StageRead.the-variants.{At, Nothing
 use Rattle.capi.specs.StageRead.{stageRead}
 use Rattle.capi.specs.State.{stateLength, encode, stageIn, deviceIn, decode}
 use Rattle.capi.proofs.StateLaws.{decode-none, decode-some, decode-encode}
-use Rattle.capi.specs.Call.{stateAfter, callOutcome, receive, bootCheckOf}
+use Rattle.capi.specs.Call.{stateAfter, countAfter, callOutcome, receive, bootCheckOf}
 use Rattle.capi.specs.Claims.{IsStep}
 
 pub stage-read-none : (o : Option Stage) → stageRead o ≡ Nothing → o ≡ none
@@ -49,16 +49,17 @@ pub stage-read-length : (b : List ℕ) {t : Stage} → stageIn b ≡ some t → 
 unfolding stageIn
 stage-read-length b e = eqb-true _ _ (chosen (eqb (length b) stateLength) _ e)
 
-keeps : (r : Option Refusal) (d : Device) (flash : List ℕ) (then : Situation) {x : Refusal} → outcome r d flash then .answer ≡ Refused x → outcome r d flash then .device ≡ d
+keeps : (r : Option Refusal) (budget cost : ℕ) (d : Device) (flash : List ℕ) (then : Situation) {x : Refusal} → outcome r budget cost d flash then .answer ≡ Refused x
+    → outcome r budget cost d flash then .device ≡ d
 unfolding outcome
-keeps none d flash then e = absurd (let z : _≡_ {A = ℕ} 0 1 = cc in omega arith)
-keeps (some y) d flash then e = refl
+keeps none budget cost d flash then e = absurd (let z : _≡_ {A = ℕ} 0 1 = cc in omega arith)
+keeps (some y) budget cost d flash then e = refl
 
 -- A message and the boot check, on bytes b that encode a device.
 module _ (b : List ℕ) {d : Device} (e : decode b ≡ some d) (flash : List ℕ) where
-  pub receive-decoded : (m : List ℕ) → receive b flash m ≡ callOutcome (step digest valid d flash m) b
+  pub receive-decoded : (m : List ℕ) (budget before : ℕ) → receive b flash m budget before ≡ callOutcome (step digest valid budget d flash m) b before
   unfolding receive
-  receive-decoded m = rw (e, receive)
+  receive-decoded m budget before = rw (e, receive)
 
   pub boot-check-decoded : bootCheckOf b flash ≡ numberOf (bootCheck digest d flash)
   unfolding bootCheckOf
@@ -79,34 +80,38 @@ module _ (b : List ℕ) {f : StageRead} (e : f ≡ stageRead (stageIn b)) where
     checked g de ae ne =
         ne ∙ ap numberOf (ae ∙ ap (λ (x : Device). bootCheck digest x flash) de) ∙ sym (boot-check-decoded b (decode-some b (stage-read-some (stageIn b) (sym e ∙ g))) flash)
 
-  module _ (flash m : List ℕ) where
-    pub unknown : f ≡ Nothing → receive b flash m ≡ record { answer = 1; state = b; flash = flash }
+  module _ (flash m : List ℕ) (budget : ℕ) where
+    pub unknown : {before : ℕ} → f ≡ Nothing → receive b flash m budget before ≡ record { answer = 1; compressions = before; state = b; flash = flash }
     unfolding receive
     unknown g = rw (decode-none b (stage-read-none (stageIn b) (sym e ∙ g)), receive)
 
     -- a state, and what the device made of it
-    module _ {t : Stage} {d : Device} {o : Outcome} (g : f ≡ At t) (de : d ≡ deviceIn b t) (l : length (d .hashes) ≡ heldBytes) (se : stepInPlace d flash m ≡ o) where
-      stepped : step digest valid d flash m ≡ o
-      stepped = sym (held-step d flash m l) ∙ se
-
-      taken : receive b flash m ≡ callOutcome o b
-      taken =
-          receive-decoded b (decode-some b (stage-read-some (stageIn b) (sym e ∙ g))) flash m
-          ∙ ap (λ (x : Device). callOutcome (step digest valid x flash m) b) (sym de)
-          ∙ ap (λ (x : Outcome). callOutcome x b) stepped
+    module _ {t : Stage} {d : Device} {o : Outcome} (g : f ≡ At t) (de : d ≡ deviceIn b t) (l : length (d .hashes) ≡ heldBytes) (se : stepInPlace budget d flash m ≡ o) where
+      stepped : step digest valid budget d flash m ≡ o
+      stepped = sym (held-step budget d flash m l) ∙ se
 
       -- a refusal leaves the device as it was
       pub unchanged : {x : Refusal} → o .answer ≡ Refused x → o .device ≡ d
       unfolding step
-      unchanged z = sym (ap (λ (y : Outcome). y .device) stepped) ∙ keeps (refusalOf digest valid d flash m) d flash _ (ap (λ (y : Outcome). y .answer) stepped ∙ z)
+      unchanged z =
+          sym (ap (λ (y : Outcome). y .device) stepped)
+          ∙ keeps (refusalOf digest valid budget d flash m) budget _ d flash _ (ap (λ (y : Outcome). y .answer) stepped ∙ z)
 
-      pub refused : {x : Refusal} {n : ℕ} {b′ : List ℕ} → o .answer ≡ Refused x → n ≡ numberOf (o .answer) → b′ ≡ b → receive b flash m ≡ record { answer = n; state = b′; flash = o .flash }
-      unfolding callOutcome stateAfter
-      refused z en eb = taken ∙ rw (en, z, eb)
+      taken : (before : ℕ) → receive b flash m budget before ≡ callOutcome o b before
+      taken before =
+          receive-decoded b (decode-some b (stage-read-some (stageIn b) (sym e ∙ g))) flash m budget before
+          ∙ ap (λ (x : Device). callOutcome (step digest valid budget x flash m) b before) (sym de)
+          ∙ ap (λ (x : Outcome). callOutcome x b before) stepped
 
-      pub accepted : {b′ : List ℕ} → o .answer ≡ Accepted → b′ ≡ encode (o .device) → receive b flash m ≡ record { answer = 0; state = b′; flash = o .flash }
-      unfolding callOutcome stateAfter
-      accepted z eb = taken ∙ rw (z, eb)
+      pub refused : {x : Refusal} {n before : ℕ} {b′ : List ℕ} → o .answer ≡ Refused x → n ≡ numberOf (o .answer) → b′ ≡ b
+          → receive b flash m budget before ≡ record { answer = n; compressions = before; state = b′; flash = o .flash }
+      unfolding callOutcome stateAfter countAfter
+      refused {before = before} z en eb = taken before ∙ rw (en, z, eb)
+
+      pub accepted : (before : ℕ) {b′ : List ℕ} → o .answer ≡ Accepted → b′ ≡ encode (o .device)
+          → receive b flash m budget before ≡ record { answer = 0; compressions = o .compressions; state = b′; flash = o .flash }
+      unfolding callOutcome stateAfter countAfter
+      accepted before z eb = taken before ∙ rw (z, eb)
 
 pub receive-encode : IsStep
-receive-encode d flash m f = receive-decoded (encode d) (decode-encode d f) flash m
+receive-encode d flash m budget before f = receive-decoded (encode d) (decode-encode d f) flash m budget before

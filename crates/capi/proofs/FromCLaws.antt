@@ -14,7 +14,7 @@ use Rattle.machine.specs.declared.state.Answer.{Answer}
 use Rattle.machine.specs.declared.state.Answer.the-variants.{Accepted, Refused}
 use Rattle.machine.specs.Device.{freshWith, SituationOf}
 use Rattle.machine.specs.Readers.{numberOf}
-use Rattle.machine.specs.Step.{step}
+use Rattle.machine.specs.Step.{stepCall}
 use Rattle.machine.specs.BootCheck.{bootCheck}
 use Rattle.machine.proofs.FreshLaws.{fresh-is}
 use Rattle.guarantee.specs.Run.{after}
@@ -28,7 +28,7 @@ use Rattle.capi.specs.Claims.{BootProvesFromC}
 use Rattle.capi.specs.FromC.{FromC}
 use Rattle.capi.proofs.StateLaws.{decode-encode}
 use Rattle.capi.proofs.CallLaws.{boot-check-decoded}
-use Rattle.capi.proofs.StatusLaws.{sensible-decoded, status-is, length-is}
+use Rattle.capi.proofs.StatusLaws.{sensible-decoded, status-is, due-is}
 use Rattle.capi.proofs.RunLaws.{fresh-fits, runs}
 
 pub zero-accepted : (a : Answer) {n : ℕ} → n ≡ numberOf a → (n ≡ 0) ↔ (a ≡ Accepted)
@@ -44,17 +44,18 @@ boot-proves-from-c state flash z = go (decode state) refl
     go (some d) e = (d, e, boot-proves digest length-digest d flash (zero-accepted (bootCheck digest d flash) refl .0 (sym (boot-check-decoded state e flash) ∙ z)))
 
 pub from-c : FromC
-from-c model key small long flash ms bytes =
+from-c model key small long flash cs bytes =
     let d = freshWith model key in
-    let r = runs d flash (fresh-fits model key small long) ms bytes in
-    let back = ap (λ (x : SituationOf (List ℕ) (List ℕ)). decode (x .device)) (r .memory) ∙ decode-encode (after (step digest valid) d flash ms .device) (r .fits) in
-    let read = sensible-decoded _ back (makes-sense digest valid (step digest valid) demand3 d (fresh-is model key) flash ms) in
+    let r = runs d flash (fresh-fits model key small long) cs bytes in
+    let back = ap (λ (x : SituationOf (List ℕ) (List ℕ)). decode (x .device)) (r .memory) ∙ decode-encode (after (stepCall digest valid) d flash cs .device) (r .fits) in
+    let read = sensible-decoded _ back (makes-sense digest valid (stepCall digest valid) demand3 d (fresh-is model key) flash cs) in
     record {
       runs = r;
       state = back;
       reads = λ out. status-is _ out read refl;
-      due = λ before. length-is _ before read;
+      due = λ before. due-is _ _ before read;
+      cost = λ before. due-is _ _ before read;
       boot = λ lent. boot-check-decoded _ back lent;
-      zero = λ m. zero-accepted _ (r .answers m);
-      claim = demand3 d (fresh-is model key) flash ms;
+      zero = λ c. zero-accepted _ (r .answers c);
+      claim = demand3 d (fresh-is model key) flash cs;
     }

@@ -1,27 +1,32 @@
 -- What is read off a state's bytes, from what the code finds in them.
 use mathlib.Core.Path.{_≡_, refl, sym, ap, _∙_}
+use mathlib.Core.Logic.{_⊎_, ⊎-elim}
 use mathlib.Core.Bool.{Bool, true, false, cond}
 use mathlib.Core.List.{List}
 use mathlib.Core.Option.{Option, none, some}
-use Prim.Native.Nat.{ℕ}
+use Prim.Native.Nat.{ℕ, _≤_, _<_}
 use native.Mathlib.Omega.{arith}
 use lib.ListN.{length}
+use denote.Enum.Declared.{tagOf}
 use Rattle.octets.specs.Octets.{number, part}
 use Rattle.merkle.specs.Limits.{heldBytes}
 use Rattle.lms.specs.Lms.{keyLength}
 use Rattle.wire.specs.declared.manifest.Manifest.{Manifest}
 use Rattle.wire.specs.Manifest.{manifestLength, read}
-use Rattle.wire.specs.Message.{dueLength}
+use Rattle.wire.specs.Size.{wrongSize}
+use Rattle.wire.specs.Geometry.{countOf}
 use Rattle.machine.specs.declared.state.Stage.{Stage}
 use Rattle.machine.specs.declared.state.Stage.the-variants.{Idle, Loading, Complete}
 use Rattle.machine.specs.declared.state.Device.{Device}
 use Rattle.machine.specs.Refusals.{senseless}
+use Rattle.machine.proofs.state.Stage.{the-type}
+use Rattle.machine.proofs.RefusalLaws.{loading}
 use Rattle.capi.specs.declared.state.StageRead.{StageRead}
 use Rattle.capi.specs.declared.state.StageRead.the-variants.{At, Nothing}
 use Rattle.capi.specs.StageRead.{stageRead, stageReadOf}
 use Rattle.device.specs.Fields.{deviceOf}
 use Rattle.capi.specs.State.{keyAt, manifestAt, hashesAt, stateLength, stageIn, deviceIn, decode}
-use Rattle.capi.specs.Status.{sensible, statusOf, status, dueOf, blockMessageLength}
+use Rattle.capi.specs.Status.{sensible, statusOf, status, dueOf, readDue}
 use Rattle.capi.proofs.StateLaws.{decode-none, decode-some}
 use Rattle.capi.proofs.CallLaws.{stage-read-some, stage-read-length}
 
@@ -94,25 +99,32 @@ module _ (b out : List ℕ) where
   unfolding status
   status-is e en = rw (e, status, en)
 
-module _ (b : List ℕ) (before : ℕ) where
-  pub length-refused : sensible b ≡ none → blockMessageLength b before ≡ record { answer = 1; written = before }
-  unfolding blockMessageLength
-  length-refused e = rw (e, blockMessageLength)
+-- A block is due to the device: its manifest as the code read it, and what the measures of a block are asked for.
+pub awaited : (b : List ℕ) {i : ℕ} {s : Manifest} → Sense b (Loading i) → s ≡ read (part manifestAt manifestLength b)
+    → (wrongSize (s .«block_len») (s .«image_len») ≡ false) × (0 < i) × (i ≤ countOf s)
+unfolding deviceIn
+awaited b {i} m e = let w = loading (deviceIn b (Loading i)) (m .sense) refl in rw e (w .size, w .low, w .high)
 
-  module _ {d : Device} (e : sensible b ≡ some d) where
-    pub length-is : blockMessageLength b before ≡ dueOf before d
-    unfolding blockMessageLength
-    length-is = rw (e, blockMessageLength)
+-- A number of the block message that is due: its length, or what it costs.
+module _ (number : Manifest → (i : ℕ) → ℕ) (b : List ℕ) (before : ℕ) where
+  pub due-refused : sensible b ≡ none → readDue number b before ≡ record { answer = 1; written = before }
+  unfolding readDue
+  due-refused e = rw (e, readDue)
 
-    pub length-idle : d .stage ≡ Idle → blockMessageLength b before ≡ record { answer = 10; written = before }
-    unfolding dueOf
-    length-idle t = length-is ∙ rw t
+  pub due-is : {d : Device} → sensible b ≡ some d → readDue number b before ≡ dueOf number before d
+  unfolding readDue
+  due-is e = rw (e, readDue)
 
-    pub length-complete : d .stage ≡ Complete → blockMessageLength b before ≡ record { answer = 10; written = before }
-    unfolding dueOf
-    length-complete t = length-is ∙ rw t
+  pub none-due : {t : Stage} → Sense b t → (tagOf the-type t ≡ 0) ⊎ (tagOf the-type t ≡ 2) → readDue number b before ≡ record { answer = 10; written = before }
+  unfolding dueOf deviceIn
+  none-due {t} m e = due-is (m .device) ∙ go t e
+    where
+      go : (u : Stage) → (tagOf the-type u ≡ 0) ⊎ (tagOf the-type u ≡ 2) → dueOf number before (deviceIn b u) ≡ record { answer = 10; written = before }
+      go Idle e = refl
+      go (Loading i) e = absurd (⊎-elim (λ (z : _≡_ {A = ℕ} 1 0). omega arith) (λ (z : _≡_ {A = ℕ} 1 2). omega arith) e)
+      go Complete e = refl
 
-    pub length-due : {i n : ℕ} → d .stage ≡ Loading i → n ≡ dueLength (d .manifest .«block_len») (d .manifest .«image_len») i
-        → blockMessageLength b before ≡ record { answer = 0; written = n }
-    unfolding dueOf
-    length-due t en = length-is ∙ rw (t, en)
+  pub due-written : {i n : ℕ} {s : Manifest} → Sense b (Loading i) → s ≡ read (part manifestAt manifestLength b) → n ≡ number s i
+      → readDue number b before ≡ record { answer = 0; written = n }
+  unfolding dueOf deviceIn
+  due-written m e en = due-is (m .device) ∙ rw (en, e)

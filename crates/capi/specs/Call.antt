@@ -49,9 +49,10 @@ ihexOutcome o =
 unfoldable pub readText : (text : List ℕ) (base k : ℕ) (buffer : List ℕ) → IhexOutcome
 readText text base k buffer = ihexOutcome (ihex.read text base k buffer)
 
--- The device: answer, state bytes and flash after a message.
+-- The device: answer, the number behind the caller's pointer to the compressions, state bytes and flash after a message.
 pub record CallOutcome : Type 0 where
   pub answer : ℕ
+  pub compressions : ℕ
   pub state : List ℕ
   pub flash : List ℕ
 
@@ -59,15 +60,25 @@ pub record CallOutcome : Type 0 where
 unfoldable pub stateAfter : Answer → Device → List ℕ → List ℕ
 stateAfter a d state = elim a [ Accepted ↦ encode d | Refused r ↦ state ]
 
-unfoldable pub callOutcome : device.Outcome → List ℕ → CallOutcome
-callOutcome o state = record { answer = numberOf (o .answer); state = stateAfter (o .answer) (o .device) state; flash = o .flash }
+-- the number behind the pointer: what the device reports where the message was accepted, else as before
+unfoldable pub countAfter : Answer → (count before : ℕ) → ℕ
+countAfter a count before = elim a [ Accepted ↦ count | Refused r ↦ before ]
+
+unfoldable pub callOutcome : device.Outcome → List ℕ → (before : ℕ) → CallOutcome
+callOutcome o state before =
+    record {
+      answer = numberOf (o .answer);
+      compressions = countAfter (o .answer) (o .compressions) before;
+      state = stateAfter (o .answer) (o .device) state;
+      flash = o .flash;
+    }
 
 -- bytes that encode no state are a state that makes no sense: refused 1, nothing changed
-unfoldable pub receive : (state flash message : List ℕ) → CallOutcome
-receive state flash m =
+unfoldable pub receive : (state flash message : List ℕ) (budget before : ℕ) → CallOutcome
+receive state flash m budget before =
     elim (decode state) [
-      | none ↦ record { answer = refusalNumber refusal.State; state = state; flash = flash }
-      | some d ↦ callOutcome (step digest valid d flash m) state
+      | none ↦ record { answer = refusalNumber refusal.State; compressions = before; state = state; flash = flash }
+      | some d ↦ callOutcome (step digest valid budget d flash m) state before
     ]
 
 -- the boot check: its answer as a number; 1 too for bytes that encode no state

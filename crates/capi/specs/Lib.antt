@@ -5,4 +5,4 @@ pub mod Run
 pub mod Claims
 pub mod FromC
 pub mod StageRead
-pub mod Head
+pub mod Progress

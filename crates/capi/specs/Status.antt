@@ -1,12 +1,15 @@
--- What a caller from C reads off a state's bytes: the device's status, and how long the next block message is.
+-- What a caller from C reads off a state's bytes: the device's status, how long the next block message is, and what it costs.
 use mathlib.Core.Bool.{cond}
 use mathlib.Core.List.{List, [], _∷_}
 use mathlib.Core.Option.{Option, none, some}
 use Prim.Native.Nat.{ℕ}
+use Rattle.sha256.specs.Sha256.{digest}
+use Rattle.wire.specs.declared.manifest.Manifest.{Manifest}
 use Rattle.wire.specs.declared.refusal.Refusal.the-variants as refusal
 use Rattle.wire.specs.Refusal.{refusalNumber}
 use Rattle.wire.specs.Geometry.{countOf}
 use Rattle.wire.specs.Message.{dueLength}
+use Rattle.wire.specs.Cost.{costDue}
 use Rattle.machine.specs.declared.state.Stage.{Stage}
 use Rattle.machine.specs.declared.state.Stage.the-variants.{Idle, Loading, Complete}
 use Rattle.machine.specs.declared.state.Device.{Device}
@@ -49,20 +52,28 @@ status state out =
       | some d ↦ record { answer = 0; out = statusOf d }
     ]
 
--- The length due of the next block message, or that no block is due.
-unfoldable pub dueOf : ℕ → Device → LengthOutcome
-dueOf before d =
-    let s = d .manifest in
+-- A number of the block message that is due, or that no block is due.
+unfoldable pub dueOf : (Manifest → (i : ℕ) → ℕ) → ℕ → Device → LengthOutcome
+dueOf number before d =
     let none-due : LengthOutcome = record { answer = refusalNumber refusal.Stage; written = before } in
-    elim (d .stage) [
-      | Idle ↦ none-due
-      | Loading i ↦ record { answer = 0; written = dueLength (s .«block_len») (s .«image_len») i }
-      | Complete ↦ none-due
-    ]
+    elim (d .stage) [ Idle ↦ none-due | Loading i ↦ record { answer = 0; written = number (d .manifest) i } | Complete ↦ none-due ]
 
-unfoldable pub blockMessageLength : (state : List ℕ) → (before : ℕ) → LengthOutcome
-blockMessageLength state before =
+unfoldable pub readDue : (Manifest → (i : ℕ) → ℕ) → (state : List ℕ) → (before : ℕ) → LengthOutcome
+readDue number state before =
     elim (sensible state) [
       | none ↦ record { answer = refusalNumber refusal.State; written = before }
-      | some d ↦ dueOf before d
+      | some d ↦ dueOf number before d
     ]
+
+-- its length, and what it costs (02, change 7): the total that an accepted one reports
+abbrev pub dueLengthOf : ℕ → Device → LengthOutcome
+dueLengthOf = dueOf (λ s i. dueLength (s .«block_len») (s .«image_len») i)
+
+abbrev pub blockMessageLength : (state : List ℕ) → (before : ℕ) → LengthOutcome
+blockMessageLength = readDue (λ s i. dueLength (s .«block_len») (s .«image_len») i)
+
+abbrev pub dueCostOf : ℕ → Device → LengthOutcome
+dueCostOf = dueOf (costDue digest)
+
+abbrev pub blockMessageCost : (state : List ℕ) → (before : ℕ) → LengthOutcome
+blockMessageCost = readDue (costDue digest)

@@ -1,6 +1,6 @@
 // The interface for C (include/lertxuno.h). A slice crosses as a pointer and a length, a reference to an array or a number as a pointer. A function
-// that returns a number gives 0 or that of a refusal; where it refuses, what it writes through a pointer is as before, but for the line that lertxuno_ihex
-// refuses at.
+// that returns a number gives 0 or that of a refusal, but for lertxuno_digest, which refuses nothing and returns its count; where one refuses, what it writes
+// through a pointer is as before, but for the line that lertxuno_ihex refuses at.
 mod state;
 mod status;
 
@@ -8,26 +8,26 @@ use machine::Answer;
 use machine::Stage;
 use sender::Sent;
 use state::HASHES_AT;
+use state::STAGE_AT;
 use state::STATE_LEN;
 use state::StageRead;
 use status::STATUS_LEN;
 ghost use mathlib.Core.Path.{_≡_};
-ghost use Rattle.sha256.specs.Sha256.{digest};
+ghost use Rattle.sha256.specs.Sha256.{digest, compressions};
 ghost use Rattle.lms.specs.Lms.{valid};
 ghost use Rattle.sender.specs.Job.{inBlocks, job};
 ghost use Rattle.sender.specs.Send.{Does, sendManifest, sendProgram, sendBlock, sendUpdate, sendPath};
 ghost use Rattle.machine.specs.Device.{freshWith};
 ghost use Rattle.capi.specs.State.{encode};
 ghost use Rattle.capi.specs.Call.{verdict, lengthOutcome, readText, receive, bootCheckOf};
-ghost use Rattle.capi.specs.Status.{status, blockMessageLength};
+ghost use Rattle.capi.specs.Status.{status, blockMessageLength, blockMessageCost};
 
-// SHA-256 of the message.
+// SHA-256 of the message, and how many compressions it took.
 #[no_mangle]
-pub extern "C" fn lertxuno_digest(message: &[u8], out: &mut [u8; 32])
-    ensures { λ _. ⌜ now (out .exit) ≡ digest (now (message .entry)) ⌝ }
+pub extern "C" fn lertxuno_digest(message: &[u8], out: &mut [u8; 32]) -> usize
+    ensures { λ r. ⌜ (now (out .exit) ≡ digest (now (message .entry))) × (r ≡ compressions (now (message .entry))) ⌝ }
 {
-    let d = sha256::digest(message);
-    *out = d;
+    sha256::digest(message, out)
 }
 
 // Whether the signature over the message is valid under the key.
@@ -177,10 +177,17 @@ pub extern "C" fn lertxuno_fresh(model: u32, key: &[u8; lms::KEY_LEN], state: &m
     *state = bytes;
 }
 
-// The device takes a message. The hashes stay in the state's bytes: by value they would be copied on the stack.
+// The device takes a message, with a budget of compressions; what an accepted one reports is written to `compressions`. The hashes stay in the state's bytes: by
+// value they would be copied on the stack.
 #[no_mangle]
-pub extern "C" fn lertxuno_receive(state: &mut [u8], flash: &mut [u8], message: &[u8]) -> u32
-    ensures { λ r. ⌜ receive (now (state .entry)) (now (flash .entry)) (now (message .entry)) ≡ record { answer = r; state = now (state .exit); flash = now (flash .exit) } ⌝ }
+pub extern "C" fn lertxuno_receive(
+    state: &mut [u8],
+    flash: &mut [u8],
+    message: &[u8],
+    budget: u32,
+    compressions: &mut u32,
+) -> u32
+    ensures { λ r. ⌜ receive (now (state .entry)) (now (flash .entry)) (now (message .entry)) budget (now (compressions .entry)) ≡ record { answer = r; compressions = now (compressions .exit); state = now (state .exit); flash = now (flash .exit) } ⌝ }
 {
     let StageRead::At(stage) = state::stage_in(state) else {
         return 1;
@@ -196,6 +203,7 @@ pub extern "C" fn lertxuno_receive(state: &mut [u8], flash: &mut [u8], message: 
         &mut state[HASHES_AT..],
         flash,
         message,
+        budget,
     );
     let answer = after.answer;
     let Answer::Accepted = answer else {
@@ -203,13 +211,8 @@ pub extern "C" fn lertxuno_receive(state: &mut [u8], flash: &mut [u8], message: 
     };
     let next_stage = after.stage;
     let next_manifest = after.manifest;
-    state::put_head(
-        &mut state[..HASHES_AT],
-        model,
-        &key,
-        next_stage,
-        next_manifest,
-    );
+    state::put_progress(&mut state[STAGE_AT..HASHES_AT], next_stage, next_manifest);
+    *compressions = after.compressions;
     0
 }
 
@@ -221,7 +224,7 @@ pub extern "C" fn lertxuno_boot_check(state: &[u8], flash: &[u8]) -> u32
     let StageRead::At(stage) = state::stage_in(state) else {
         return 1;
     };
-    let answer = device::boot_check(state::device_in(state, stage), flash);
+    let answer = device::boot_check(stage, state::manifest_in(state), flash);
     wide(device::answer_number(answer))
 }
 
@@ -233,7 +236,8 @@ pub extern "C" fn lertxuno_status(state: &[u8], out: &mut [u32; STATUS_LEN]) -> 
     let StageRead::At(stage) = state::sensible_in(state) else {
         return 1;
     };
-    let numbers = status::status_of(state::device_in(state, stage));
+    let model = octets::u32_at(state, 0);
+    let numbers = status::status_of(model, stage, state::manifest_in(state));
     *out = numbers;
     0
 }
@@ -246,17 +250,29 @@ pub extern "C" fn lertxuno_block_message_length(state: &[u8], length: &mut usize
     let StageRead::At(stage) = state::sensible_in(state) else {
         return 1;
     };
-    match stage {
-        Stage::Idle => 10,
-        Stage::Loading(next) => {
-            let manifest = state::device_in(state, stage).manifest;
-            *length = wire::due_len(
-                manifest.block_len as usize,
-                manifest.image_len as usize,
-                next as usize,
-            );
-            0
-        }
-        Stage::Complete => 10,
-    }
+    let Stage::Loading(next) = stage else {
+        return 10;
+    };
+    let manifest = state::manifest_in(state);
+    *length = wire::due_len(
+        manifest.block_len as usize,
+        manifest.image_len as usize,
+        next as usize,
+    );
+    0
+}
+
+// What the block message that is due next costs, in compressions.
+#[no_mangle]
+pub extern "C" fn lertxuno_block_cost(state: &[u8], compressions: &mut u32) -> u32
+    ensures { λ r. ⌜ blockMessageCost (now (state .entry)) (now (compressions .entry)) ≡ record { answer = r; written = now (compressions .exit) } ⌝ }
+{
+    let StageRead::At(stage) = state::sensible_in(state) else {
+        return 1;
+    };
+    let Stage::Loading(next) = stage else {
+        return 10;
+    };
+    *compressions = wire::cost_due(state::manifest_in(state), next) as u32;
+    0
 }

@@ -3,19 +3,20 @@ use machine::Device;
 use machine::Stage;
 use wire::Manifest;
 ghost use mathlib.Core.Path.{_≡_};
+ghost use Prim.Native.Nat.{_-_};
 ghost use lib.ListN.{length};
 ghost use Rattle.octets.specs.Octets.{part, joined};
 ghost use Rattle.lms.specs.Lms.{keyLength};
 ghost use Rattle.wire.specs.Manifest.{manifestLength, read};
-ghost use Rattle.capi.specs.State.{encode, deviceIn, stageIn, stageNumber, keyAt, manifestAt, hashesAt, stateLength};
+ghost use Rattle.capi.specs.State.{encode, stageIn, stageNumber, keyAt, stageAt, manifestAt, hashesAt, stateLength};
 ghost use Rattle.capi.specs.Status.{sensible};
 ghost use Rattle.capi.specs.StageRead.{stageRead, stageReadOf};
-ghost use Rattle.capi.specs.Head.{headOf};
+ghost use Rattle.capi.specs.Progress.{progressOf};
 
 // Where the fields start: model (4 bytes), key, stage (2), next number (2), manifest, held hashes. specs/State.antt has the same for the contracts.
 const KEY_AT: usize = 4;
 
-const STAGE_AT: usize = KEY_AT + lms::KEY_LEN;
+pub const STAGE_AT: usize = KEY_AT + lms::KEY_LEN;
 
 const NEXT_AT: usize = STAGE_AT + 2;
 
@@ -36,33 +37,33 @@ pub fn stage_number(stage: Stage) -> u16
     }
 }
 
-// Writes the head of a state: what stands before the hashes.
-pub fn put_head(head: &mut [u8], model: u32, key: &[u8], stage: Stage, manifest: Manifest)
-    requires { ⌜ (length (now head) ≡ hashesAt) × (length (now key) ≡ keyLength) ⌝ }
-    ensures { λ _. ⌜ now (head .exit) ≡ joined (headOf model (now (key .entry)) stage manifest) ⌝ }
+// Writes the fields that a message may change, but for the hashes, in their bytes of a state.
+pub fn put_progress(bytes: &mut [u8], stage: Stage, manifest: Manifest)
+    requires { ⌜ length (now bytes) ≡ hashesAt - stageAt ⌝ }
+    ensures { λ _. ⌜ now (bytes .exit) ≡ joined (progressOf stage manifest) ⌝ }
 {
-    let model_bytes = octets::be32(model);
     let stage_bytes = octets::be16(stage_number(stage));
     let next_bytes = octets::be16(device::next_of(stage));
     let manifest_bytes = wire::to_bytes(manifest);
-    octets::copy(head, 0, &model_bytes);
-    octets::copy(head, KEY_AT, key);
-    octets::copy(head, STAGE_AT, &stage_bytes);
-    octets::copy(head, NEXT_AT, &next_bytes);
-    octets::copy(head, MANIFEST_AT, &manifest_bytes);
+    octets::copy(bytes, 0, &stage_bytes);
+    octets::copy(bytes, NEXT_AT - STAGE_AT, &next_bytes);
+    octets::copy(bytes, MANIFEST_AT - STAGE_AT, &manifest_bytes);
 }
 
 // The state's bytes.
 pub fn to_bytes(device: Device) -> [u8; STATE_LEN]
     ensures { λ r. ⌜ r ≡ encode device ⌝ }
 {
+    let model_bytes = octets::be32(device.model);
     let key = device.key;
     let stage = device.stage;
     let manifest = device.manifest;
     let hashes = device.hashes;
     let mut s = [0u8; STATE_LEN];
+    octets::copy(&mut s, 0, &model_bytes);
+    octets::copy(&mut s, KEY_AT, &key);
+    put_progress(&mut s[STAGE_AT..HASHES_AT], stage, manifest);
     octets::copy(&mut s, HASHES_AT, &hashes);
-    put_head(&mut s[..HASHES_AT], device.model, &key, stage, manifest);
     s
 }
 
@@ -104,22 +105,6 @@ pub fn manifest_in(s: &[u8]) -> Manifest
     ensures { λ r. ⌜ r ≡ read (part manifestAt manifestLength (now (s .entry))) ⌝ }
 {
     wire::read(&s[MANIFEST_AT..HASHES_AT])
-}
-
-// The device at this stage; the other fields stand in s.
-pub fn device_in(s: &[u8], stage: Stage) -> Device
-    requires { ⌜ length (now s) ≡ stateLength ⌝ }
-    ensures { λ r. ⌜ r ≡ deviceIn (now (s .entry)) stage ⌝ }
-{
-    let mut hashes = [0u8; merkle::HELD_LEN];
-    octets::copy(&mut hashes, 0, &s[HASHES_AT..STATE_LEN]);
-    Device {
-        model: octets::u32_at(s, 0),
-        key: key_in(s),
-        stage,
-        manifest: manifest_in(s),
-        hashes,
-    }
 }
 
 // The stage in s, where the state makes sense too: refusal 1 does not apply to it.

@@ -50,6 +50,10 @@ past-all fs rest p e = record { same = p .same ∙ behind-piece fs rest (answer-
 pub past-none : {es : List (Refusal × Bool)} (fs rest : List (Refusal × Bool)) → Passes es (fs ++ rest) → firstThatApplies fs ≡ none → Passes es rest
 past-none fs rest p e = record { same = p .same ∙ behind-piece fs rest e }
 
+-- no answer is both
+pub not-both : {A : Type 0} {a : Answer} {r : Refusal} → a ≡ Refused r → a ≡ Accepted → A
+not-both e z = absurd (let w : _≡_ {A = ℕ} 0 1 = cc in omega arith)
+
 -- An update that passed its first tests has a manifest of an allowed size, and room; and so has the current manifest, with the same lengths.
 abbrev pub Known : Manifest → List ℕ → Type 0
 Known s f = (wrongSize (s .«block_len») (s .«image_len») ≡ false) × (tooSmall s f ≡ false)
@@ -78,9 +82,9 @@ known-short Update m e = refl
 known-short PathUpdate m e = refl
 known-short Unknown m e = absurd (let l = ltb-true (length m) 0 e in omega arith)
 
-module _ (H : List ℕ → List ℕ) (valid : (key message signature : List ℕ) → Bool) (d : Device) (f m : List ℕ) where
+module _ (H : List ℕ → List ℕ) (valid : (key message signature : List ℕ) → Bool) (budget : ℕ) (d : Device) (f m : List ℕ) where
   -- 10 of an update
-  pub early-refused : (k : Kind) → early k (d .stage) ≡ true → Refused refusal.Stage ≡ answerOf (firstThatApplies (ofKind H valid k d f m))
+  pub early-refused : (k : Kind) → early k (d .stage) ≡ true → Refused refusal.Stage ≡ answerOf (firstThatApplies (ofKind H valid budget k d f m))
   unfolding updates early ofKind ofUpdate ofPathUpdate ofSuccessor
   early-refused Program e = absurd (true≢false (sym e))
   early-refused Block e = absurd (true≢false (sym e))
@@ -90,10 +94,10 @@ module _ (H : List ℕ → List ℕ) (valid : (key message signature : List ℕ)
 
   -- 4, 5, 6, 7 of the manifest
   pub manifest-refused : (k : Kind) → carries k ≡ true → early k (d .stage) ≡ false → {r : Refusal} → Refused r ≡ answerOf (firstThatApplies (ofManifest d (manifestIn m)))
-      → Refused r ≡ answerOf (firstThatApplies (ofKind H valid k d f m))
+      → Refused r ≡ answerOf (firstThatApplies (ofKind H valid budget k d f m))
   unfolding carries updates early ofKind ofProgram ofUpdate ofPathUpdate ofSuccessor ofManifest
   manifest-refused Program c e q = refused-in (ofManifest d (manifestIn m)) _ (start _) q
   manifest-refused Block c e q = absurd (true≢false (sym c))
-  manifest-refused Update c e q = let n : notComplete (d .stage) ≡ false = e in refused-in (ofManifest d (manifestIn m)) _ (start (ofKind H valid Update d f m) past n) q
-  manifest-refused PathUpdate c e q = let n : notComplete (d .stage) ≡ false = e in refused-in (ofManifest d (manifestIn m)) _ (start (ofKind H valid PathUpdate d f m) past n) q
+  manifest-refused Update c e q = let n : notComplete (d .stage) ≡ false = e in refused-in (ofManifest d (manifestIn m)) _ (start (ofKind H valid budget Update d f m) past n) q
+  manifest-refused PathUpdate c e q = let n : notComplete (d .stage) ≡ false = e in refused-in (ofManifest d (manifestIn m)) _ (start (ofKind H valid budget PathUpdate d f m) past n) q
   manifest-refused Unknown c e q = absurd (true≢false (sym c))

@@ -2,6 +2,7 @@
 use mathlib.Core.Path.{_≡_, refl, sym}
 use mathlib.Core.Logic.{_⊎_, inl, inr, ⊎-elim}
 use mathlib.Core.Bool.{true, false, true≢false}
+use mathlib.Core.List.{List}
 use Prim.Native.Nat.{ℕ, _≤_}
 use native.Mathlib.Omega.{arith}
 use denote.Enum.Declared.{tagOf}
@@ -9,7 +10,9 @@ use Rattle.wire.specs.declared.kind.Kind.{Kind}
 use Rattle.wire.proofs.kind.Kind.{the-type}
 use Rattle.wire.specs.declared.kind.Kind.the-variants.{Program, Block, Update, PathUpdate, Unknown}
 use Rattle.wire.specs.Message.{carries, leastLength}
+use Rattle.machine.specs.declared.state.Device.{Device}
 use Rattle.machine.specs.Refusals.{noKind}
+use Rattle.machine.specs.Step.{total}
 use Rattle.device.specs.Inner.{updates}
 
 -- it is known, and has a manifest's bytes
@@ -28,6 +31,15 @@ carried-long Block e = absurd (true≢false (sym e))
 carried-long Update e = omega arith
 carried-long PathUpdate e = omega arith
 carried-long Unknown e = absurd (true≢false (sym e))
+
+-- its compressions are not counted
+pub carried-free : (H : List ℕ → List ℕ) (k : Kind) → carries k ≡ true → (d : Device) (flash m : List ℕ) → total H k d flash m ≡ 0
+unfolding carries total
+carried-free H Program e d flash m = refl
+carried-free H Block e d flash m = absurd (true≢false (sym e))
+carried-free H Update e d flash m = refl
+carried-free H PathUpdate e d flash m = refl
+carried-free H Unknown e d flash m = refl
 
 -- the arm of those that carry a manifest, and that of the others
 pub carrying : (k : Kind) → (tagOf the-type k ≡ 0) ⊎ ((tagOf the-type k ≡ 2) ⊎ (tagOf the-type k ≡ 3)) → carries k ≡ true

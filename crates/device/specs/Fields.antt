@@ -22,11 +22,15 @@ deviceOf model key stage manifest hashes = record { model = model; key = key; st
 
 -- What a message does to the device that is handed in by its fields: the step. One whose hash array has not `heldBytes` bytes (01's flat
 -- array, with the limit of 02, change 6) is no device: every message is refused 1, and all stays as it was.
-unfoldable pub stepInPlace : Device → (flash m : List ℕ) → Outcome
-stepInPlace d flash m = cond (eqb (length (d .hashes)) heldBytes) (step digest valid d flash m) (record { answer = Refused State; device = d; flash = flash })
+unfoldable pub stepInPlace : (budget : ℕ) → Device → (flash m : List ℕ) → Outcome
+stepInPlace budget d flash m =
+    cond (eqb (length (d .hashes)) heldBytes)
+    (step digest valid budget d flash m)
+    (record { answer = Refused State; compressions = 0; budget = budget; device = d; flash = flash })
 
--- no refusal applies to a device of some model and key that has these fields
+-- no refusal applies to a device of some model and key that has these fields, with some budget
 pub record Unrefused (stage : Stage) (manifest : Manifest) (hashes flash m : List ℕ) : Type 0 where
   pub model : ℕ
   pub key : List ℕ
-  pub unrefused : refusalOf digest valid (deviceOf model key stage manifest hashes) flash m ≡ none
+  pub budget : ℕ
+  pub unrefused : refusalOf digest valid budget (deviceOf model key stage manifest hashes) flash m ≡ none

@@ -4,6 +4,7 @@ use mathlib.Core.Bool.{Bool, true, false, _&&_, cond}
 use mathlib.Core.List.{List, [], _∷_}
 use mathlib.Core.Option.{none}
 use Prim.Native.Nat.{ℕ}
+use Rattle.sha256.specs.Sha256.{digest}
 use Rattle.wire.specs.declared.kind.Kind.{Kind}
 use Rattle.wire.specs.declared.kind.Kind.the-variants as kinds
 use Rattle.wire.specs.declared.manifest.Manifest.{Manifest}
@@ -13,7 +14,7 @@ use Rattle.wire.specs.Refusal.{firstThatApplies}
 use Rattle.wire.specs.Message.{leastLength, manifestIn, blockIn, updateNumber, updateBlock}
 use Rattle.machine.specs.declared.state.Stage.{Stage}
 use Rattle.machine.specs.Device.{nextOf}
-use Rattle.machine.specs.Refusals.{senseless, tooSmall, notLoading, notComplete, notNext, wrongLength, ofManifest}
+use Rattle.machine.specs.Refusals.{senseless, tooSmall, notLoading, notComplete, notNext, wrongLength, spent, ofManifest}
 use Rattle.device.specs.Fields.{deviceOf}
 
 -- an update of either kind
@@ -32,21 +33,22 @@ Sensible stage current = (model : ℕ) (key hashes : List ℕ) → senseless (de
 abbrev pub Newer : ℕ → Stage → Manifest → Manifest → Type 0
 Newer model stage current s = (key hashes : List ℕ) → firstThatApplies (ofManifest (deviceOf model key stage current hashes) s) ≡ none
 
--- what a block message meets before anything is hashed: 10, 8, 11, 12; i is the next number
-unfoldable pub ofPlace : Stage → Manifest → (flash m : List ℕ) → ℕ → List (Refusal × Bool)
-ofPlace stage current flash m i =
+-- what a block message meets before anything is hashed: 10, 8, 11, 12, 20; i is the next number
+unfoldable pub ofUnhashed : (budget : ℕ) → Stage → Manifest → (flash m : List ℕ) → ℕ → List (Refusal × Bool)
+ofUnhashed budget stage current flash m i =
     (refusal.Stage, notLoading stage)
     ∷ (refusal.Area, tooSmall current flash)
     ∷ (refusal.Turn, notNext i m)
     ∷ (refusal.Length, wrongLength current i m)
+    ∷ (refusal.Spent, spent digest budget current i flash m)
     ∷ []
 
 -- Of the block that a message of kind 2 brings, or an update: the manifest of its program, its number, the bytes before it, and its own k bytes.
 unfoldable pub programOf : (update : Bool) → Manifest → List ℕ → Manifest
 programOf update current m = cond update (manifestIn m) current
 
-unfoldable pub numberOf : (update : Bool) → Stage → List ℕ → ℕ
-numberOf update stage m = cond update (updateNumber m) (nextOf stage)
+unfoldable pub blockNumberOf : (update : Bool) → Stage → List ℕ → ℕ
+blockNumberOf update stage m = cond update (updateNumber m) (nextOf stage)
 
 unfoldable pub headOf : (update : Bool) → ℕ
 headOf update = cond update (leastLength kinds.Update) (leastLength kinds.Block)

@@ -102,7 +102,7 @@ fn program_of(update: bool, current: Manifest, message: &[u8]) -> Manifest
 // Its number.
 fn number_of(update: bool, stage: Stage, message: &[u8]) -> u16
     requires { ⌜ inner.headOf update ≤ length (now message) ⌝ }
-    ensures { λ r. ⌜ r ≡ inner.numberOf update stage (now (message .entry)) ⌝ }
+    ensures { λ r. ⌜ r ≡ inner.blockNumberOf update stage (now (message .entry)) ⌝ }
 {
     if update {
         return wire::update_number(message);

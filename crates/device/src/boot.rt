@@ -4,18 +4,20 @@ use crate::conditions::not_complete;
 use crate::conditions::senseless;
 use crate::conditions::too_small;
 use machine::Answer;
-use machine::Device;
+use machine::Stage;
+use wire::Manifest;
 use wire::Refusal;
 ghost use mathlib.Core.Path.{_≡_};
+ghost use mathlib.Core.List.{List};
+ghost use Prim.Native.Nat.{ℕ};
 ghost use Rattle.sha256.specs.Sha256.{digest};
 ghost use Rattle.machine.specs.BootCheck.{bootCheck};
+ghost use Rattle.device.specs.Fields.{deviceOf};
 
 // 1, 10, 8, 19.
-pub fn boot_check(device: Device, flash: &[u8]) -> Answer
-    ensures { λ r. ⌜ r ≡ bootCheck digest device (now (flash .entry)) ⌝ }
+pub fn boot_check(stage: Stage, manifest: Manifest, flash: &[u8]) -> Answer
+    ensures { λ r. ⌜ ((model : ℕ) (key hashes : List ℕ) → r ≡ bootCheck digest (deviceOf model key stage manifest hashes) (now (flash .entry))) ⌝ }
 {
-    let stage = device.stage;
-    let manifest = device.manifest;
     if senseless(stage, manifest) {
         return Answer::Refused(Refusal::State);
     }

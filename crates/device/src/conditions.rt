@@ -2,10 +2,11 @@
 use crate::readers::serial_of;
 use crate::readers::updates;
 use machine::Stage;
+use merkle::Comparison;
 use wire::Kind;
 use wire::Manifest;
 ghost use mathlib.Core.Path.{_≡_};
-ghost use mathlib.Core.Bool.{false, _||_};
+ghost use mathlib.Core.Bool.{false, not, _||_};
 ghost use mathlib.Core.List.{List};
 ghost use Prim.Native.Nat.{ℕ, pred, _*_, _≤_, _<_};
 ghost use lib.Dec.{ltb};
@@ -19,6 +20,7 @@ ghost use Rattle.wire.specs.declared.manifest.Manifest.{Manifest};
 ghost use Rattle.wire.specs.Size.{wrongSize};
 ghost use Rattle.wire.specs.Size as size;
 ghost use Rattle.wire.specs.Geometry.{countOf, blockLength, withBlock};
+ghost use Rattle.wire.specs.Cost.{treeCost, comparisonCost, lastCost};
 ghost use Rattle.wire.specs.Message.{leastLength, leastUpdate, leastPath};
 ghost use Rattle.machine.specs.declared.state.Stage.{Stage};
 ghost use Rattle.machine.specs.declared.state.Stage.the-variants.{Loading};
@@ -192,13 +194,22 @@ pub fn unlike(manifest: Manifest, old: Manifest) -> bool
     manifest.image_len != old.image_len
 }
 
-// 14, kind 2: the hash worked out from block and message is not the held one.
-pub fn mismatch(manifest: Manifest, hashes: &[u8], next: u16, message: &[u8]) -> bool
+// 20, kind 2: the message of the next block costs more than the budget. Nothing is hashed to know it.
+pub fn spent(manifest: Manifest, next: u16, budget: u32) -> bool
+    requires { ⌜ (wrongSize (manifest .«block_len») (manifest .«image_len») ≡ false) × (0 < next) × (next ≤ countOf manifest) ⌝ }
+    ensures { λ r. ⌜ ((flash m : List ℕ) → tooSmall manifest flash ≡ false → wrongLength manifest next m ≡ false → r ≡ spec.spent digest budget manifest next flash m) ⌝ }
+{
+    (budget as usize) < wire::cost_due(manifest, next)
+}
+
+// 14, kind 2: whether the hash worked out from block and message is the held one.
+pub fn compare(manifest: Manifest, hashes: &[u8], next: u16, message: &[u8]) -> Comparison
     requires { ⌜ (wrongSize (manifest .«block_len») (manifest .«image_len») ≡ false) × (length (now hashes) ≡ heldBytes) × (0 < next) × (next ≤ countOf manifest) × (wrongLength manifest next (now message) ≡ false) ⌝ }
-    ensures { λ r. ⌜ ((model : ℕ) (key : List ℕ) → r ≡ spec.mismatch digest (deviceOf model key (Loading next) manifest (now (hashes .entry))) next (now (message .entry))) ⌝ }
+    ensures { λ r. ⌜ ((model : ℕ) (key : List ℕ) → not (r .same) ≡ spec.mismatch digest (deviceOf model key (Loading next) manifest (now (hashes .entry))) next (now (message .entry)))
+        × (r .compressions ≡ comparisonCost digest manifest next (now (message .entry))) ⌝ }
 {
     let len = wire::own_len(manifest, next);
-    !merkle::fits(
+    merkle::fits(
         hashes,
         wire::count_of(manifest),
         next as usize - 1,
@@ -214,41 +225,53 @@ pub fn lacks_root(manifest: Manifest, flash: &[u8]) -> bool
 {
     let root = manifest.root;
     let end = manifest.image_len as usize;
-    let tree = merkle::root(
+    let mut tree = [0u8; merkle::HASH_LEN];
+    merkle::root(
         &flash[..end],
         manifest.block_len as usize,
         wire::count_of(manifest),
+        &mut tree,
     );
     !octets::equal(&tree, &root)
 }
 
-// 14 of kind 3, for the new manifest, and 19 of kind 2: the tree over the flash with the block in place lacks its root. The flash is only read.
-pub fn lacks_root_with(manifest: Manifest, flash: &[u8], number: u16, block: &[u8]) -> bool
+// 14 of kind 3, for the new manifest, and 19 of kind 2: whether the tree over the flash with the block in place has its root. The flash is only read.
+pub fn compare_with(manifest: Manifest, flash: &[u8], number: u16, block: &[u8]) -> Comparison
     requires { ⌜ (wrongSize (manifest .«block_len») (manifest .«image_len») ≡ false) × (tooSmall manifest (now flash) ≡ false) × (size.outside (countOf manifest) number ≡ false) × (length (now block) ≡ blockLength (manifest .«block_len») (manifest .«image_len») number) ⌝ }
-    ensures { λ r. ⌜ r ≡ spec.lacksRoot digest manifest (withBlock (manifest .«block_len») (now (flash .entry)) number (now (block .entry))) ⌝ }
+    ensures { λ r. ⌜ (not (r .same) ≡ spec.lacksRoot digest manifest (withBlock (manifest .«block_len») (now (flash .entry)) number (now (block .entry))))
+        × (r .compressions ≡ treeCost digest manifest (withBlock (manifest .«block_len») (now (flash .entry)) number (now (block .entry)))) ⌝ }
 {
     let root = manifest.root;
     let end = manifest.image_len as usize;
-    let found = merkle::root_with(
+    let mut found = [0u8; merkle::HASH_LEN];
+    let took = merkle::root_with(
         &flash[..end],
         manifest.block_len as usize,
         wire::count_of(manifest),
         number as usize - 1,
         block,
+        &mut found,
     );
-    !octets::equal(&found, &root)
+    Comparison {
+        same: octets::equal(&found, &root),
+        compressions: took,
+    }
 }
 
-// 19, kind 2: this is the last block, and the tree over the flash with it in place lacks the root of the current manifest.
-pub fn last_altered(manifest: Manifest, next: u16, flash: &[u8], message: &[u8]) -> bool
+// 19, kind 2: where this is the last block, whether the tree over the flash with it in place has the root of the current manifest.
+pub fn compare_last(manifest: Manifest, next: u16, flash: &[u8], message: &[u8]) -> Comparison
     requires { ⌜ (wrongSize (manifest .«block_len») (manifest .«image_len») ≡ false) × (tooSmall manifest (now flash) ≡ false) × (0 < next) × (next ≤ countOf manifest) × (wrongLength manifest next (now message) ≡ false) ⌝ }
-    ensures { λ r. ⌜ r ≡ spec.lastAltered digest manifest next (now (flash .entry)) (now (message .entry)) ⌝ }
+    ensures { λ r. ⌜ (not (r .same) ≡ spec.lastAltered digest manifest next (now (flash .entry)) (now (message .entry)))
+        × (r .compressions ≡ lastCost digest manifest next (now (flash .entry)) (now (message .entry))) ⌝ }
 {
     if next as usize != wire::count_of(manifest) {
-        return false;
+        return Comparison {
+            same: true,
+            compressions: 0,
+        };
     }
     let len = wire::own_len(manifest, next);
-    lacks_root_with(manifest, flash, next, wire::block_in(message, len))
+    compare_with(manifest, flash, next, wire::block_in(message, len))
 }
 
 // 15 and 14, kind 4: the block with these siblings does not lead to the root.
@@ -262,11 +285,13 @@ pub fn strays(
     requires { ⌜ (wrongSize (manifest .«block_len») (manifest .«image_len») ≡ false) × (size.outside (countOf manifest) number ≡ false) × (length (now siblings) ≡ hashLength * leafDepth (countOf manifest) (pred number)) ⌝ }
     ensures { λ r. ⌜ r ≡ spec.strays digest manifest number (now (block .entry)) (now (siblings .entry)) (now (root .entry)) ⌝ }
 {
-    let found = merkle::path_hash(
+    let mut found = [0u8; merkle::HASH_LEN];
+    merkle::path_hash(
         wire::count_of(manifest),
         number as usize - 1,
         block,
         siblings,
+        &mut found,
     );
     !octets::equal(&found, root)
 }

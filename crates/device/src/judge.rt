@@ -1,18 +1,19 @@
 // The first refusal that applies, if any: the tests of each kind, in the papers' order. Nothing is written here. A function is handed those fields of the
-// device that its tests look at. Its callers meet its `requires`: `receive_in_place` calls `judge`, and all other calls stand in this file.
+// device that its tests look at or its contract names. Its callers meet its `requires`: `receive_in_place` calls `judge`, and all other calls stand in this file.
 use crate::conditions::below_least_path;
 use crate::conditions::below_least_update;
+use crate::conditions::compare;
+use crate::conditions::compare_last;
+use crate::conditions::compare_with;
 use crate::conditions::early;
 use crate::conditions::lacks_root;
-use crate::conditions::lacks_root_with;
-use crate::conditions::last_altered;
-use crate::conditions::mismatch;
 use crate::conditions::not_loading;
 use crate::conditions::not_newer;
 use crate::conditions::not_next;
 use crate::conditions::other_model;
 use crate::conditions::outside;
 use crate::conditions::senseless;
+use crate::conditions::spent;
 use crate::conditions::strays;
 use crate::conditions::too_small;
 use crate::conditions::unlike;
@@ -41,13 +42,33 @@ ghost use Rattle.wire.specs.Refusal.{firstThatApplies};
 ghost use Rattle.wire.specs.Size.{wrongSize};
 ghost use Rattle.wire.specs.Size as size;
 ghost use Rattle.wire.specs.Geometry.{countOf, blocksOf};
+ghost use Rattle.wire.specs.Cost.{blockCost};
 ghost use Rattle.wire.specs.Message.{carries, leastLength, manifestIn, updateNumber, updateBlock, pathIn};
 ghost use Rattle.machine.specs.Device.{nextOf};
-ghost use Rattle.machine.specs.Refusals.{notComplete, tooSmall, ofKind, ofManifest, ofProgram, ofBlock, ofSuccessor, ofUpdate, ofPathUpdate, refusals};
+ghost use Rattle.machine.specs.Refusals.{notComplete, tooSmall, ofKind, ofManifest, ofProgram, ofBlock, ofSuccessor, ofUpdate, ofPathUpdate};
 ghost use Rattle.machine.specs.Refusals as spec;
+ghost use Rattle.machine.specs.declared.state.Answer.the-variants.{Accepted};
 ghost use Rattle.machine.specs.Step.{answerOf};
+ghost use Rattle.device.specs.Judged.{Judged};
 ghost use Rattle.device.specs.Fields.{deviceOf};
-ghost use Rattle.device.specs.Inner.{Sensible, Newer, ofPlace};
+ghost use Rattle.device.specs.Inner.{Sensible, Newer, ofUnhashed};
+
+// The first refusal that applies, if any, and what an accepted message reports, in SHA-256 compressions: a block's total, 0 for the other kinds; where it is
+// refused the number means nothing.
+pub struct Judgement {
+    pub answer: Answer,
+    pub compressions: u32,
+}
+
+// The judgement on a message whose compressions are not counted.
+fn uncounted(answer: Answer) -> Judgement
+    ensures { λ r. ⌜ (r .answer ≡ answer) × (r .compressions ≡ 0) ⌝ }
+{
+    Judgement {
+        answer,
+        compressions: 0,
+    }
+}
 
 // Always 1, 2, 3; then those of the kind. No message of an unknown kind is short, so 2 can wait for the match.
 pub fn judge(
@@ -59,22 +80,29 @@ pub fn judge(
     kind: Kind,
     flash: &[u8],
     message: &[u8],
-) -> Answer
+    budget: u32,
+) -> Judgement
     requires { ⌜ length (now hashes) ≡ heldBytes ⌝ }
-    ensures { λ r. ⌜ r ≡ answerOf (firstThatApplies (refusals digest valid kind (deviceOf model (now (key .entry)) stage current (now (hashes .entry))) (now (flash .entry)) (now (message .entry)))) ⌝ }
+    ensures { λ r. ⌜ Judged budget kind (deviceOf model (now (key .entry)) stage current (now (hashes .entry))) (now (flash .entry)) (now (message .entry)) r ⌝ }
 {
     if senseless(stage, current) {
-        return Answer::Refused(Refusal::State);
+        return uncounted(Answer::Refused(Refusal::State));
     }
     if wire::short(kind, message) {
-        return Answer::Refused(Refusal::Short);
+        return uncounted(Answer::Refused(Refusal::Short));
     }
     match kind {
-        Kind::Unknown => Answer::Refused(Refusal::Kind),
-        Kind::Block => judge_block(stage, current, hashes, flash, message),
-        Kind::Program | Kind::Update | Kind::PathUpdate => {
-            judge_carrier(model, key, stage, current, kind, flash, message)
-        }
+        Kind::Unknown => uncounted(Answer::Refused(Refusal::Kind)),
+        Kind::Block => judge_block(stage, current, hashes, flash, message, budget),
+        Kind::Program | Kind::Update | Kind::PathUpdate => uncounted(judge_carrier(
+            model,
+            key,
+            stage,
+            current,
+            kind,
+            flash,
+            message,
+        )),
     }
 }
 
@@ -90,7 +118,7 @@ fn judge_carrier(
     message: &[u8],
 ) -> Answer
     requires { ⌜ (carries kind ≡ true) × (leastLength kind ≤ length (now message)) ⌝ }
-    ensures { λ r. ⌜ ((hashes : List ℕ) → r ≡ answerOf (firstThatApplies (ofKind digest valid kind (deviceOf model (now (key .entry)) stage current hashes) (now (flash .entry)) (now (message .entry))))) ⌝ }
+    ensures { λ r. ⌜ ((budget : ℕ) (hashes : List ℕ) → r ≡ answerOf (firstThatApplies (ofKind digest valid budget kind (deviceOf model (now (key .entry)) stage current hashes) (now (flash .entry)) (now (message .entry))))) ⌝ }
 {
     if early(kind, stage) {
         return Answer::Refused(Refusal::Stage);
@@ -154,11 +182,17 @@ fn judge_program(
     Answer::Accepted
 }
 
-// The first of kind 2, before anything is hashed: 10, 8, 11, 12. In a function of their own, so that the compiler does not take the tree behind them for a rare
+// The first of kind 2, before anything is hashed: 10, 8, 11, 12, 20. In a function of their own, so that the compiler does not take the tree behind them for a rare
 // case and give it a frame of its own above the device's.
-fn judge_place(stage: Stage, current: Manifest, flash: &[u8], message: &[u8]) -> Answer
+fn judge_unhashed(
+    stage: Stage,
+    current: Manifest,
+    flash: &[u8],
+    message: &[u8],
+    budget: u32,
+) -> Answer
     requires { ⌜ Sensible stage current × (leastLength kinds.Block ≤ length (now message)) ⌝ }
-    ensures { λ r. ⌜ r ≡ answerOf (firstThatApplies (ofPlace stage current (now (flash .entry)) (now (message .entry)) (nextOf stage))) ⌝ }
+    ensures { λ r. ⌜ r ≡ answerOf (firstThatApplies (ofUnhashed budget stage current (now (flash .entry)) (now (message .entry)) (nextOf stage))) ⌝ }
 {
     if not_loading(stage) {
         return Answer::Refused(Refusal::Stage);
@@ -173,32 +207,42 @@ fn judge_place(stage: Stage, current: Manifest, flash: &[u8], message: &[u8]) ->
     if wrong_length(current, next, message) {
         return Answer::Refused(Refusal::Length);
     }
+    if spent(current, next, budget) {
+        return Answer::Refused(Refusal::Spent);
+    }
     Answer::Accepted
 }
 
-// Kind 2: those of `judge_place`, then 14, 19. The last block's message walks the whole tree; a damaged one does not come so far.
+// Kind 2: those of `judge_unhashed`, then 14, 19, with what both comparisons took. The last block's message walks the whole tree; a damaged one does not come so far.
 fn judge_block(
     stage: Stage,
     current: Manifest,
     hashes: &[u8],
     flash: &[u8],
     message: &[u8],
-) -> Answer
+    budget: u32,
+) -> Judgement
     requires { ⌜ Sensible stage current × (length (now hashes) ≡ heldBytes) × (leastLength kinds.Block ≤ length (now message)) ⌝ }
-    ensures { λ r. ⌜ ((model : ℕ) (key : List ℕ) → r ≡ answerOf (firstThatApplies (ofBlock digest (deviceOf model key stage current (now (hashes .entry))) (now (flash .entry)) (now (message .entry)) (nextOf stage)))) ⌝ }
+    ensures { λ r. ⌜ ((model : ℕ) (key : List ℕ) → r .answer ≡ answerOf (firstThatApplies (ofBlock digest budget (deviceOf model key stage current (now (hashes .entry))) (now (flash .entry)) (now (message .entry)) (nextOf stage))))
+        × (r .answer ≡ Accepted → r .compressions ≡ blockCost digest current (nextOf stage) (now (flash .entry)) (now (message .entry))) ⌝ }
 {
-    let first = judge_place(stage, current, flash, message);
+    let first = judge_unhashed(stage, current, flash, message, budget);
     let Answer::Accepted = first else {
-        return first;
+        return uncounted(first);
     };
     let next = next_of(stage);
-    if mismatch(current, hashes, next, message) {
-        return Answer::Refused(Refusal::Mismatch);
+    let own = compare(current, hashes, next, message);
+    if !own.same {
+        return uncounted(Answer::Refused(Refusal::Mismatch));
     }
-    if last_altered(current, next, flash, message) {
-        return Answer::Refused(Refusal::Altered);
+    let whole = compare_last(current, next, flash, message);
+    if !whole.same {
+        return uncounted(Answer::Refused(Refusal::Altered));
     }
-    Answer::Accepted
+    Judgement {
+        answer: Answer::Accepted,
+        compressions: (own.compressions + whole.compressions) as u32,
+    }
 }
 
 // An update of either kind: 10, 4, 5, 6, 7, which have passed, then 13, 8.
@@ -256,7 +300,8 @@ fn judge_update(
     ) {
         return Answer::Refused(Refusal::Unsigned);
     }
-    if lacks_root_with(manifest, flash, number, wire::update_block(message, len)) {
+    let tree = compare_with(manifest, flash, number, wire::update_block(message, len));
+    if !tree.same {
         return Answer::Refused(Refusal::Mismatch);
     }
     Answer::Accepted

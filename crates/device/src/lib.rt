@@ -43,9 +43,11 @@ pub fn fresh(model: u32, key: [u8; lms::KEY_LEN]) -> Device
     }
 }
 
-// The answer to a message, and what it makes of stage and manifest.
+// The answer to a message, the compressions that it reports, the budget that it was held against, and what it makes of stage and manifest.
 pub struct InPlaceOutcome {
     pub answer: Answer,
+    pub compressions: u32,
+    pub budget: u32,
     pub stage: Stage,
     pub manifest: Manifest,
 }
@@ -60,21 +62,37 @@ pub fn receive_in_place(
     hashes: &mut [u8],
     flash: &mut [u8],
     message: &[u8],
+    budget: u32,
 ) -> InPlaceOutcome
-    ensures { λ r. ⌜ stepInPlace (deviceOf model (now (key .entry)) stage manifest (now (hashes .entry))) (now (flash .entry)) (now (message .entry)) ≡ record { answer = r .answer; device = deviceOf model (now (key .entry)) (r .stage) (r .manifest) (now (hashes .exit)); flash = now (flash .exit) } ⌝ }
+    ensures { λ r. ⌜ stepInPlace budget (deviceOf model (now (key .entry)) stage manifest (now (hashes .entry))) (now (flash .entry)) (now (message .entry)) ≡ record { answer = r .answer; compressions = r .compressions; budget = r .budget; device = deviceOf model (now (key .entry)) (r .stage) (r .manifest) (now (hashes .exit)); flash = now (flash .exit) } ⌝ }
 {
     if hashes.len() != merkle::HELD_LEN {
         return InPlaceOutcome {
             answer: Answer::Refused(Refusal::State),
+            compressions: 0,
+            budget,
             stage,
             manifest,
         };
     }
     let kind = wire::kind_of(message);
-    let answer = judge::judge(model, key, stage, manifest, hashes, kind, flash, message);
+    let judgement = judge::judge(
+        model,
+        key,
+        stage,
+        manifest,
+        hashes,
+        kind,
+        flash,
+        message,
+        budget,
+    );
+    let answer = judgement.answer;
     let Answer::Accepted = answer else {
         return InPlaceOutcome {
             answer,
+            compressions: 0,
+            budget,
             stage,
             manifest,
         };
@@ -84,20 +102,25 @@ pub fn receive_in_place(
     let next_manifest = next.manifest;
     InPlaceOutcome {
         answer,
+        compressions: judgement.compressions,
+        budget,
         stage: next_stage,
         manifest: next_manifest,
     }
 }
 
-// The answer to a message, and the device after it.
+// The answer to a message, with 01's "count and caller's budget as numbers in the result": the compressions that it reports and the budget that it was held
+// against; and the device after it.
 pub struct Outcome {
     pub answer: Answer,
+    pub compressions: u32,
+    pub budget: u32,
     pub device: Device,
 }
 
-// Answers a message to a device that is handed over whole.
-pub fn receive(device: Device, flash: &mut [u8], message: &[u8]) -> Outcome
-    ensures { λ r. ⌜ step digest valid device (now (flash .entry)) (now (message .entry)) ≡ record { answer = r .answer; device = r .device; flash = now (flash .exit) } ⌝ }
+// Answers a message, which came with this budget of SHA-256 compressions, to a device that is handed over whole.
+pub fn receive(device: Device, flash: &mut [u8], message: &[u8], budget: u32) -> Outcome
+    ensures { λ r. ⌜ step digest valid budget device (now (flash .entry)) (now (message .entry)) ≡ record { answer = r .answer; compressions = r .compressions; budget = r .budget; device = r .device; flash = now (flash .exit) } ⌝ }
 {
     let key = device.key;
     let stage = device.stage;
@@ -111,12 +134,15 @@ pub fn receive(device: Device, flash: &mut [u8], message: &[u8]) -> Outcome
         &mut hashes,
         flash,
         message,
+        budget,
     );
     let answer = after.answer;
     let stage = after.stage;
     let manifest = after.manifest;
     Outcome {
         answer,
+        compressions: after.compressions,
+        budget: after.budget,
         device: Device {
             model: device.model,
             key,

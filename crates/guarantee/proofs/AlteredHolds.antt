@@ -23,7 +23,7 @@ use Rattle.machine.specs.declared.state.Answer.the-variants.{Accepted, Refused}
 use Rattle.machine.specs.Device.{Fresh, nextOf, OutcomeOf, Situation, Outcome}
 use Rattle.machine.specs.Flash.{stored, updated}
 use Rattle.machine.specs.Refusals.{senseless, tooSmall, notLoading, notComplete, notNext, wrongLength, mismatch, lacksRoot, lastAltered, ofManifest, always, ofProgram, ofBlock, ofSuccessor, ofUpdate, ofPathUpdate, ofKind, refusals}
-use Rattle.machine.specs.Step.{acceptBlock, acceptUpdate, accept, answerOf, refusalOf, step}
+use Rattle.machine.specs.Step.{acceptBlock, acceptUpdate, accept, answerOf, refusalOf, step, stepCall}
 use Rattle.machine.specs.BootCheck.{ofBoot, bootCheck}
 use Rattle.machine.proofs.RefusalLaws.{testOf, ahead, behind, clear, answer-none, answer-some, start, _past_, has-root, lacks-none, Successor, block-passed, update-passed, path-passed, path-block}
 use Rattle.machine.proofs.SenseLaws.{not-complete, complete-size, sense-complete}
@@ -62,9 +62,10 @@ boot-proves H hash-long d flash e =
     }
 
 -- an accepted call, and the boot check after it
-module _ (H : List ℕ → List ℕ) (valid : (key message signature : List ℕ) → Bool) (d : Device) (flash m : List ℕ) (e : refusalOf H valid d flash m ≡ none) where
+module _ (H : List ℕ → List ℕ) (valid : (key message signature : List ℕ) → Bool) (budget : ℕ) (d : Device) (flash m : List ℕ)
+    (e : refusalOf H valid budget d flash m ≡ none) where
   abbrev o : Outcome
-  o = step H valid d flash m
+  o = step H valid budget d flash m
 
   -- an update of either kind leaves a complete device that makes sense
   boots-updated : {least : ℕ} {signature : List ℕ} → Successor H valid d flash m least signature
@@ -73,7 +74,7 @@ module _ (H : List ℕ → List ℕ) (valid : (key message signature : List ℕ)
   unfolding acceptUpdate
   boots-updated p long is root =
       let stage : d .stage ≡ Complete = not-complete (d .stage) (p .complete) in
-      rw (accepted-step H valid d flash m e, is)
+      rw (accepted-step H valid budget d flash m e, is)
       (boots H (acceptUpdate d flash m .device) _ (sense-complete (acceptUpdate d flash m .device) (p .version) (p .size) stage) stage
       (record { room = rw (length-updated H valid d flash m p long) (p .room); root = root }))
 
@@ -81,27 +82,28 @@ module _ (H : List ℕ → List ℕ) (valid : (key message signature : List ℕ)
   boots-last : kind m ≡ Block → Rooted H (d .manifest) (o .flash) → o .device .stage ≡ Complete → bootCheck H (o .device) (o .flash) ≡ Accepted
   unfolding accept acceptBlock
   boots-last k =
-      let w = block-passed H valid d flash m k e .awaited in
-      rw (accepted-step H valid d flash m e, k)
+      let w = block-passed H valid d flash m budget k e .awaited in
+      rw (accepted-step H valid budget d flash m e, k)
       (λ r c. boots H (acceptBlock d flash m .device) _ (sense-complete (acceptBlock d flash m .device) (w .version) (sized _ _ (w .size)) c) c r)
 
   boots-update : kind m ≡ Update → bootCheck H (o .device) (o .flash) ≡ Accepted
   unfolding accept
-  boots-update k = let p = update-passed H valid d flash m k e in boots-updated (p .successor) (p .successor .long) (rw k) (p .rooted)
+  boots-update k = let p = update-passed H valid d flash m budget k e in boots-updated (p .successor) (p .successor .long) (rw k) (p .rooted)
 
   boots-path : ((x : List ℕ) → length (H x) ≡ hashLength) → kind m ≡ PathUpdate → treeOver H (d .manifest) flash ≡ d .manifest .root
       → (bootCheck H (o .device) (o .flash) ≡ Accepted) ⊎ Clash H flash m
   unfolding accept
   boots-path hash-long k root =
-      let p = path-passed H valid d flash m k e in
+      let p = path-passed H valid d flash m budget k e in
       ⊎-elim (λ r. inl (boots-updated (p .successor) (path-block H valid d flash m p) (rw k) r)) (λ c. inr c) (path-tree H hash-long valid d flash m p root)
 
 pub boot-after : (H : List ℕ → List ℕ) (valid : (key message signature : List ℕ) → Bool) → BootAfter H valid
-boot-after H valid d flash m a (inl k) = boots-update H valid d flash m (unrefused H valid d flash m a) k
-boot-after H valid d flash m a (inr (k, c)) = boots-last H valid d flash m (unrefused H valid d flash m a) k (each-call H valid d flash m .last k a c) c
+boot-after H valid budget d flash m a (inl k) = boots-update H valid budget d flash m (unrefused H valid budget d flash m a) k
+boot-after H valid budget d flash m a (inr (k, c)) = boots-last H valid budget d flash m (unrefused H valid budget d flash m a) k (each-call H valid budget d flash m .last k a c) c
 
 pub boot-kept : (H : List ℕ → List ℕ) → ((x : List ℕ) → length (H x) ≡ hashLength) → (valid : (key message signature : List ℕ) → Bool) → BootKept H valid
-boot-kept H hash-long valid d flash m b k a = boots-path H valid d flash m (unrefused H valid d flash m a) hash-long k (boot-proves H hash-long d flash b .intact .rooted)
+boot-kept H hash-long valid budget d flash m b k a =
+    boots-path H valid budget d flash m (unrefused H valid budget d flash m a) hash-long k (boot-proves H hash-long d flash b .intact .rooted)
 
 -- two tests of which the second is false where the first is true
 not-both : (s t : Bool) → (s ≡ true → t ≡ false) → s && t ≡ false
@@ -115,15 +117,15 @@ pub data FoundAltered (H : List ℕ → List ℕ) (d : Device) (flash m : List �
       → lastAltered H (d .manifest) (nextOf (d .stage)) flash m ≡ true → FoundAltered H d flash m
   at-update : kind m ≡ Update → notComplete (d .stage) ≡ false → lacksRoot H (d .manifest) flash ≡ true → FoundAltered H d flash m
 
-module _ (H : List ℕ → List ℕ) (valid : (key message signature : List ℕ) → Bool) (d : Device) (flash m : List ℕ) where
+module _ (H : List ℕ → List ℕ) (valid : (key message signature : List ℕ) → Bool) (budget : ℕ) (d : Device) (flash m : List ℕ) where
   -- 19 is the first of the refusals of kind k
   abbrev First : Kind → Type 0
-  First k = firstThatApplies (refusals H valid k d flash m) ≡ some refusal.Altered
+  First k = firstThatApplies (refusals H valid budget k d flash m) ≡ some refusal.Altered
 
   found-block : kind m ≡ Block → First Block → FoundAltered H d flash m
   unfolding refusals always ofKind ofBlock lacks testOf ahead notNext wrongLength
   found-block e f =
-      let before = ahead refusal.Altered (refusals H valid Block d flash m) in
+      let before = ahead refusal.Altered (refusals H valid budget Block d flash m) in
       let o = its-own refusal.Altered before [] _ refl refl f in
       at-block e (clear refusal.Stage before (o .0)) (eqb-true _ _ (not-false _ (clear refusal.Turn before (o .0)))) (eqb-true _ _ (not-false _ (clear refusal.Length before (o .0))))
       (clear refusal.Mismatch before (o .0)) (o .1)
@@ -131,8 +133,8 @@ module _ (H : List ℕ → List ℕ) (valid : (key message signature : List ℕ)
   found-update : kind m ≡ Update → First Update → FoundAltered H d flash m
   unfolding refusals always ofKind ofManifest ofSuccessor ofUpdate lacks testOf ahead behind
   found-update e f =
-      let before = ahead refusal.Altered (refusals H valid Update d flash m) in
-      let o = its-own refusal.Altered before (behind refusal.Altered (refusals H valid Update d flash m)) _ refl refl f in
+      let before = ahead refusal.Altered (refusals H valid budget Update d flash m) in
+      let o = its-own refusal.Altered before (behind refusal.Altered (refusals H valid budget Update d flash m)) _ refl refl f in
       at-update e (clear refusal.Stage before (o .0)) (o .1)
 
   by-kind : (k : Kind) → kind m ≡ k → First k → FoundAltered H d flash m
@@ -143,7 +145,7 @@ module _ (H : List ℕ → List ℕ) (valid : (key message signature : List ℕ)
   by-kind PathUpdate e f = absurd (never refusal.Altered _ refl f)
   by-kind Unknown e f = absurd (never refusal.Altered _ refl f)
 
-  pub found-altered : refusalOf H valid d flash m ≡ some refusal.Altered → FoundAltered H d flash m
+  pub found-altered : refusalOf H valid budget d flash m ≡ some refusal.Altered → FoundAltered H d flash m
   unfolding refusalOf
   found-altered a = by-kind (kind m) refl a
 
@@ -204,8 +206,9 @@ module _ (H : List ℕ → List ℕ) (hash-long : (x : List ℕ) → length (H x
         boot = still-boots sense;
       }
 
-pub nobody-else : (H : List ℕ → List ℕ) → ((x : List ℕ) → length (H x) ≡ hashLength) → (valid : (key message signature : List ℕ) → Bool) → NobodyElse H valid (whole H valid) (step H valid)
-nobody-else H hash-long valid d fresh flash ms =
-    untouched H hash-long valid (whole H valid) (step H valid) (serves H valid)
-    (λ d f m n a. found-altered H valid d f m (answer-some _ _ (sym (answered H valid d f m) ∙ a))) d fresh flash ms
-    (makes-sense H valid (step H valid) (demand3-for H hash-long valid) d fresh flash ms)
+pub nobody-else : (H : List ℕ → List ℕ) → ((x : List ℕ) → length (H x) ≡ hashLength) → (valid : (key message signature : List ℕ) → Bool) → NobodyElse H valid (whole H valid) (stepCall H valid)
+unfolding stepCall
+nobody-else H hash-long valid d fresh flash cs =
+    untouched H hash-long valid (whole H valid) (stepCall H valid) (serves H valid)
+    (λ d f c n a. found-altered H valid (c .budget) d f (c .message) (answer-some _ _ (sym (answered H valid (c .budget) d f (c .message)) ∙ a))) d fresh flash cs
+    (makes-sense H valid (stepCall H valid) (demand3-for H hash-long valid) d fresh flash cs)

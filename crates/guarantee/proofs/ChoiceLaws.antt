@@ -23,15 +23,26 @@ unfolding answerOf
 by-number none = refl
 by-number (some x) = refl
 
-outcome-answer : {D F : Type 0} (r : Option Refusal) (d : D) (f : F) (t : SituationOf D F) → outcome r d f t .answer ≡ answerOf r
-unfolding outcome answerOf
-outcome-answer none d f t = refl
-outcome-answer (some x) d f t = refl
+module _ {D F : Type 0} (budget cost : ℕ) (d : D) (f : F) (t : SituationOf D F) where
+  pub outcome-answer : (r : Option Refusal) → outcome r budget cost d f t .answer ≡ answerOf r
+  unfolding outcome answerOf
+  outcome-answer none = refl
+  outcome-answer (some x) = refl
+
+  pub outcome-reports : (r : Option Refusal)
+      → (let o = outcome r budget cost d f t in (o .compressions ≡ elim (o .answer) [ Accepted ↦ cost | Refused x ↦ 0 ]) × (o .budget ≡ budget))
+  unfolding outcome
+  outcome-reports none = (refl, refl)
+  outcome-reports (some x) = (refl, refl)
 
 module _ (H : List ℕ → List ℕ) (valid : (key message signature : List ℕ) → Bool) {D F C : Type 0} (part : Part D F C) (step : D → F → C → OutcomeOf D F)
-    (to : D → F → C → SituationOf D F) (chosen : (d : D) (f : F) (c : C) → step d f c ≡ outcome (part .refusal d f c) d f (to d f c)) where
+    (to : D → F → C → SituationOf D F) (chosen : (d : D) (f : F) (c : C) → step d f c ≡ outcome (part .refusal d f c) (part .budget c) (part .total d f c) d f (to d f c)) where
   pub given : (d : D) (f : F) (c : C) → step d f c .answer ≡ answerOf (part .refusal d f c)
-  given d f c = ap (λ o. o .answer) (chosen d f c) ∙ outcome-answer (part .refusal d f c) d f (to d f c)
+  given d f c = ap (λ o. o .answer) (chosen d f c) ∙ outcome-answer (part .budget c) (part .total d f c) d f (to d f c) (part .refusal d f c)
+
+  reported : (d : D) (f : F) (c : C)
+      → (step d f c .compressions ≡ elim (step d f c .answer) [ Accepted ↦ part .total d f c | Refused r ↦ 0 ]) × (step d f c .budget ≡ part .budget c)
+  reported d f c = rw (chosen d f c) (outcome-reports (part .budget c) (part .total d f c) d f (to d f c) (part .refusal d f c))
 
   pub accepted-none : (d : D) (f : F) (c : C) → step d f c .answer ≡ Accepted → part .refusal d f c ≡ none
   accepted-none d f c e = answer-none (part .refusal d f c) (sym (given d f c) ∙ e)
@@ -92,6 +103,7 @@ module _ (H : List ℕ → List ℕ) (valid : (key message signature : List ℕ)
           answers = λ c. given (s .device) (s .flash) c;
           numbers = λ c. ap numberOf (given (s .device) (s .flash) c) ∙ by-number (part .refusal (s .device) (s .flash) c);
           refused = λ c r e. left-refused (s .device) (s .flash) c r e;
+          reports = λ c n. reported (s .device) (s .flash) c;
           leaves = λ c n. let e = elsewhere (s .device) (s .flash) c n in (ap (λ (t : Situation). t .device) e, ap (λ (t : Situation). t .flash) e);
           model = keeps H valid part step d flash serves cs .0;
           key = keeps H valid part step d flash serves cs .1;

@@ -1,4 +1,4 @@
--- The device's own step, in one call and in lists of messages.
+-- The device's own step, in one call and in lists of calls.
 use mathlib.Core.Path.{_≡_, refl, sym, _∙_}
 use mathlib.Core.Bool.{Bool, true≢false}
 use mathlib.Core.List.{List}
@@ -9,76 +9,82 @@ use Rattle.wire.specs.Message.{kind}
 use Rattle.machine.specs.declared.state.Device.{Device}
 use Rattle.machine.specs.declared.state.Answer.the-variants.{Accepted, Refused}
 use Rattle.machine.specs.Device.{Situation}
-use Rattle.machine.specs.Step.{accept, answerOf, outcome, refusalOf, step}
-use Rattle.machine.proofs.RefusalLaws.{passed, due-unrefused, answer-some}
+use Rattle.machine.specs.Step.{total, accept, answerOf, outcome, refusalOf, step, Call, stepCall}
+use Rattle.machine.proofs.RefusalLaws.{passed, answer-none, answer-some}
 use Rattle.guarantee.specs.Part.{whole}
-use Rattle.guarantee.specs.Run.{Messages, _▷_, after, answerTo}
+use Rattle.guarantee.specs.Run.{Trace, _▷_, after, answerTo}
 use Rattle.guarantee.specs.Demand3.{Calls}
 use Rattle.guarantee.proofs.RunLaws.{Serves}
 use Rattle.guarantee.proofs.ChoiceLaws as choice
+use Rattle.guarantee.proofs.HonestLaws.{within-unrefused}
 use Rattle.guarantee.proofs.SecondHalf.{Willing}
 
--- what an accepted message does
-pub accepted-step : (H : List ℕ → List ℕ) (valid : (key message signature : List ℕ) → Bool) (d : Device) (f m : List ℕ) → refusalOf H valid d f m ≡ none
-    → step H valid d f m ≡ (let s = accept (kind m) d f m in record { answer = Accepted; device = s .device; flash = s .flash })
-unfolding step outcome
-accepted-step H valid d f m e = rw (e, step, outcome)
+-- One call.
+module _ (H : List ℕ → List ℕ) (valid : (key message signature : List ℕ) → Bool) (budget : ℕ) (d : Device) (f m : List ℕ) where
+  -- what an accepted message does
+  pub accepted-step : refusalOf H valid budget d f m ≡ none
+      → step H valid budget d f m
+      ≡ (let s = accept (kind m) d f m in record { answer = Accepted; compressions = total H (kind m) d f m; budget = budget; device = s .device; flash = s .flash })
+  unfolding step outcome
+  accepted-step e = rw (e, step, outcome)
 
--- The device's step as the choice by its first refusal.
-module _ (H : List ℕ → List ℕ) (valid : (key message signature : List ℕ) → Bool) where
-  does : Device → List ℕ → List ℕ → Situation
-  does d f m = accept (kind m) d f m
-
-  chosen : (d : Device) (f m : List ℕ) → step H valid d f m ≡ outcome (refusalOf H valid d f m) d f (does d f m)
-  unfolding does step
-  chosen d f m = refl
-
-  fits : choice.Fitting H valid (whole H valid) (step H valid) does chosen
-  unfolding does
-  fits = record { here = λ d f m n. refl; away = λ d f m n. absurd (true≢false n); passes = λ d f m n e. passed H valid d f m e }
-
-  pub serves : Serves H valid (whole H valid) (step H valid)
-  serves = choice.serves H valid (whole H valid) (step H valid) does chosen fits
-
-  pub calls : (d : Device) (flash : List ℕ) (ms : Messages) → Calls H valid (whole H valid) (step H valid) d flash ms
-  calls = choice.calls H valid (whole H valid) (step H valid) does chosen fits
-
-  pub answered : (d : Device) (f m : List ℕ) → step H valid d f m .answer ≡ answerOf (refusalOf H valid d f m)
-  answered = choice.given H valid (whole H valid) (step H valid) does chosen
+  pub answered : step H valid budget d f m .answer ≡ answerOf (refusalOf H valid budget d f m)
+  unfolding step
+  answered = choice.outcome-answer budget (total H (kind m) d f m) d f (accept (kind m) d f m) (refusalOf H valid budget d f m)
 
   -- what is accepted no refusal applies to
-  pub unrefused : (d : Device) (f m : List ℕ) → step H valid d f m .answer ≡ Accepted → refusalOf H valid d f m ≡ none
-  unrefused = choice.accepted-none H valid (whole H valid) (step H valid) does chosen
+  pub unrefused : step H valid budget d f m .answer ≡ Accepted → refusalOf H valid budget d f m ≡ none
+  unrefused e = answer-none (refusalOf H valid budget d f m) (sym answered ∙ e)
 
-  pub willing : (d : Device) (flash : List ℕ) → Willing H valid (whole H valid) (step H valid) d flash
+-- The device's step as the choice by its first refusal, in lists of calls.
+module _ (H : List ℕ → List ℕ) (valid : (key message signature : List ℕ) → Bool) where
+  does : Device → List ℕ → Call → Situation
+  does d f c = accept (kind (c .message)) d f (c .message)
+
+  chosen : (d : Device) (f : List ℕ) (c : Call)
+      → stepCall H valid d f c ≡ outcome (refusalOf H valid (c .budget) d f (c .message)) (c .budget) (total H (kind (c .message)) d f (c .message)) d f (does d f c)
+  unfolding does step stepCall
+  chosen d f c = refl
+
+  fits : choice.Fitting H valid (whole H valid) (stepCall H valid) does chosen
+  unfolding does
+  fits = record { here = λ d f c n. refl; away = λ d f c n. absurd (true≢false n); passes = λ d f c n e. passed H valid d f (c .message) (c .budget) e }
+
+  pub serves : Serves H valid (whole H valid) (stepCall H valid)
+  serves = choice.serves H valid (whole H valid) (stepCall H valid) does chosen fits
+
+  pub calls : (d : Device) (flash : List ℕ) (cs : Trace Call) → Calls H valid (whole H valid) (stepCall H valid) d flash cs
+  calls = choice.calls H valid (whole H valid) (stepCall H valid) does chosen fits
+
+  pub willing : (d : Device) (flash : List ℕ) → Willing H valid (whole H valid) (stepCall H valid) d flash
   unfolding answerTo
   willing d flash =
       record {
-        takes = λ ms m n w.
-            let s = after (step H valid) d flash ms in
-            choice.none-accepted H valid (whole H valid) (step H valid) does chosen (s .device) (s .flash) m
-            (due-unrefused H valid (s .device) (s .flash) m w);
+        takes = λ cs c n w e.
+            let s = after (stepCall H valid) d flash cs in
+            choice.none-accepted H valid (whole H valid) (stepCall H valid) does chosen (s .device) (s .flash) c
+            (within-unrefused H valid (c .budget) (s .device) (s .flash) (c .message) w e);
       }
 
-  -- after a list: device and flash, the refusal of one message more, and what that does
+  -- after a list: device and flash, the refusal of one call more, and what that does
   module _ (d : Device) (flash : List ℕ) where
-    abbrev pub now : Messages → Situation
-    now ms = after (step H valid) d flash ms
+    abbrev pub now : Trace Call → Situation
+    now cs = after (stepCall H valid) d flash cs
 
-    abbrev pub refusalAt : Messages → List ℕ → Option Refusal
-    refusalAt ms m = refusalOf H valid (now ms .device) (now ms .flash) m
+    abbrev pub refusalAt : Trace Call → Call → Option Refusal
+    refusalAt cs c = refusalOf H valid (c .budget) (now cs .device) (now cs .flash) (c .message)
 
-    module _ (ms : Messages) (m : List ℕ) where
-      pub answered-at : answerTo (step H valid) d flash ms m ≡ answerOf (refusalAt ms m)
-      answered-at = calls d flash ms .answers m
+    module _ (cs : Trace Call) (c : Call) where
+      pub answered-at : answerTo (stepCall H valid) d flash cs c ≡ answerOf (refusalAt cs c)
+      answered-at = calls d flash cs .answers c
 
-      pub some-at : (r : Refusal) → answerTo (step H valid) d flash ms m ≡ Refused r → refusalAt ms m ≡ some r
-      some-at r e = answer-some (refusalAt ms m) r (sym answered-at ∙ e)
+      pub some-at : (r : Refusal) → answerTo (stepCall H valid) d flash cs c ≡ Refused r → refusalAt cs c ≡ some r
+      some-at r e = answer-some (refusalAt cs c) r (sym answered-at ∙ e)
 
-      pub after-accepted : refusalAt ms m ≡ none → now (ms ▷ m) ≡ accept (kind m) (now ms .device) (now ms .flash) m
-      unfolding after step outcome
+      pub after-accepted : refusalAt cs c ≡ none → now (cs ▷ c) ≡ accept (kind (c .message)) (now cs .device) (now cs .flash) (c .message)
+      unfolding after stepCall step outcome
       after-accepted e = rw (e, outcome)
 
-      pub after-refused : (r : Refusal) → refusalAt ms m ≡ some r → now (ms ▷ m) ≡ now ms
-      unfolding after step outcome
+      pub after-refused : (r : Refusal) → refusalAt cs c ≡ some r → now (cs ▷ c) ≡ now cs
+      unfolding after stepCall step outcome
       after-refused r e = rw (e, outcome)

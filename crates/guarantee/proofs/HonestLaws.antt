@@ -29,14 +29,16 @@ use Rattle.wire.specs.Size.{outside}
 use Rattle.wire.specs.Manifest.{written}
 use Rattle.wire.specs.Geometry.{countOf, blockLength, withBlock, treeOver}
 use Rattle.wire.specs.Message.{leastLength, short, manifestBytes, manifestIn, numberIn, blockIn, hashesAfter, dueLength, atStart}
+use Rattle.wire.specs.Cost.{costDue}
 use Rattle.wire.proofs.GeometryLaws.{more-blocks, start-blocks}
+use Rattle.wire.proofs.CostLaws.{costs-due}
 use Rattle.sender.specs.Job.{Job, count, blocks, rootOf, manifestFor, blockFor}
 use Rattle.machine.specs.declared.state.Stage.the-variants.{Loading, Complete}
 use Rattle.machine.specs.declared.state.Device.{Device}
 use Rattle.machine.specs.Device.{nextOf, heldBy, Situation}
 use Rattle.machine.specs.Flash.{stored}
-use Rattle.machine.specs.Refusals.{wrongVersion, senseless, tooSmall, notLoading, notNext, wrongLength, lastAltered}
-use Rattle.machine.specs.Step.{acceptProgram, stageAfter, acceptBlock, accept, refusalOf}
+use Rattle.machine.specs.Refusals.{wrongVersion, senseless, tooSmall, notLoading, notNext, wrongLength, lastAltered, spent}
+use Rattle.machine.specs.Step.{acceptProgram, stageAfter, acceptBlock, total, accept, refusalOf}
 use Rattle.guarantee.specs.Demand3.{Sendable}
 use Rattle.machine.proofs.RefusalLaws.{ProgramPassed, NextDue, lacks-none, due-unrefused}
 use Rattle.machine.proofs.HeldLaws.{mismatch-is}
@@ -49,6 +51,12 @@ both-false s t a b = rw (a, b)
 pub image-rooted : (H : List ℕ → List ℕ) (job : Job) (old : List ℕ) → treeOver H (manifestFor H job) (atStart (job .image .bytes) old) ≡ manifestFor H job .root
 unfolding treeOver manifestFor rootOf blocks countOf count
 image-rooted H job old = ap (λ f. rootOver (plain H) f (count (job .image))) (start-blocks (manifestFor H job) (job .image .bytes) old refl)
+
+-- the block message that a device waits for, with a budget that suffices
+pub within-unrefused : (H : List ℕ → List ℕ) (valid : (key message signature : List ℕ) → Bool) (budget : ℕ) (d : Device) (f m : List ℕ)
+    → NextDue H valid d f m → total H Block d f m ≤ budget → refusalOf H valid budget d f m ≡ none
+unfolding total spent
+within-unrefused H valid budget d f m w e = due-unrefused H valid d f m budget w (le-ltb budget _ e)
 
 -- a device that loads the job, at block j + 1
 loadingAt : (List ℕ → List ℕ) → Job → ℕ → List ℕ → ℕ → List ℕ → Device
@@ -97,6 +105,14 @@ module _ (H : List ℕ → List ℕ) (hash-long : (x : List ℕ) → length (H x
           whole = whole;
         }
 
+  -- it costs what L, T and its number say
+  sent-cost : (d : Device) (f : List ℕ) (j : ℕ) → j < count (job .image) → d .stage ≡ Loading (suc j) → d .manifest ≡ manifestFor H job → length (job .image .bytes) ≤ length f
+      → total H Block d f (blockFor H (job .image) (suc j)) ≡ costDue H (manifestFor H job) (suc j)
+  unfolding total nextOf manifestFor countOf count
+  sent-cost d f j h stage manifest room =
+      let m : List ℕ = blockFor H (job .image) (suc j) in
+      rw (stage, manifest) (costs-due H hash-long (manifestFor H job) (suc j) (ok .size) (omega arith) h .known f m room (block-sent H hash-long job ok j h .size))
+
   -- all n blocks are the image
   all-taken : (j : ℕ) → j ≡ count (job .image) → take (j * job .image .«block_len») (job .image .bytes) ≡ job .image .bytes
   all-taken j e = take-all (j * job .image .«block_len») (job .image .bytes) (rw e (job-enough H hash-long job ok))
@@ -107,11 +123,13 @@ module _ (H : List ℕ → List ℕ) (hash-long : (x : List ℕ) → length (H x
         let front = take (j * job .image .«block_len») (job .image .bytes) in
         rw (w .flash, length-append front (drop (length front) old), length-drop (length front) old) (omega (arith, w .room))
 
+    is-next : j < count (job .image) → s .device .stage ≡ Loading (suc j)
+    unfolding stageAfter
+    is-next h = w .stage ∙ rw (lt-ltb j (count (job .image)) h)
+
     is-loading : j < count (job .image) → s .device ≡ loadingAt H job (s .device .model) (s .device .key) j (s .device .hashes)
-    unfolding stageAfter loadingAt
-    is-loading h =
-        let t : s .device .stage ≡ Loading (suc j) = w .stage ∙ rw (lt-ltb j (count (job .image)) h) in
-        λ i. record { model = s .device .model; key = s .device .key; stage = t i; manifest = w .manifest i; hashes = s .device .hashes }
+    unfolding loadingAt
+    is-loading h = λ i. record { model = s .device .model; key = s .device .key; stage = is-next h i; manifest = w .manifest i; hashes = s .device .hashes }
 
     next-flash : j < count (job .image) → stored (manifestFor H job) (suc j) (s .flash) (blockFor H (job .image) (suc j))
         ≡ atStart (take (suc j * job .image .«block_len») (job .image .bytes)) old
@@ -138,8 +156,12 @@ module _ (H : List ℕ → List ℕ) (hash-long : (x : List ℕ) → length (H x
         subst (λ d. NextDue H valid d (s .flash) (blockFor H (job .image) (suc j))) (sym (is-loading h))
         (is-due j (s .device .hashes) h (w .array) (w .holds) (s .device .model) (s .device .key) (s .flash) room-now (next-whole h))
 
-    pub next-accepted : j < count (job .image) → refusalOf H valid (s .device) (s .flash) (blockFor H (job .image) (suc j)) ≡ none
-    next-accepted h = due-unrefused H valid (s .device) (s .flash) (blockFor H (job .image) (suc j)) (next-due h)
+    pub next-cost : j < count (job .image) → total H Block (s .device) (s .flash) (blockFor H (job .image) (suc j)) ≡ costDue H (manifestFor H job) (suc j)
+    next-cost h = sent-cost (s .device) (s .flash) j h (is-next h) (w .manifest) room-now
+
+    pub next-accepted : (budget : ℕ) → j < count (job .image) → costDue H (manifestFor H job) (suc j) ≤ budget
+        → refusalOf H valid budget (s .device) (s .flash) (blockFor H (job .image) (suc j)) ≡ none
+    next-accepted budget h e = within-unrefused H valid budget (s .device) (s .flash) (blockFor H (job .image) (suc j)) (next-due h) (rw (next-cost h) e)
 
     pub next-here : j < count (job .image) → Here old (suc j) (accept Block (s .device) (s .flash) (blockFor H (job .image) (suc j)))
     next-here h = subst (λ d. Here old (suc j) (accept Block d (s .flash) (blockFor H (job .image) (suc j)))) (sym (is-loading h)) go

@@ -21,6 +21,7 @@ pub mod Toy
 pub mod WrongCalls
 pub mod WrongFirst
 pub mod WrongSecond
+pub mod WrongBudget
 pub mod MisledRun
 pub mod WrongOneCall
 pub mod Wrong

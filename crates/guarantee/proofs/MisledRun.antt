@@ -15,12 +15,12 @@ use Rattle.sender.specs.Job.{Job, programFor, blockFor}
 use Rattle.machine.specs.declared.state.Stage.the-variants.{Complete}
 use Rattle.machine.specs.declared.state.Answer.the-variants.{Refused}
 use Rattle.machine.specs.Device.{Situation}
-use Rattle.machine.specs.Step.{step}
+use Rattle.machine.specs.Step.{Call, stepCall}
 use Rattle.machine.specs.BootCheck.{bootCheck}
 use Rattle.guarantee.specs.Part.{whole}
-use Rattle.guarantee.specs.Run.{Messages, empty, _▷_, after, answerTo}
+use Rattle.guarantee.specs.Run.{Trace, empty, _▷_, after, answerTo}
 use Rattle.guarantee.specs.Demand3.{here, Misled}
-use Rattle.guarantee.proofs.Toy.{Step, any, fresh, flash, manifestWith, computing}
+use Rattle.guarantee.proofs.Toy.{Step, any, fresh, flash, ample, manifestWith, computing}
 
 -- of the second byte of the input and the second of its later half the larger one counts
 unfoldable pub weakHash : ℕ → List ℕ
@@ -30,28 +30,28 @@ unfoldable pub weak : List ℕ → List ℕ
 weak x = weakHash (max (getD x 1 0) (getD x 33 0))
 
 unfoldable pub device : Step
-device = step weak any
+device = stepCall weak any
 
 -- blocks of fives and of threes: the hashes are 5 and 3, the root 5
 unfoldable pub pair : Job
 pair = record { image = record { bytes = replicate 64 5 ++ replicate 64 3; «block_len» = 64 }; model = 7; serial = 1 }
 
-unfoldable pub before : Messages
-before = empty ▷ programFor weak pair [] ▷ blockFor weak (pair .image) 1 ▷ blockFor weak (pair .image) 2
+unfoldable pub before : Trace Call
+before = empty ▷ ample (programFor weak pair []) ▷ ample (blockFor weak (pair .image) 1) ▷ ample (blockFor weak (pair .image) 2)
 
 -- a first block of ones, beside a sibling that says 2: with the fives this leads to 5 as well, with the ones to 2, where the tree has 3
-pub message : List ℕ
-message = pathMessage (manifestWith 2 (weakHash 2)) 1 (replicate 64 1) (weakHash 2) []
+pub misleading : Call
+misleading = ample (pathMessage (manifestWith 2 (weakHash 2)) 1 (replicate 64 1) (weakHash 2) [])
 
-pub second-case : (let now : Situation = after device fresh flash (before ▷ message) in
+pub second-case : (let now : Situation = after device fresh flash (before ▷ misleading) in
     (now .device .stage ≡ Complete) × (equal (treeOver weak (now .device .manifest) (now .flash)) (now .device .manifest .root) ≡ false))
-    × Misled weak any (whole weak any) device fresh flash (before ▷ message)
-unfolding computing weakHash weak device pair before message
+    × Misled weak any (whole weak any) device fresh flash (before ▷ misleading)
+unfolding computing weakHash weak device pair before misleading
 second-case = (
   (refl, refl),
   record {
     before = before;
-    call = message;
+    call = misleading;
     path = refl;
     taken = (refl, refl);
     since = here;
@@ -66,7 +66,7 @@ second-case = (
 )
 
 -- Then the boot check fails, and an update is refused 19. In a list nothing else brings a device there (`nobody-else` in AlteredHolds).
-pub then-altered : (let now : Situation = after device fresh flash (before ▷ message) in bootCheck weak (now .device) (now .flash) ≡ Refused refusal.Altered)
-    × (answerTo device fresh flash (before ▷ message) (updateMessage (manifestWith 3 (weakHash 3)) 1 (replicate 64 1) []) ≡ Refused refusal.Altered)
-unfolding computing weakHash weak device pair before message
+pub then-altered : (let now : Situation = after device fresh flash (before ▷ misleading) in bootCheck weak (now .device) (now .flash) ≡ Refused refusal.Altered)
+    × (answerTo device fresh flash (before ▷ misleading) (ample (updateMessage (manifestWith 3 (weakHash 3)) 1 (replicate 64 1) [])) ≡ Refused refusal.Altered)
+unfolding computing weakHash weak device pair before misleading
 then-altered = (refl, refl)

@@ -3,10 +3,13 @@ use mathlib.Core.Path.{_≡_, refl, sym, ap, subst}
 use mathlib.Core.Logic.{_⊎_, inl, inr}
 use mathlib.Core.Bool.{Bool, true}
 use mathlib.Core.List.{List}
+use mathlib.Core.Option.{Option, none, some}
 use Prim.Native.Nat.{ℕ}
 use native.Mathlib.Omega.{arith}
 use lib.ListN.{length}
-use Rattle.wire.specs.declared.kind.Kind.the-variants.{Block, Update, PathUpdate}
+use Rattle.wire.specs.declared.kind.Kind.{Kind}
+use Rattle.wire.specs.declared.kind.Kind.the-variants.{Program, Block, Update, PathUpdate, Unknown}
+use Rattle.wire.specs.declared.refusal.Refusal.{Refusal}
 use Rattle.wire.specs.Message.{kind, manifestIn, dueLength}
 use Rattle.wire.proofs.MessageLaws.{length-block}
 use Rattle.machine.specs.declared.state.Stage.the-variants.{Complete}
@@ -14,15 +17,16 @@ use Rattle.machine.specs.declared.state.Device.{Device}
 use Rattle.machine.specs.declared.state.Answer.the-variants.{Accepted}
 use Rattle.machine.specs.Device.{nextOf, OutcomeOf, Situation}
 use Rattle.machine.specs.Flash.{stored}
-use Rattle.machine.specs.Step.{acceptProgram, acceptBlock, acceptUpdate, accept, step}
+use Rattle.machine.specs.Refusals.{ofKind, refusals}
+use Rattle.machine.specs.Step.{acceptProgram, acceptBlock, acceptUpdate, accept, total, outcome, refusalOf, step, stepCall}
 use Rattle.machine.proofs.RefusalLaws.{alike-lengths, BlockPassed, UpdatePassed, Passed, took-program, took-block, took-update, took-path, passed-block, passed-update}
-use Rattle.guarantee.specs.Part.{Part, whole}
+use Rattle.guarantee.specs.Part.{Part, whole, call}
 use Rattle.guarantee.specs.Run.{empty, after, answerTo}
 use Rattle.guarantee.specs.Behind.{goesBy}
-use Rattle.guarantee.specs.OneCall.{Rooted, EachCall}
+use Rattle.guarantee.specs.OneCall.{Rooted, EachCall, BudgetUnread}
 use Rattle.guarantee.proofs.InvariantLaws.{complete-last, length-placed, length-updated}
 use Rattle.guarantee.proofs.RunLaws.{goes-by, slot, Serves}
-use Rattle.guarantee.proofs.DeviceLaws.{serves, calls, answered}
+use Rattle.guarantee.proofs.DeviceLaws.{serves, calls}
 
 module _ (H : List ℕ → List ℕ) (valid : (key message signature : List ℕ) → Bool) (d : Device) (flash m : List ℕ) where
   length-stored : BlockPassed H valid d flash m → length (stored (d .manifest) (nextOf (d .stage)) flash m) ≡ length flash
@@ -73,15 +77,40 @@ part-leaves H valid part any serves d flash c n a =
     subst (Leaves H valid (part .device d) (part .flash flash) (part .message c)) (sym (serves .accepts d flash c n a)) (leaves H valid (part .device d) (part .flash flash) (part .message c) (serves .passes d flash c n a))
 
 pub each-call : (H : List ℕ → List ℕ) (valid : (key message signature : List ℕ) → Bool) → EachCall H valid (step H valid)
-unfolding after answerTo
-each-call H valid d flash m =
-    let l = part-leaves H valid (whole H valid) (step H valid) (serves H valid) d flash m refl in
+unfolding after answerTo stepCall
+each-call H valid budget d flash m =
+    let c = call budget m in
+    let one = calls H valid d flash empty in
+    let l = part-leaves H valid (whole H valid) (stepCall H valid) (serves H valid) d flash c refl in
     record {
-      answers = answered H valid d flash m;
-      refused = λ r e. let s = calls H valid d flash empty .refused m r e in (ap (λ (x : Situation). x .device) s, ap (λ (x : Situation). x .flash) s);
+      answers = one .answers c;
+      reports = one .reports c refl;
+      refused = λ r e. let s = one .refused c r e in (ap (λ (x : Situation). x .device) s, ap (λ (x : Situation). x .flash) s);
       manifest = λ a. l a .manifest;
       before = λ k a. l a .before k;
       update = λ k a. l a .update k;
       last = λ k a c. l a .last k c;
       only = λ a c. l a .only c;
     }
+
+-- the budget stands in the tests of a block alone
+by-kind : (H : List ℕ → List ℕ) (valid : (key message signature : List ℕ) → Bool) (a b : ℕ) (d : Device) (flash m : List ℕ) (k : Kind) → (k ≡ Block → ⊥)
+    → ofKind H valid b k d flash m ≡ ofKind H valid a k d flash m
+unfolding ofKind
+by-kind H valid a b d flash m Program n = refl
+by-kind H valid a b d flash m Block n = absurd (n refl)
+by-kind H valid a b d flash m Update n = refl
+by-kind H valid a b d flash m PathUpdate n = refl
+by-kind H valid a b d flash m Unknown n = refl
+
+pub budget-unread : (H : List ℕ → List ℕ) (valid : (key message signature : List ℕ) → Bool) → BudgetUnread H valid
+unfolding step refusalOf refusals outcome
+budget-unread H valid a b d flash m n = rw (by-kind H valid a b d flash m (kind m) n) (go (refusalOf H valid a d flash m))
+  where
+    go : (r : Option Refusal)
+        → (let t = total H (kind m) d flash m in
+        let o = outcome r a t d flash (accept (kind m) d flash m) in
+        outcome r b t d flash (accept (kind m) d flash m)
+        ≡ record { answer = o .answer; compressions = o .compressions; budget = b; device = o .device; flash = o .flash })
+    go none = refl
+    go (some r) = refl

@@ -21,20 +21,23 @@ use Rattle.wire.specs.declared.manifest.Manifest.{Manifest}
 use Rattle.wire.specs.declared.refusal.Refusal.{Refusal}
 use Rattle.wire.specs.declared.refusal.Refusal.the-variants as refusal
 use Rattle.wire.specs.Refusal.{firstThatApplies}
+use Rattle.wire.specs.Size.{wrongSize}
 use Rattle.wire.specs.Geometry.{countOf, blockLength, blocksOf, treeOver}
 use Rattle.wire.specs.Message.{kind, manifestIn, blockIn, updateNumber, pathIn, dueLength}
+use Rattle.wire.specs.Cost.{blockCost}
 use Rattle.wire.proofs.SizeLaws.{Sized}
 use Rattle.wire.proofs.GeometryLaws.{block-full, block-last, length-with, with-behind, with-start, with-same}
 use Rattle.wire.proofs.MessageLaws.{length-block}
+use Rattle.wire.proofs.CostLaws.{costs-due}
 use Rattle.machine.specs.declared.state.Stage.{Stage}
 use Rattle.machine.specs.declared.state.Stage.the-variants.{Loading, Complete}
 use Rattle.machine.specs.declared.state.Device.{Device}
 use Rattle.machine.specs.Device.{nextOf, Situation}
 use Rattle.machine.specs.Flash.{stored}
-use Rattle.machine.specs.Refusals.{tooSmall, notLoading, wrongLength, lacksRoot, lastAltered, strays, always, ofManifest, ofBlock, ofSuccessor, ofUpdate, ofPathUpdate, ofKind, refusals}
-use Rattle.machine.specs.Step.{stageAfter, acceptBlock, acceptUpdate, accept, answerOf, outcome, refusalOf, step}
+use Rattle.machine.specs.Refusals.{tooSmall, notLoading, wrongLength, spent, lacksRoot, lastAltered, strays, always, ofManifest, ofBlock, ofSuccessor, ofUpdate, ofPathUpdate, ofKind, refusals}
+use Rattle.machine.specs.Step.{stageAfter, acceptBlock, acceptUpdate, accept, total, answerOf, outcome, refusalOf, step, Call, stepCall}
 use Rattle.machine.proofs.RefusalLaws.{of-second, alike-lengths, has-root, testOf, ahead, behind, clear, awaits, BlockPassed, block-passed, update-passed, newLength, newDepth, ledTo, path-passed}
-use Rattle.guarantee.specs.Run.{Messages, empty, _▷_, after, answerTo, siblingsIn}
+use Rattle.guarantee.specs.Run.{Trace, empty, _▷_, after, answerTo, siblingsIn}
 use Rattle.guarantee.specs.PowerLoss.{OnlyBlocks, Agree, SameLoad, TornLoad, TornUpdate, PathReads, TornPath}
 use Rattle.machine.proofs.TestLaws.{same-behind, next-test}
 use Rattle.guarantee.proofs.FirstHalf.{bound-image}
@@ -51,49 +54,49 @@ one-tree H hash-long s f g z room a b =
     rw again at (bound-image H hash-long s g (take T f) z b (length-take-le T f room) (rw again a))
 
 -- Before 19 an update's refusals see the length alone of the flash.
-altered-or-rooted : (H : List ℕ → List ℕ) (valid : (key message signature : List ℕ) → Bool) (d : Device) (f g m : List ℕ) → kind m ≡ Update → length f ≡ length g
-    → refusalOf H valid d f m ≡ none → (refusalOf H valid d g m ≡ some refusal.Altered) ⊎ (treeOver H (d .manifest) g ≡ d .manifest .root)
+altered-or-rooted : (H : List ℕ → List ℕ) (valid : (key message signature : List ℕ) → Bool) (budget : ℕ) (d : Device) (f g m : List ℕ) → kind m ≡ Update
+    → length f ≡ length g → refusalOf H valid budget d f m ≡ none → (refusalOf H valid budget d g m ≡ some refusal.Altered) ⊎ (treeOver H (d .manifest) g ≡ d .manifest .root)
 unfolding refusalOf refusals always ofKind ofManifest ofSuccessor ofUpdate tooSmall testOf ahead behind
-altered-or-rooted H valid d f g m k long e =
-    let es = refusals H valid Update d f m in
+altered-or-rooted H valid budget d f g m k long e =
+    let es = refusals H valid budget Update d f m in
     ⊎-elim (λ q. inl (rw (k, ← long) q)) (λ q. inr (has-root H _ _ (q .0)))
-    (next-test (ahead refusal.Altered es) ((refusal.Altered, testOf refusal.Altered es) ∷ behind refusal.Altered es) (behind refusal.Altered (refusals H valid Update d g m)) refusal.Altered (lacksRoot H (d .manifest) g) (rw k at e))
+    (next-test (ahead refusal.Altered es) ((refusal.Altered, testOf refusal.Altered es) ∷ behind refusal.Altered es) (behind refusal.Altered (refusals H valid budget Update d g m)) refusal.Altered (lacksRoot H (d .manifest) g) (rw k at e))
 
 pub torn-update : (H : List ℕ → List ℕ) → ((x : List ℕ) → length (H x) ≡ hashLength) → (valid : (key message signature : List ℕ) → Bool) → TornUpdate H valid
 unfolding after answerTo answerOf
-torn-update H hash-long valid d f g m k long ok =
-    let e : refusalOf H valid d f m ≡ none = unrefused H valid d f m ok in
-    let p = update-passed H valid d f m k e in
+torn-update H hash-long valid budget d f g m k long ok =
+    let e : refusalOf H valid budget d f m ≡ none = unrefused H valid budget d f m ok in
+    let p = update-passed H valid d f m budget k e in
     let q = alike-lengths (manifestIn m) (d .manifest) (p .successor .alike) in
-    ⊎-elim (λ r. inl (answered H valid d g m ∙ ap answerOf r))
+    ⊎-elim (λ r. inl (answered H valid budget d g m ∙ ap answerOf r))
     (λ r. inr (one-tree H hash-long (d .manifest) f g (rw (q .0, q .1) at (p .successor .size)) (rw (q .1) at (p .successor .room)) (p .intact) r))
-    (altered-or-rooted H valid d f g m k long e)
+    (altered-or-rooted H valid budget d f g m k long e)
 
-module _ (H : List ℕ → List ℕ) (valid : (key message signature : List ℕ) → Bool) (d : Device) (f g m : List ℕ) (k : kind m ≡ PathUpdate) (long : length f ≡ length g) where
+module _ (H : List ℕ → List ℕ) (valid : (key message signature : List ℕ) → Bool) (budget : ℕ) (d : Device) (f g m : List ℕ) (k : kind m ≡ PathUpdate) (long : length f ≡ length g) where
   abbrev s : Manifest
   s = manifestIn m
 
   abbrev i : ℕ
   i = pred (updateNumber m)
 
-  path-refusal : blocksOf s f i ≡ blocksOf s g i → refusalOf H valid d f m ≡ refusalOf H valid d g m
+  path-refusal : blocksOf s f i ≡ blocksOf s g i → refusalOf H valid budget d f m ≡ refusalOf H valid budget d g m
   unfolding refusalOf refusals ofKind ofSuccessor ofPathUpdate tooSmall
   path-refusal same = rw (k, long, same)
 
-  reads : blocksOf s f i ≡ blocksOf s g i → (step H valid d f m .answer ≡ step H valid d g m .answer) × (step H valid d f m .device ≡ step H valid d g m .device)
-  unfolding step outcome accept acceptUpdate
-  reads same = rw (path-refusal same, k) (go (refusalOf H valid d g m))
+  reads : blocksOf s f i ≡ blocksOf s g i → (step H valid budget d f m .answer ≡ step H valid budget d g m .answer) × (step H valid budget d f m .device ≡ step H valid budget d g m .device)
+  unfolding step total outcome accept acceptUpdate
+  reads same = rw (path-refusal same, k) (go (refusalOf H valid budget d g m))
     where
       go : (r : Option Refusal)
-          → (outcome r d f (accept PathUpdate d f m) .answer ≡ outcome r d g (accept PathUpdate d g m) .answer) × (outcome r d f (accept PathUpdate d f m) .device ≡ outcome r d g (accept PathUpdate d g m) .device)
+          → (outcome r budget 0 d f (accept PathUpdate d f m) .answer ≡ outcome r budget 0 d g (accept PathUpdate d g m) .answer) × (outcome r budget 0 d f (accept PathUpdate d f m) .device ≡ outcome r budget 0 d g (accept PathUpdate d g m) .device)
       go none = (refl, refl)
       go (some r) = (refl, refl)
 
   -- all but 15 are the same over both
-  path-or-none : refusalOf H valid d f m ≡ none → (refusalOf H valid d g m ≡ some refusal.Path) ⊎ (refusalOf H valid d g m ≡ none)
+  path-or-none : refusalOf H valid budget d f m ≡ none → (refusalOf H valid budget d g m ≡ some refusal.Path) ⊎ (refusalOf H valid budget d g m ≡ none)
   unfolding refusalOf refusals always ofKind ofManifest ofSuccessor ofPathUpdate tooSmall testOf ahead behind
   path-or-none e =
-      let es = refusals H valid PathUpdate d f m in
+      let es = refusals H valid budget PathUpdate d f m in
       let siblings = pathIn (newLength H valid d f m) (newDepth H valid d f m) m in
       let own : Refusal × Bool = (refusal.Path, testOf refusal.Path es) in
       let rest = behind refusal.Path es in
@@ -107,14 +110,14 @@ path-reads H valid = reads H valid
 
 pub torn-path : (H : List ℕ → List ℕ) (valid : (key message signature : List ℕ) → Bool) → TornPath H valid
 unfolding after answerTo answerOf
-torn-path H valid d f g m k long ok =
-    let e : refusalOf H valid d f m ≡ none = unrefused H valid d f m ok in
+torn-path H valid budget d f g m k long ok =
+    let e : refusalOf H valid budget d f m ≡ none = unrefused H valid budget d f m ok in
     let s : Manifest = manifestIn m in
     let i : ℕ = pred (updateNumber m) in
-    let root : (x : List ℕ) → refusalOf H valid d x m ≡ none → ledTo H valid d x m (blocksOf s x i) ≡ d .manifest .root = λ x e. path-passed H valid d x m k e .old in
-    ⊎-elim (λ q. inl (answered H valid d g m ∙ ap answerOf q))
-    (λ q. inr (answered H valid d g m ∙ ap answerOf q, two-paths (plain H) 0 (shape (countOf s)) i (blocksOf s f i) (blocksOf s g i) (siblingsIn m) (root f e ∙ sym (root g q))))
-    (path-or-none H valid d f g m k long e)
+    let root : (x : List ℕ) → refusalOf H valid budget d x m ≡ none → ledTo H valid d x m (blocksOf s x i) ≡ d .manifest .root = λ x e. path-passed H valid d x m budget k e .old in
+    ⊎-elim (λ q. inl (answered H valid budget d g m ∙ ap answerOf q))
+    (λ q. inr (answered H valid budget d g m ∙ ap answerOf q, two-paths (plain H) 0 (shape (countOf s)) i (blocksOf s f i) (blocksOf s g i) (siblingsIn m) (root f e ∙ sym (root g q))))
+    (path-or-none H valid budget d f g m k long e)
 
 -- Two situations of the same run over different flashes: both wait for block k + 1, or both are complete and the same.
 data Together (a b : Situation) : Type 0 where
@@ -163,18 +166,45 @@ module _ (s : Manifest) (k : ℕ) (f g m : List ℕ) (below : k < countOf s) (ag
       go true e = ap (lacksRoot H s) (now-same (omega (arith, eqb-true (suc k) (countOf s) e)))
       go false e = refl
 
-module _ (H : List ℕ → List ℕ) (valid : (key message signature : List ℕ) → Bool) where
-  -- before 19, its last, a block message's refusals see the length alone of the flash
-  block-refusal : (d : Device) (k : ℕ) (f g m : List ℕ) → kind m ≡ Block → d .stage ≡ Loading (suc k) → Agree (d .manifest) k f g → refusalOf H valid d f m ≡ refusalOf H valid d g m
-  unfolding refusalOf refusals always ofKind ofBlock nextOf tooSmall wrongLength testOf ahead
-  block-refusal d k f g m e t agree =
+module _ (H : List ℕ → List ℕ) (hash-long : (x : List ℕ) → length (H x) ≡ hashLength) (valid : (key message signature : List ℕ) → Bool) where
+  -- what a block costs is the same over both
+  cost-same : (s : Manifest) (i : ℕ) (f g m : List ℕ) → wrongSize (s .«block_len») (s .«image_len») ≡ false → 0 < i → i ≤ countOf s → length f ≡ length g
+      → s .«image_len» ≤ length f → length m ≡ dueLength (s .«block_len») (s .«image_len») i → blockCost H s i f m ≡ blockCost H s i g m
+  cost-same s i f g m size low high long room due =
+      let c = costs-due H hash-long s i size low high in
+      c .known f m room due ∙ sym (c .known g m (rw (sym long) room) due)
+
+  -- but for 20 and 19 a block message's refusals see the length alone of the flash
+  block-refusal : (budget : ℕ) (d : Device) (k : ℕ) (f g m : List ℕ) → kind m ≡ Block → d .stage ≡ Loading (suc k) → Agree (d .manifest) k f g
+      → refusalOf H valid budget d f m ≡ refusalOf H valid budget d g m
+  unfolding refusalOf refusals always ofKind ofBlock nextOf tooSmall wrongLength spent testOf ahead
+  block-refusal budget d k f g m e t agree =
       let next : nextOf (d .stage) ≡ suc k = rw t in
       rw (e, ← agree .long)
-      (same-behind (ahead refusal.Altered (refusals H valid Block d f m)) _ _
+      (same-behind (ahead refusal.Spent (refusals H valid budget Block d f m)) _ _
       (λ a.
-      let below = awaits d (clear refusal.State _ a) (clear refusal.Stage _ a) (sym next) .high in
+      let awaited = awaits d (clear refusal.State _ a) (clear refusal.Stage _ a) (sym next) in
       let due : wrongLength (d .manifest) (suc k) m ≡ false = rw next at (clear refusal.Length _ a) in
-      rw (next, last-same (d .manifest) k f g m below agree (ltb-false _ _ (clear refusal.Area _ a)) (eqb-true _ _ (not-false _ due)) H)))
+      let long = eqb-true _ _ (not-false _ due) in
+      let room = ltb-false _ _ (clear refusal.Area _ a) in
+      rw (
+        next,
+        cost-same (d .manifest) (suc k) f g m (awaited .size) (awaited .low) (awaited .high) (agree .long) room long,
+        last-same (d .manifest) k f g m (awaited .high) agree room long H,
+      )))
+
+  -- so what it reports is the same over both
+  block-reports : (budget : ℕ) (d : Device) (k : ℕ) (f g m : List ℕ) → kind m ≡ Block → d .stage ≡ Loading (suc k) → Agree (d .manifest) k f g
+      → step H valid budget d f m .compressions ≡ step H valid budget d g m .compressions
+  unfolding step total outcome
+  block-reports budget d k f g m e t agree = rw (← block-refusal budget d k f g m e t agree, e) (go (refusalOf H valid budget d f m) refl)
+    where
+      go : (r : Option Refusal) → refusalOf H valid budget d f m ≡ r
+          → outcome r budget (total H Block d f m) d f (accept Block d f m) .compressions ≡ outcome r budget (total H Block d g m) d g (accept Block d g m) .compressions
+      go none h =
+          let p = block-passed H valid d f m budget e h in
+          cost-same (d .manifest) (nextOf (d .stage)) f g m (p .awaited .size) (p .awaited .low) (p .awaited .high) (agree .long) (p .room) (p .long)
+      go (some r) h = refl
 
   block-is : (d : Device) (k : ℕ) (f m : List ℕ) → d .stage ≡ Loading (suc k) → (t : Stage) → stageAfter (countOf (d .manifest)) (suc k) ≡ t
       → acceptBlock d f m ≡ record {
@@ -215,60 +245,64 @@ module _ (H : List ℕ → List ℕ) (valid : (key message signature : List ℕ)
           (done (rw (hashes, now-same s k f g m below agree (p .room) due h)) refl)
 
   module _ (d : Device) (f g : List ℕ) where
-    abbrev over-f : Messages → Situation
-    over-f ms = now H valid d f ms
+    abbrev over-f : Trace Call → Situation
+    over-f cs = now H valid d f cs
 
-    abbrev over-g : Messages → Situation
-    over-g ms = now H valid d g ms
+    abbrev over-g : Trace Call → Situation
+    over-g cs = now H valid d g cs
 
-    same-refusal : (ms : Messages) (m : List ℕ) → kind m ≡ Block → (k : ℕ) → over-f ms .device ≡ over-g ms .device → over-f ms .device .stage ≡ Loading (suc k)
-        → Agree (over-f ms .device .manifest) k (over-f ms .flash) (over-g ms .flash) → refusalAt H valid d f ms m ≡ refusalAt H valid d g ms m
-    same-refusal ms m e k q t agree =
-        block-refusal (over-f ms .device) k (over-f ms .flash) (over-g ms .flash) m e t agree ∙ ap (λ (x : Device). refusalOf H valid x (over-g ms .flash) m) q
+    same-refusal : (cs : Trace Call) (c : Call) → kind (c .message) ≡ Block → (k : ℕ) → over-f cs .device ≡ over-g cs .device → over-f cs .device .stage ≡ Loading (suc k)
+        → Agree (over-f cs .device .manifest) k (over-f cs .flash) (over-g cs .flash) → refusalAt H valid d f cs c ≡ refusalAt H valid d g cs c
+    same-refusal cs c e k q t agree =
+        block-refusal (c .budget) (over-f cs .device) k (over-f cs .flash) (over-g cs .flash) (c .message) e t agree ∙ ap (λ (x : Device). refusalOf H valid (c .budget) x (over-g cs .flash) (c .message)) q
 
-    one-more : (ms : Messages) (m : List ℕ) → kind m ≡ Block → Together (over-f ms) (over-g ms) → Together (over-f (ms ▷ m)) (over-g (ms ▷ m))
+    one-more : (cs : Trace Call) (c : Call) → kind (c .message) ≡ Block → Together (over-f cs) (over-g cs) → Together (over-f (cs ▷ c)) (over-g (cs ▷ c))
     unfolding accept notLoading
-    one-more ms m e (waits k q t agree) = go (refusalAt H valid d f ms m) refl
+    one-more cs c e (waits k q t agree) = go (refusalAt H valid d f cs c) refl
       where
-        both : refusalAt H valid d f ms m ≡ refusalAt H valid d g ms m
-        both = same-refusal ms m e k q t agree
+        both : refusalAt H valid d f cs c ≡ refusalAt H valid d g cs c
+        both = same-refusal cs c e k q t agree
 
-        go : (r : Option Refusal) → refusalAt H valid d f ms m ≡ r → Together (over-f (ms ▷ m)) (over-g (ms ▷ m))
+        go : (r : Option Refusal) → refusalAt H valid d f cs c ≡ r → Together (over-f (cs ▷ c)) (over-g (cs ▷ c))
         go none h =
-            let p = block-passed H valid (over-f ms .device) (over-f ms .flash) m e h in
-            let w = block-together (over-f ms .device) k (over-f ms .flash) (over-g ms .flash) m t agree p in
-            rw (after-accepted H valid d f ms m h, after-accepted H valid d g ms m (sym both ∙ h), e, accept)
-            (subst (λ (x : Device). Together (acceptBlock (over-f ms .device) (over-f ms .flash) m) (acceptBlock x (over-g ms .flash) m)) q w)
-        go (some r) h = rw (after-refused H valid d f ms m r h, after-refused H valid d g ms m r (sym both ∙ h)) (waits k q t agree)
-    one-more ms m e (done q t) = go (refusalAt H valid d f ms m) refl
+            let p = block-passed H valid (over-f cs .device) (over-f cs .flash) (c .message) (c .budget) e h in
+            let w = block-together (over-f cs .device) k (over-f cs .flash) (over-g cs .flash) (c .message) t agree p in
+            rw (after-accepted H valid d f cs c h, after-accepted H valid d g cs c (sym both ∙ h), e, accept)
+            (subst (λ (x : Device). Together (acceptBlock (over-f cs .device) (over-f cs .flash) (c .message)) (acceptBlock x (over-g cs .flash) (c .message))) q w)
+        go (some r) h = rw (after-refused H valid d f cs c r h, after-refused H valid d g cs c r (sym both ∙ h)) (waits k q t agree)
+    one-more cs c e (done q t) = go (refusalAt H valid d f cs c) refl
       where
-        both : refusalAt H valid d f ms m ≡ refusalAt H valid d g ms m
-        both = ap (λ (x : Situation). refusalOf H valid (x .device) (x .flash) m) q
+        both : refusalAt H valid d f cs c ≡ refusalAt H valid d g cs c
+        both = ap (λ (x : Situation). refusalOf H valid (c .budget) (x .device) (x .flash) (c .message)) q
 
-        go : (r : Option Refusal) → refusalAt H valid d f ms m ≡ r → Together (over-f (ms ▷ m)) (over-g (ms ▷ m))
-        go none h = absurd (true≢false (rw t at (block-passed H valid (over-f ms .device) (over-f ms .flash) m e h .loading)))
-        go (some r) h = rw (after-refused H valid d f ms m r h, after-refused H valid d g ms m r (sym both ∙ h)) (done q t)
+        go : (r : Option Refusal) → refusalAt H valid d f cs c ≡ r → Together (over-f (cs ▷ c)) (over-g (cs ▷ c))
+        go none h = absurd (true≢false (rw t at (block-passed H valid (over-f cs .device) (over-f cs .flash) (c .message) (c .budget) e h .loading)))
+        go (some r) h = rw (after-refused H valid d f cs c r h, after-refused H valid d g cs c r (sym both ∙ h)) (done q t)
 
-    together : (k : ℕ) → d .stage ≡ Loading (suc k) → Agree (d .manifest) k f g → (ms : Messages) → OnlyBlocks ms → Together (over-f ms) (over-g ms)
+    together : (k : ℕ) → d .stage ≡ Loading (suc k) → Agree (d .manifest) k f g → (cs : Trace Call) → OnlyBlocks cs → Together (over-f cs) (over-g cs)
     unfolding after OnlyBlocks
     together k e agree empty o = waits k refl e agree
-    together k e agree (ms ▷ m) o = one-more ms m (o .1) (together k e agree ms (o .0))
+    together k e agree (cs ▷ c) o = one-more cs c (o .1) (together k e agree cs (o .0))
 
-    same-load : (ms : Messages) → Together (over-f ms) (over-g ms) → SameLoad H valid d f g ms
-    unfolding answerOf
-    same-load ms (waits k q t agree) =
+    same-load : (cs : Trace Call) → Together (over-f cs) (over-g cs) → SameLoad H valid d f g cs
+    unfolding answerOf stepCall
+    same-load cs (waits k q t agree) =
         record {
-          answers = λ m e. answered-at H valid d f ms m ∙ ap answerOf (same-refusal ms m e k q t agree) ∙ sym (answered-at H valid d g ms m);
+          answers = λ c e. answered-at H valid d f cs c ∙ ap answerOf (same-refusal cs c e k q t agree) ∙ sym (answered-at H valid d g cs c);
+          reports = λ c e.
+              block-reports (c .budget) (over-f cs .device) k (over-f cs .flash) (over-g cs .flash) (c .message) e t agree
+              ∙ ap (λ (x : Device). step H valid (c .budget) x (over-g cs .flash) (c .message) .compressions) q;
           states = q;
           flashes = λ c. absurd (let z : _≡_ {A = ℕ} 0 1 = cc in omega arith);
         }
-    same-load ms (done q t) =
+    same-load cs (done q t) =
         record {
-          answers = λ m e.
-              answered-at H valid d f ms m ∙ ap (λ (x : Situation). answerOf (refusalOf H valid (x .device) (x .flash) m)) q ∙ sym (answered-at H valid d g ms m);
+          answers = λ c e.
+              answered-at H valid d f cs c ∙ ap (λ (x : Situation). answerOf (refusalOf H valid (c .budget) (x .device) (x .flash) (c .message))) q ∙ sym (answered-at H valid d g cs c);
+          reports = λ c e. ap (λ (x : Situation). step H valid (c .budget) (x .device) (x .flash) (c .message) .compressions) q;
           states = ap (λ (x : Situation). x .device) q;
           flashes = λ c. ap (λ (x : Situation). x .flash) q;
         }
 
   pub torn-load : TornLoad H valid
-  torn-load d k e f g agree ms o = same-load d f g ms (together d f g k e agree ms o)
+  torn-load d k e f g agree cs o = same-load d f g cs (together d f g k e agree cs o)

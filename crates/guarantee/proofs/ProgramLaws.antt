@@ -50,5 +50,5 @@ module _ (H : List ℕ → List ℕ) (hash-long : (x : List ℕ) → length (H x
           signed = rw (p .manifest, p .signed, signed) refl;
         }
 
-    pub program-accepted : refusalOf H valid d flash m ≡ none
-    program-accepted = program-unrefused H valid d flash m program-due
+    pub program-accepted : (budget : ℕ) → refusalOf H valid budget d flash m ≡ none
+    program-accepted budget = program-unrefused H valid d flash m budget program-due

@@ -21,7 +21,8 @@ use Rattle.wire.specs.Refusal.{firstThatApplies}
 use Rattle.wire.specs.Geometry.{countOf}
 use Rattle.wire.specs.Message.{leastLength, short, manifestIn}
 use Rattle.wire.proofs.SizeLaws.{Sized}
-use Rattle.sender.specs.Job.{Image, Job, count, programFor}
+use Rattle.wire.proofs.CostLaws.{costs-due}
+use Rattle.sender.specs.Job.{Image, Job, count, manifestFor, programFor}
 use Rattle.machine.specs.declared.state.Stage.{Stage}
 use Rattle.machine.specs.declared.state.Stage.the-variants.{Idle, Loading, Complete}
 use Rattle.machine.specs.declared.state.Device.{Device}
@@ -29,14 +30,14 @@ use Rattle.machine.specs.declared.state.Answer.{Answer}
 use Rattle.machine.specs.declared.state.Answer.the-variants.{Accepted, Refused}
 use Rattle.machine.specs.Device.{serialOf, OutcomeOf, Situation, Outcome}
 use Rattle.machine.specs.Refusals.{wrongVersion, senseless, noKind, otherModel, notNewer, notLoading, always, ofManifest, ofProgram, ofKind, refusals}
-use Rattle.machine.specs.Step.{acceptProgram, accept, answerOf, refusalOf, step}
+use Rattle.machine.specs.Step.{acceptProgram, accept, answerOf, refusalOf, step, Call, stepCall}
 use Rattle.machine.proofs.RefusalLaws.{answer-none, Successor, Passed, took-program, took-block, took-update, took-path, passed}
 use Rattle.machine.proofs.SenseLaws.{sound, not-complete, sense-idle, sense-loading, sense-complete}
-use Rattle.guarantee.specs.Part.{Part, whole}
+use Rattle.guarantee.specs.Part.{Part, whole, call}
 use Rattle.guarantee.specs.Run.{Trace, Messages, empty, _▷_, after, answerTo, accepted, lastProgram, blocksSince, lastCarrier, signatureIn, Completed}
-use Rattle.guarantee.specs.Demand3.{thenBlocks, Calls, Begun, Honest, begin, next, Loaded, Claim, FirstHalf, SecondHalf, Demand3}
+use Rattle.guarantee.specs.Demand3.{Calls, Begun, Honest, begin, next, Loaded, Claim, FirstHalf, SecondHalf, Demand3}
 use Rattle.guarantee.specs.Claims.{MakesSense}
-use Rattle.guarantee.specs.Recovery.{Offered, Recovers, Recovery, RecoveryFrom, SameAgain, PutBack}
+use Rattle.guarantee.specs.Recovery.{thenSent, Covers, MostCovers, Offered, Recovers, Recovery, RecoveryFrom, SameAgain, PutBack}
 use Rattle.guarantee.specs.Updates.{Installed}
 use Rattle.guarantee.proofs.InvariantLaws.{with-program, with-block, with-update, with-path}
 use Rattle.guarantee.proofs.RunLaws.{slot}
@@ -127,58 +128,73 @@ module _ (H : List ℕ → List ℕ) (valid : (key message signature : List ℕ)
   sense cs = sense-of cs (standing cs)
 
 -- Where demand 3 holds refusal 1 never applies.
-pub makes-sense : (H : List ℕ → List ℕ) (valid : (key message signature : List ℕ) → Bool) (any : Device → List ℕ → List ℕ → Outcome) → Demand3 H valid any → MakesSense H valid (whole H valid) any
+pub makes-sense : (H : List ℕ → List ℕ) (valid : (key message signature : List ℕ) → Bool) (any : Device → List ℕ → Call → Outcome) → Demand3 H valid any → MakesSense H valid (whole H valid) any
 makes-sense H valid any meets d fresh flash =
-    sense H valid (whole H valid) any d flash (λ ms. meets d fresh flash ms .first)
-    (λ ms m n e. let s = after any d flash ms in passed H valid (s .device) (s .flash) m (answer-none _ (sym (meets d fresh flash ms .calls .answers m) ∙ e)))
+    sense H valid (whole H valid) any d flash (λ cs. meets d fresh flash cs .first)
+    (λ cs c n e.
+    let s = after any d flash cs in
+    passed H valid (s .device) (s .flash) (c .message) (c .budget) (answer-none _ (sym (meets d fresh flash cs .calls .answers c) ∙ e)))
 
 -- A device that makes sense takes the program that it is offered, and then its blocks.
 module _ (H : List ℕ → List ℕ) (hash-long : (x : List ℕ) → length (H x) ≡ hashLength) (valid : (key message signature : List ℕ) → Bool)
-    (any : Device → List ℕ → List ℕ → Outcome) (d : Device) (flash : List ℕ) (ms : Messages) (job : Job) (signature : List ℕ) where
+    (any : Device → List ℕ → Call → Outcome) (d : Device) (flash : List ℕ) (cs : Trace Call) (job : Job) where
   -- the list with nothing between
-  plain : (j : ℕ) → j ≤ count (job .image) → Honest H valid (whole H valid) any d flash job ms (programFor H job signature) j (thenBlocks H (job .image) (ms ▷ programFor H job signature) j)
-  unfolding thenBlocks
-  plain zero h = begin
-  plain (suc j) h = next h refl refl (plain j (omega arith))
+  plain : (c : Call) (budget : ℕ) → Covers H job budget → (j : ℕ) → j ≤ count (job .image)
+      → Honest H valid (whole H valid) any d flash job cs c j (thenSent H (job .image) budget (cs ▷ c) j)
+  unfolding thenSent
+  plain c budget covers zero h = begin
+  plain c budget covers (suc j) h = next h refl refl (covers (suc j) (omega arith) h) (plain c budget covers j (omega arith))
 
-  recovers : Calls H valid (whole H valid) any d flash ms → length (after any d flash ms .flash) ≡ length flash → ((list : Messages) → SecondHalf H valid (whole H valid) any d flash list)
-      → senseless (after any d flash ms .device) ≡ false → Offered H valid any d flash ms job signature → Recovers H valid any d flash ms job signature
-  recovers calls long second sense o =
-      record { taken = accepts; loaded = loads; none-between = loads (thenBlocks H (job .image) (ms ▷ programFor H job signature) (count (job .image))) (plain (count (job .image)) (omega arith)) }
-    where
-      at : Situation
-      at = after any d flash ms
+  module _ (signature : List ℕ) where
+    recovers : Calls H valid (whole H valid) any d flash cs → length (after any d flash cs .flash) ≡ length flash → ((list : Trace Call) → SecondHalf H valid (whole H valid) any d flash list)
+        → senseless (after any d flash cs .device) ≡ false → Offered H valid any d flash cs job signature → Recovers H valid any d flash cs job signature
+    recovers calls long second sense o =
+        record {
+          taken = accepts;
+          loaded = loads;
+          none-between = λ b budget covers. loads b _ (plain (call b (programFor H job signature)) budget covers (count (job .image)) (omega arith));
+        }
+      where
+        at : Situation
+        at = after any d flash cs
 
-      accepts : answerTo any d flash ms (programFor H job signature) ≡ Accepted
-      accepts =
-          unfold answerOf in
-          (calls .answers (programFor H job signature)
-          ∙ ap answerOf
-          (program-accepted H hash-long valid job (o .sendable) signature (at .device) (at .flash) sense (o .model ∙ sym (calls .model)) (o .newer) (rw long (o .room)) (rw (calls .key) (o .signed))))
+        accepts : (b : ℕ) → answerTo any d flash cs (call b (programFor H job signature)) ≡ Accepted
+        accepts b =
+            unfold answerOf in
+            (calls .answers (call b (programFor H job signature))
+            ∙ ap answerOf
+            (program-accepted H hash-long valid job (o .sendable) signature (at .device) (at .flash) sense (o .model ∙ sym (calls .model)) (o .newer) (rw long (o .room)) (rw (calls .key) (o .signed)) b))
 
-      begun : Begun H valid (whole H valid) any d flash job ms (programFor H job signature)
-      begun =
-          let p = is-program H hash-long valid job (o .sendable) signature in
-          record { sendable = o .sendable; program = p .is; carries = p .manifest; taken = (refl, accepts) }
+        begun : (b : ℕ) → Begun H valid (whole H valid) any d flash job cs (call b (programFor H job signature))
+        begun b =
+            let p = is-program H hash-long valid job (o .sendable) signature in
+            record { sendable = o .sendable; program = p .is; carries = p .manifest; taken = (refl, accepts b) }
 
-      loads : (list : Messages) → Honest H valid (whole H valid) any d flash job ms (programFor H job signature) (count (job .image)) list → Loaded H valid (whole H valid) any d flash job ms list
-      loads list h = second list .loads job ms (programFor H job signature) (count (job .image)) begun h .done refl
+        loads : (b : ℕ) (list : Trace Call) → Honest H valid (whole H valid) any d flash job cs (call b (programFor H job signature)) (count (job .image)) list
+            → Loaded H valid (whole H valid) any d flash job cs list
+        loads b list h = second list .loads job cs (call b (programFor H job signature)) (count (job .image)) (begun b) h .done refl
 
 -- for any step that meets demand 3, with any hash function of 32 bytes and any verdict
 pub recovery-for : (H : List ℕ → List ℕ) → ((x : List ℕ) → length (H x) ≡ hashLength) → (valid : (key message signature : List ℕ) → Bool)
-    (any : Device → List ℕ → List ℕ → Outcome) → Demand3 H valid any → Recovery H valid any
-recovery-for H hash-long valid any meets d fresh flash ms job signature =
-    let claim : (ms : Messages) → Claim H valid (whole H valid) any d flash ms = meets d fresh flash in
-    recovers H hash-long valid any d flash ms job signature (claim ms .calls) (claim ms .first .one) (λ list. claim list .second) (makes-sense H valid any meets d fresh flash ms)
+    (any : Device → List ℕ → Call → Outcome) → Demand3 H valid any → Recovery H valid any
+recovery-for H hash-long valid any meets d fresh flash cs job signature o =
+    let claim : (cs : Trace Call) → Claim H valid (whole H valid) any d flash cs = meets d fresh flash in
+    recovers H hash-long valid any d flash cs job signature (claim cs .calls) (claim cs .first .one) (λ list. claim list .second)
+    (makes-sense H valid any meets d fresh flash cs) o
 
 -- for the device, with SHA-256 and the verdict of RFC 8554
-pub recovery : Recovery digest lms.valid (step digest lms.valid)
-recovery = recovery-for digest length-digest lms.valid (step digest lms.valid) demand3
+pub recovery : Recovery digest lms.valid (stepCall digest lms.valid)
+recovery = recovery-for digest length-digest lms.valid (stepCall digest lms.valid) demand3
 
 pub recovery-from : (H : List ℕ → List ℕ) → ((x : List ℕ) → length (H x) ≡ hashLength) → (valid : (key message signature : List ℕ) → Bool) → RecoveryFrom H valid
 unfolding after
 recovery-from H hash-long valid d sense flash job signature =
-    recovers H hash-long valid (step H valid) d flash empty job signature (calls H valid d flash empty) refl (λ list. second-half H hash-long valid (whole H valid) (step H valid) d flash (serves H valid) (willing H valid d flash) list) sense
+    recovers H hash-long valid (stepCall H valid) d flash empty job signature (calls H valid d flash empty) refl
+    (second-half H hash-long valid (whole H valid) (stepCall H valid) d flash (serves H valid) (willing H valid d flash)) sense
+
+pub most-covers : (H : List ℕ → List ℕ) → ((x : List ℕ) → length (H x) ≡ hashLength) → MostCovers H
+unfolding manifestFor countOf count
+most-covers H hash-long job ok i low high = costs-due H hash-long (manifestFor H job) i (ok .size) low high .most
 
 -- the serial of a device that is not idle
 own-serial : (d : Device) → (d .stage ≡ Idle → ⊥) → serialOf d ≡ d .manifest .serial
@@ -193,43 +209,52 @@ own-serial d busy = go (d .stage) refl
 -- so a further new program with the same manifest is refused 7
 pub same-again : (H : List ℕ → List ℕ) (valid : (key message signature : List ℕ) → Bool) → SameAgain H valid
 unfolding after answerTo answerOf refusalOf refusals always ofKind ofManifest ofProgram noKind short otherModel notNewer firstThatApplies
-same-again H valid d e busy model flash m is long same =
+same-again H valid budget d e busy model flash m is long same =
     let s = d .manifest in
     let q = sound d e busy in
-    let first : refusalOf H valid d flash m ≡ some refusal.Serial =
+    let first : refusalOf H valid budget d flash m ≡ some refusal.Serial =
     rw (is, same, e, le-ltb (length m) (leastLength Program) long, q .0, q .1, eq-eqb (s .model) (d .model) model, own-serial d busy, le-ltb (s .serial) (s .serial) (omega arith)) in
-    answered H valid d flash m ∙ ap answerOf first
+    answered H valid budget d flash m ∙ ap answerOf first
 
 -- a list of blocks after others, as a list from where those lead
-from-there : (H : List ℕ → List ℕ) (any : Device → List ℕ → List ℕ → Outcome) (d : Device) (flash : List ℕ) (image : Image) (ms : Messages) (j : ℕ)
-    → after any d flash (thenBlocks H image ms j) ≡ (let s = after any d flash ms in after any (s .device) (s .flash) (thenBlocks H image empty j))
-unfolding after thenBlocks
-from-there H any d flash image ms zero = refl
-from-there H any d flash image ms (suc j) = rw (from-there H any d flash image ms j)
+from-there : (H : List ℕ → List ℕ) (any : Device → List ℕ → Call → Outcome) (d : Device) (flash : List ℕ) (image : Image) (budget : ℕ) (cs : Trace Call) (j : ℕ)
+    → after any d flash (thenSent H image budget cs j) ≡ (let s = after any d flash cs in after any (s .device) (s .flash) (thenSent H image budget empty j))
+unfolding after thenSent
+from-there H any d flash image budget cs zero = refl
+from-there H any d flash image budget cs (suc j) = rw (from-there H any d flash image budget cs j)
 
--- what an offered program does: the device then has nothing of the flash
+-- what an offered program does, with any budget: the device then has nothing of the flash
 program-does : (H : List ℕ → List ℕ) → ((x : List ℕ) → length (H x) ≡ hashLength) → (valid : (key message signature : List ℕ) → Bool)
-    (d : Device) → senseless d ≡ false → (flash : List ℕ) (job : Job) (signature : List ℕ) → Offered H valid (step H valid) d flash empty job signature
-    → (let p = programFor H job signature in step H valid d flash p ≡ record { answer = Accepted; device = acceptProgram d flash p .device; flash = flash })
+    (d : Device) → senseless d ≡ false → (flash : List ℕ) (job : Job) (signature : List ℕ) → Offered H valid (stepCall H valid) d flash empty job signature → (budget : ℕ)
+    → (let p = programFor H job signature in
+    let o = step H valid budget d flash p in
+    (o .device ≡ acceptProgram d flash p .device) × (o .flash ≡ flash))
 unfolding after accept acceptProgram
-program-does H hash-long valid d sense flash job signature o =
-    accepted-step H valid d flash _ (program-accepted H hash-long valid job (o .sendable) signature d flash sense (o .model) (o .newer) (o .room) (o .signed))
-    ∙ rw (is-program H hash-long valid job (o .sendable) signature .is, accept)
+program-does H hash-long valid d sense flash job signature o budget =
+    rw (
+      accepted-step H valid budget d flash _ (program-accepted H hash-long valid job (o .sendable) signature d flash sense (o .model) (o .newer) (o .room) (o .signed) budget),
+      is-program H hash-long valid job (o .sendable) signature .is,
+      accept,
+    ) (refl, refl)
 
 pub put-back : (H : List ℕ → List ℕ) → ((x : List ℕ) → length (H x) ≡ hashLength) → (valid : (key message signature : List ℕ) → Bool) → PutBack H valid
-unfolding after acceptProgram
-put-back H hash-long valid d sense flash job signature o now room =
+unfolding after acceptProgram stepCall
+put-back H hash-long valid d sense flash job signature o first now room =
     let p = programFor H job signature in
     let n = count (job .image) in
-    let o' : Offered H valid (step H valid) d now empty job signature = record { sendable = o .sendable; model = o .model; newer = o .newer; room = room; signed = o .signed } in
+    let o' : Offered H valid (stepCall H valid) d now empty job signature = record { sendable = o .sendable; model = o .model; newer = o .newer; room = room; signed = o .signed } in
     let does = program-does H hash-long valid d sense in
-    let saved : after (step H valid) d now (empty ▷ p) ≡ record { device = step H valid d flash p .device; flash = now } = rw (does now job signature o', does flash job signature o) in
+    let was = does flash job signature o first in
+    let saved : (b : ℕ) → after (stepCall H valid) d now (empty ▷ call b p) ≡ record { device = step H valid first d flash p .device; flash = now } =
+    λ b. let is = does now job signature o' b in rw (is .0, is .1, was .0) in
     let r = recovery-from H hash-long valid d sense now job signature o' in
-    let end = r .none-between in
     record {
       same = saved;
       recovers = r;
-      loads = subst (λ (s : Situation). Installed H job now (s .device) (s .flash))
-          (from-there H (step H valid) d now (job .image) (empty ▷ p) n ∙ ap (λ (s : Situation). after (step H valid) (s .device) (s .flash) (thenBlocks H (job .image) empty n)) saved)
+      loads = λ budget covers.
+          let end = r .none-between 0 budget covers in
+          subst (λ (s : Situation). Installed H job now (s .device) (s .flash))
+          (from-there H (stepCall H valid) d now (job .image) budget (empty ▷ call 0 p) n
+          ∙ ap (λ (s : Situation). after (stepCall H valid) (s .device) (s .flash) (thenSent H (job .image) budget empty n)) (saved 0))
           (record { stage = end .stage; manifest = end .manifest; image = end .image });
     }

@@ -11,12 +11,14 @@ use lib.ListN.{length, getD, take, drop, replicate, length-append, length-replic
 use lib.Seq.{length-take-le}
 use Rattle.octets.specs.Octets.{bytes, number, joined, equal}
 use Rattle.octets.proofs.EqualLaws.{equal-self, equal-true}
+use Rattle.sha256.specs.Sha256.{zeroBits, padding, pad}
 use Rattle.merkle.specs.Limits.{hashLength, heldBytes}
-use Rattle.merkle.specs.Blocks.{blockCount, cut}
+use Rattle.merkle.specs.Blocks.{blockCount, cut, overlay}
 use Rattle.merkle.specs.Shape.{Shape, size, leastFrom, depth, split, build, Place, shape}
 use Rattle.merkle.specs.Hash.{plain, hash, hashes, input, climbFrom, climb}
 use Rattle.merkle.specs.Frontier.{largest, rightSiblings, siblings, carriedCount, frontier, heldCount}
 use Rattle.merkle.specs.Path.{pathSiblings, leafDepth, way, besideInput, ascend, ascendInputs, sentPath, pathHash, pathInputs, PathCollision}
+use Rattle.merkle.specs.Cost.{cost, climbFromCost, climbCost, fitsCost, knownCost}
 use Rattle.merkle.specs.Held.{hashesIn, heldStart, heldIn, nextHeld, begun, advanced, fits, sent}
 use Rattle.wire.specs.declared.kind.Kind.the-variants.{Program, Block, Update, PathUpdate, Unknown}
 use Rattle.wire.specs.declared.manifest.Manifest.{Manifest}
@@ -27,6 +29,7 @@ use Rattle.wire.specs.Size.{allowedLength, wrongSize, outside}
 use Rattle.wire.specs.Manifest.{written, read}
 use Rattle.wire.specs.Geometry.{countOf, blockLength, blocksOf, withBlock, treeOver}
 use Rattle.wire.specs.Message.{kind, carries, short, programMessage, blockMessage, updateMessage, pathMessage, manifestBytes, manifestIn, programSignature, numberIn, blockIn, hashesAfter, updateNumber, updateBlock, updateSignature, pathIn, pathSignature, dueLength, leastUpdate, leastPath}
+use Rattle.wire.specs.Cost.{treeCost, comparisonCost, lastCost, blockCost, costDue}
 use Rattle.sender.specs.Job.{Image, Job, count, blocks, rootOf, manifestFor, programFor, blockFor, updateFor, pathFor}
 use Rattle.machine.specs.declared.state.Stage.{Stage}
 use Rattle.machine.specs.declared.state.Stage.the-variants.{Idle, Complete}
@@ -34,16 +37,16 @@ use Rattle.machine.specs.declared.state.Device.{Device}
 use Rattle.machine.specs.declared.state.Answer.the-variants.{Accepted, Refused}
 use Rattle.machine.specs.Device.{Fresh, serialOf, nextOf, heldBy, Outcome}
 use Rattle.machine.specs.Flash.{stored, updated}
-use Rattle.machine.specs.Refusals.{wrongVersion, senseless, noKind, otherModel, notNewer, tooSmall, notLoading, notComplete, notNext, wrongLength, unlike, mismatch, lacksRoot, lastAltered, unsigned, strays, ofManifest, always, ofProgram, ofBlock, ofSuccessor, ofUpdate, ofPathUpdate, ofKind, refusals}
-use Rattle.machine.specs.Step.{acceptProgram, stageAfter, acceptBlock, acceptUpdate, accept, answerOf, outcome, refusalOf, step}
+use Rattle.machine.specs.Refusals.{wrongVersion, senseless, noKind, otherModel, notNewer, tooSmall, notLoading, notComplete, notNext, wrongLength, unlike, mismatch, lacksRoot, lastAltered, spent, unsigned, strays, ofManifest, always, ofProgram, ofBlock, ofSuccessor, ofUpdate, ofPathUpdate, ofKind, refusals}
+use Rattle.machine.specs.Step.{acceptProgram, stageAfter, acceptBlock, acceptUpdate, accept, answerOf, total, outcome, refusalOf, step, Call, stepCall}
 use Rattle.machine.specs.BootCheck.{ofBoot, bootCheck}
-use Rattle.guarantee.specs.Part.{Part, whole}
-use Rattle.guarantee.specs.Run.{Messages, empty, _▷_, after, answerTo, accepted, lastProgram, blocksSince, pathsSince, lastCarrier, signatureIn}
+use Rattle.guarantee.specs.Part.{Part, whole, call}
+use Rattle.guarantee.specs.Run.{Trace, empty, _▷_, after, answerTo, accepted, lastProgram, blocksSince, pathsSince, lastCarrier, signatureIn}
 use Rattle.guarantee.specs.Demand3.{thenBlocks, Demand3}
 use Rattle.guarantee.proofs.Demand3Holds.{demand3-for}
 
 abbrev pub Step : Type 0
-Step = Device → List ℕ → List ℕ → Outcome
+Step = Device → List ℕ → Call → Outcome
 
 -- a toy hash of 32 bytes, in which of two hashes the right one counts; every signature valid, or none
 unfoldable pub toy : List ℕ → List ℕ
@@ -56,7 +59,7 @@ unfoldable pub nobody : (key message signature : List ℕ) → Bool
 nobody k m s = false
 
 -- the only part of a device that has this hash function and takes every signature
-abbrev pub part : Part Device (List ℕ) (List ℕ)
+abbrev pub part : Part Device (List ℕ) Call
 part = whole toy any
 
 -- an image of two blocks of 64 bytes, its successor, with another second block, and the image again with a serial that is not new
@@ -82,43 +85,62 @@ fresh = record { model = 7; key = []; stage = Idle; manifest = record { version 
 unfoldable pub flash : List ℕ
 flash = replicate 130 5
 
-unfoldable pub program : List ℕ
-program = programFor toy job []
+-- messages with a budget that suffices for each of these images, and so the sender's: a new program, block i, an update of block i, and one by a path
+abbrev pub ample : List ℕ → Call
+ample m = call 1000 m
+
+abbrev pub sendProgram : Job → Call
+sendProgram job = ample (programFor toy job [])
+
+abbrev pub sendBlock : Image → ℕ → Call
+sendBlock image i = ample (blockFor toy image i)
+
+abbrev pub sendUpdate : Job → ℕ → Call
+sendUpdate job i = ample (updateFor toy job i [])
+
+abbrev pub sendPath : Job → ℕ → Call
+sendPath job i = ample (pathFor toy job i [])
+
+unfoldable pub program : Call
+program = sendProgram job
 
 -- a manifest for two such blocks with any root
 unfoldable pub manifestWith : (serial : ℕ) (root : List ℕ) → Manifest
 manifestWith serial root = record { version = 1; «block_len» = 64; model = 7; serial = serial; «image_len» = 128; root = root }
 
 -- a manifest with a root that no image has, since each toy hash begins with 1: no run with it is honest
-unfoldable pub nobodys : List ℕ
-nobodys = programMessage (manifestWith 1 (replicate 32 9)) []
+unfoldable pub nobodys : Call
+nobodys = ample (programMessage (manifestWith 1 (replicate 32 9)) [])
 
 unfoldable pub noImage : Manifest → Bool
 noImage s = not (eqb (getD (s .root) 0 0) 1)
 
 -- the device as it should be; one that accepts without a look; one that refuses
 unfoldable pub right : Step
-right = step toy any
+right = stepCall toy any
 
 unfoldable pub taking : Step
-taking d f m = outcome none d f (accept (kind m) d f m)
+taking d f c = let m = c .message in outcome none (c .budget) (total toy (kind m) d f m) d f (accept (kind m) d f m)
 
 unfoldable pub refusingAs : Refusal → Step
-refusingAs r d f m = outcome (some r) d f (record { device = d; flash = f })
+refusingAs r d f c = outcome (some r) (c .budget) 0 d f (record { device = d; flash = f })
 
 unfoldable pub refusing : Step
 refusing = refusingAs refusal.State
 
--- An accepted message's outcome with another device, or another flash; a refused one's stays.
+-- An outcome with another device and flash; so for an accepted message alone, with another device or another flash.
+unfoldable pub leaving : Outcome → Device → List ℕ → Outcome
+leaving o d f = record { answer = o .answer; compressions = o .compressions; budget = o .budget; device = d; flash = f }
+
 unfoldable pub but : Outcome → Device → Outcome
-but o d = elim (o .answer) [ Accepted ↦ record { answer = Accepted; device = d; flash = o .flash } | Refused r ↦ o ]
+but o d = elim (o .answer) [ Accepted ↦ leaving o d (o .flash) | Refused r ↦ o ]
 
 unfoldable pub butFlash : Outcome → List ℕ → Outcome
-butFlash o f = elim (o .answer) [ Accepted ↦ record { answer = Accepted; device = o .device; flash = f } | Refused r ↦ o ]
+butFlash o f = elim (o .answer) [ Accepted ↦ leaving o (o .device) f | Refused r ↦ o ]
 
 -- a device with a step for each kind
 unfoldable pub byKind : Step → Step → Step → Step → Step
-byKind p b u w d f m = elim (kind m) [ Program ↦ p d f m | Block ↦ b d f m | Update ↦ u d f m | PathUpdate ↦ w d f m | Unknown ↦ right d f m ]
+byKind p b u w d f c = elim (kind (c .message)) [ Program ↦ p d f c | Block ↦ b d f c | Update ↦ u d f c | PathUpdate ↦ w d f c | Unknown ↦ right d f c ]
 
 -- Of places with a hash input each: where it has the hash of the tree's input there, it is that input.
 unfoldable pub NoneCollides : (ℕ → List ℕ) → List (Place × List ℕ) → Type 0
@@ -127,11 +149,11 @@ NoneCollides blocks (e ∷ es) = (let x = input (plain toy) blocks (e .0 .0) (e 
 
 -- What the runs compute with, by layer: to unfold the last is to unfold all.
 unfoldable pub tree-computes : ℕ
-unfolding blockCount cut size leastFrom depth split build shape hash hashes input climbFrom climb largest rightSiblings siblings carriedCount frontier heldCount joined hashesIn heldStart heldIn nextHeld begun advanced fits sent pathSiblings leafDepth way besideInput ascend ascendInputs sentPath pathHash pathInputs
+unfolding zeroBits padding pad blockCount cut overlay size leastFrom depth split build shape hash hashes input climbFrom climb largest rightSiblings siblings carriedCount frontier heldCount joined hashesIn heldStart heldIn nextHeld begun advanced fits sent pathSiblings leafDepth way besideInput ascend ascendInputs sentPath pathHash pathInputs cost climbFromCost climbCost fitsCost knownCost
 tree-computes = 0
 
 unfoldable pub wire-computes : ℕ
-unfolding bytes number equal firstThatApplies allowedLength wrongSize outside written read countOf blockLength blocksOf withBlock treeOver kind carries short programMessage blockMessage updateMessage pathMessage manifestBytes manifestIn programSignature numberIn blockIn hashesAfter updateNumber updateBlock updateSignature pathIn pathSignature dueLength leastUpdate leastPath
+unfolding bytes number equal firstThatApplies allowedLength wrongSize outside written read countOf blockLength blocksOf withBlock treeOver kind carries short programMessage blockMessage updateMessage pathMessage manifestBytes manifestIn programSignature numberIn blockIn hashesAfter updateNumber updateBlock updateSignature pathIn pathSignature dueLength leastUpdate leastPath treeCost comparisonCost lastCost blockCost costDue
 wire-computes = 0
 
 unfoldable pub sender-computes : ℕ
@@ -139,27 +161,27 @@ unfolding count blocks rootOf manifestFor programFor blockFor updateFor pathFor
 sender-computes = 0
 
 unfoldable pub refusals-compute : ℕ
-unfolding serialOf nextOf heldBy wrongVersion senseless noKind otherModel notNewer tooSmall notLoading notComplete notNext wrongLength unlike mismatch lacksRoot lastAltered unsigned strays always ofManifest ofProgram ofBlock ofSuccessor ofUpdate ofPathUpdate ofKind refusals refusalOf ofBoot
+unfolding serialOf nextOf heldBy wrongVersion senseless noKind otherModel notNewer tooSmall notLoading notComplete notNext wrongLength unlike mismatch lacksRoot lastAltered spent unsigned strays always ofManifest ofProgram ofBlock ofSuccessor ofUpdate ofPathUpdate ofKind refusals refusalOf ofBoot
 refusals-compute = 0
 
 unfoldable pub run-computes : ℕ
-unfolding stored updated acceptProgram stageAfter acceptBlock acceptUpdate accept outcome step bootCheck after answerTo accepted lastProgram blocksSince pathsSince lastCarrier signatureIn answerOf thenBlocks
+unfolding stored updated acceptProgram stageAfter acceptBlock acceptUpdate accept total outcome step stepCall bootCheck after answerTo accepted lastProgram blocksSince pathsSince lastCarrier signatureIn answerOf thenBlocks
 run-computes = 0
 
 unfoldable pub computing : ℕ
-unfolding tree-computes wire-computes sender-computes refusals-compute run-computes toy any nobody job newer old uneven unevenNewer fresh flash program manifestWith nobodys noImage right taking refusingAs refusing but butFlash byKind NoneCollides
+unfolding tree-computes wire-computes sender-computes refusals-compute run-computes toy any nobody job newer old uneven unevenNewer fresh flash program manifestWith nobodys noImage right taking refusingAs refusing leaving but butFlash byKind NoneCollides
 computing = 0
 
-abbrev pub loaded : Messages
-loaded = empty ▷ program ▷ blockFor toy (job .image) 1 ▷ blockFor toy (job .image) 2
+abbrev pub loaded : Trace Call
+loaded = empty ▷ program ▷ sendBlock (job .image) 1 ▷ sendBlock (job .image) 2
 
 -- the right device in these runs: complete, and the update taken, by a path too; another tree's path is not
 pub right-runs : (after right fresh flash loaded .device .stage ≡ Complete)
     × (after right fresh flash loaded .flash ≡ replicate 128 3 ++ (5 ∷ 5 ∷ []))
-    × (answerTo right fresh flash loaded (updateFor toy newer 2 []) ≡ Accepted)
-    × (answerTo right fresh flash loaded (pathFor toy newer 2 []) ≡ Accepted)
-    × (answerTo right fresh flash loaded (pathFor toy newer 1 []) ≡ Refused refusal.Path)
-    × (answerTo right fresh flash (empty ▷ program ▷ blockFor toy (job .image) 1) (blockFor toy (newer .image) 2) ≡ Refused refusal.Mismatch)
+    × (answerTo right fresh flash loaded (sendUpdate newer 2) ≡ Accepted)
+    × (answerTo right fresh flash loaded (sendPath newer 2) ≡ Accepted)
+    × (answerTo right fresh flash loaded (sendPath newer 1) ≡ Refused refusal.Path)
+    × (answerTo right fresh flash (empty ▷ program ▷ sendBlock (job .image) 1) (sendBlock (newer .image) 2) ≡ Refused refusal.Mismatch)
 unfolding computing
 right-runs = (refl, refl, refl, refl, refl, refl)
 
@@ -168,15 +190,15 @@ right-runs = (refl, refl, refl, refl, refl, refl)
 abbrev pub unevenFlash : List ℕ
 unevenFlash = replicate 260 5
 
-abbrev pub unevenLoaded : Messages
-unevenLoaded = empty ▷ programFor toy uneven [] ▷ blockFor toy (uneven .image) 1 ▷ blockFor toy (uneven .image) 2
+abbrev pub unevenLoaded : Trace Call
+unevenLoaded = empty ▷ sendProgram uneven ▷ sendBlock (uneven .image) 1 ▷ sendBlock (uneven .image) 2
 
-pub uneven-runs : (answerTo right fresh (replicate 257 5) empty (programFor toy uneven []) ≡ Accepted)
-    × (answerTo right fresh (replicate 256 5) empty (programFor toy uneven []) ≡ Refused refusal.Area)
+pub uneven-runs : (answerTo right fresh (replicate 257 5) empty (sendProgram uneven) ≡ Accepted)
+    × (answerTo right fresh (replicate 256 5) empty (sendProgram uneven) ≡ Refused refusal.Area)
     × (after right fresh unevenFlash unevenLoaded .device .stage ≡ Complete)
     × (after right fresh unevenFlash unevenLoaded .flash ≡ replicate 257 3 ++ (5 ∷ 5 ∷ 5 ∷ []))
-    × (after right fresh unevenFlash (unevenLoaded ▷ updateFor toy unevenNewer 2 []) .flash ≡ replicate 256 3 ++ (4 ∷ 5 ∷ 5 ∷ 5 ∷ []))
-    × (after right fresh unevenFlash (unevenLoaded ▷ pathFor toy unevenNewer 2 []) .flash ≡ replicate 256 3 ++ (4 ∷ 5 ∷ 5 ∷ 5 ∷ []))
+    × (after right fresh unevenFlash (unevenLoaded ▷ sendUpdate unevenNewer 2) .flash ≡ replicate 256 3 ++ (4 ∷ 5 ∷ 5 ∷ 5 ∷ []))
+    × (after right fresh unevenFlash (unevenLoaded ▷ sendPath unevenNewer 2) .flash ≡ replicate 256 3 ++ (4 ∷ 5 ∷ 5 ∷ 5 ∷ []))
 unfolding computing
 uneven-runs = (refl, refl, refl, refl, refl, refl)
 
@@ -184,13 +206,13 @@ uneven-runs = (refl, refl, refl, refl, refl, refl)
 unfoldable pub filled : Image
 filled = record { bytes = replicate 256 3 ++ (3 ∷ replicate 255 255); «block_len» = 256 }
 
-unfoldable pub filledProgram : List ℕ
-filledProgram = programMessage (record { version = 1; «block_len» = 256; model = 7; serial = 1; «image_len» = 257; root = rootOf toy filled }) []
+unfoldable pub filledProgram : Call
+filledProgram = ample (programMessage (record { version = 1; «block_len» = 256; model = 7; serial = 1; «image_len» = 257; root = rootOf toy filled }) [])
 
 pub filling-fails : (answerTo right fresh unevenFlash empty filledProgram ≡ Accepted)
-    × (answerTo right fresh unevenFlash (empty ▷ filledProgram) (blockFor toy filled 1) ≡ Accepted)
-    × (answerTo right fresh unevenFlash (empty ▷ filledProgram ▷ blockFor toy filled 1) (blockFor toy filled 2) ≡ Refused refusal.Length)
-    × (answerTo right fresh unevenFlash (empty ▷ filledProgram ▷ blockFor toy filled 1) (blockFor toy (uneven .image) 2) ≡ Refused refusal.Mismatch)
+    × (answerTo right fresh unevenFlash (empty ▷ filledProgram) (sendBlock filled 1) ≡ Accepted)
+    × (answerTo right fresh unevenFlash (empty ▷ filledProgram ▷ sendBlock filled 1) (sendBlock filled 2) ≡ Refused refusal.Length)
+    × (answerTo right fresh unevenFlash (empty ▷ filledProgram ▷ sendBlock filled 1) (sendBlock (uneven .image) 2) ≡ Refused refusal.Mismatch)
 unfolding computing filled filledProgram
 filling-fails = (refl, refl, refl, refl)
 
@@ -222,5 +244,5 @@ pub meets : Demand3 toy any right
 unfolding right
 meets = demand3-for toy toy-long any
 
-pub meets-nobody : Demand3 toy nobody (step toy nobody)
+pub meets-nobody : Demand3 toy nobody (stepCall toy nobody)
 meets-nobody = demand3-for toy toy-long nobody

@@ -38,7 +38,7 @@ use Rattle.guarantee.proofs.DeviceLaws.{accepted-step}
 use Rattle.guarantee.proofs.SentLaws.{count-most, block-length, root-long, manifest-is}
 use Rattle.guarantee.proofs.HonestLaws.{image-rooted}
 
-module _ (H : List ℕ → List ℕ) (hash-long : (x : List ℕ) → length (H x) ≡ hashLength) (valid : (key message signature : List ℕ) → Bool) (d : Device) (flash old : List ℕ)
+module _ (H : List ℕ → List ℕ) (hash-long : (x : List ℕ) → length (H x) ≡ hashLength) (valid : (key message signature : List ℕ) → Bool) (budget : ℕ) (d : Device) (flash old : List ℕ)
     (a b : Job) (i : ℕ) (signature : List ℕ) (was : Installed H a old d flash) (o : UpdateOffered H valid d a b i signature) where
   abbrev n : ℕ
   n = count (b .image)
@@ -130,9 +130,9 @@ module _ (H : List ℕ → List ℕ) (hash-long : (x : List ℕ) → length (H x
     unfolding updated manifestFor
     after = rw (size, c .block, read, c .number) flash-new
 
-    done : accept (kind m) d flash m ≡ acceptUpdate d flash m → refusalOf H valid d flash m ≡ none → Updated H b old (step H valid d flash m)
+    done : accept (kind m) d flash m ≡ acceptUpdate d flash m → refusalOf H valid budget d flash m ≡ none → Updated H b old (step H valid budget d flash m)
     unfolding acceptUpdate
-    done is unrefused = rw (accepted-step H valid d flash m unrefused, is) (record { taken = refl; installed = record { stage = was .stage; manifest = read; image = after } })
+    done is unrefused = rw (accepted-step H valid budget d flash m unrefused, is) (record { taken = refl; installed = record { stage = was .stage; manifest = read; image = after } })
 
   -- kind 3
   abbrev update : List ℕ
@@ -142,14 +142,14 @@ module _ (H : List ℕ → List ℕ) (hash-long : (x : List ℕ) → length (H x
   unfolding updateFor
   is-update = of-update s (root-long H hash-long b (o .sendable)) signature (suc i) (blocks (b .image) i) few
 
-  by-update : Updated H b old (step H valid d flash update)
+  by-update : Updated H b old (step H valid budget d flash update)
   unfolding accept leastUpdate
   by-update =
       let r = is-update in
       let c : Carries update = record { manifest = r .manifest; number = r .number; block = r .blocks } in
       let z = size update c in
       done update c (rw (r .is))
-      (update-unrefused H valid d flash update (due update c (r .is) (omega (arith, r .size)) (omega (arith, r .size)) (rw z (r .signed)))
+      (update-unrefused H valid d flash update budget (due update c (r .is) (omega (arith, r .size)) (omega (arith, r .size)) (rw z (r .signed)))
       tree-old (rw (after update c, read update c) (image-rooted H b old)))
 
   -- kind 4
@@ -174,7 +174,7 @@ module _ (H : List ℕ → List ℕ) (hash-long : (x : List ℕ) → length (H x
   unfolding countOf count manifestFor
   led g other = rw (depth, size path carried, is-path .path, read path carried, is-path .number) (sent-leads (plain H) hash-long n (blocks (b .image)) g i (o .within) other)
 
-  by-path : Updated H b old (step H valid d flash path)
+  by-path : Updated H b old (step H valid budget d flash path)
   unfolding accept leastUpdate leastPath countOf manifestFor rootOf
   by-path =
       let r = is-path in
@@ -183,14 +183,14 @@ module _ (H : List ℕ → List ℕ) (hash-long : (x : List ℕ) → length (H x
       let here : blocksOf (manifestIn path) flash (pred (updateNumber path)) ≡ blocks (a .image) i = rw (is, r .number) block-old in
       let new : updateBlock (newLength H valid d flash path) path ≡ blocks (b .image) i = rw z (r .blocks) in
       done path carried (rw (r .is))
-      (path-unrefused H valid d flash path (due path carried (r .is) (omega (arith, r .size)) (omega (arith, r .size, depth)) (rw (z, depth) (r .signed)))
+      (path-unrefused H valid d flash path budget (due path carried (r .is) (omega (arith, r .size)) (omega (arith, r .size, depth)) (rw (z, depth) (r .signed)))
       (rw here (led (blocks (a .image)) (o .others) ∙ sym root-old))
       (rw new (led (blocks (b .image)) (λ j h apart. refl) ∙ ap (λ x. x .root) (sym is))))
 
 -- for any hash function of 32 bytes and any verdict on signatures
 pub updates-for : (H : List ℕ → List ℕ) → ((x : List ℕ) → length (H x) ≡ hashLength) → (valid : (key message signature : List ℕ) → Bool) → Updates H valid
-updates-for H hash-long valid d flash old a b i signature was o =
-    (by-update H hash-long valid d flash old a b i signature was o, by-path H hash-long valid d flash old a b i signature was o)
+updates-for H hash-long valid budget d flash old a b i signature was o =
+    (by-update H hash-long valid budget d flash old a b i signature was o, by-path H hash-long valid budget d flash old a b i signature was o)
 
 -- with SHA-256 and the verdict of RFC 8554
 pub updates : Updates digest lms.valid

@@ -6,6 +6,7 @@ use Rattle.guarantee.proofs.Toy.{toy, any, nobody, fresh, flash, taking
 use Rattle.guarantee.proofs.WrongCalls.{closed, closed-caught, unaware, unaware-caught, hasty, hasty-caught, rash, rash-caught, scribbling, scribbling-caught, turning, turning-caught, rekeying, rekeying-caught, leaking, leaking-caught, spilling, spilling-caught, reordering, reordering-caught, demanding, demanding-caught, swapping, swapping-caught}
 use Rattle.guarantee.proofs.WrongFirst.{careless, careless-caught, blind, blind-caught, keeping, keeping-caught, clinging, clinging-caught, stuck, stuck-caught, forgetting, forgetting-caught, idling, idling-caught, early, early-caught, lapsing, lapsing-caught, unwritten, unwritten-caught, untouched, untouched-caught, trusting, trusting-caught, doubling, doubling-caught, nearsighted, nearsighted-caught, taking-caught, smearing, smearing-caught, padding, padding-caught, shrinking, shrinking-caught}
 use Rattle.guarantee.proofs.WrongSecond.{deaf, deaf-caught, still, still-caught, hoarding, hoarding-caught, skipping, skipping-caught, mislaying, mislaying-caught, garbling, garbling-caught}
+use Rattle.guarantee.proofs.WrongBudget.{strict, strict-caught, partial, partial-caught, thrifty, thrifty-caught, lavish, lavish-caught, tardy, tardy-caught, eager, eager-caught, stingy, stingy-caught, undercounting, undercounting-caught, charging, charging-caught, settling, settling-caught, owning, owning-caught, inventing, inventing-caught}
 
 pub none-meets : (Demand3 toy any careless → ⊥)
     × (Demand3 toy any blind → ⊥)
@@ -43,6 +44,18 @@ pub none-meets : (Demand3 toy any careless → ⊥)
     × (Demand3 toy any trusting → ⊥)
     × (Demand3 toy any doubling → ⊥)
     × (Demand3 toy any nearsighted → ⊥)
+    × (Demand3 toy any strict → ⊥)
+    × (Demand3 toy any partial → ⊥)
+    × (Demand3 toy any thrifty → ⊥)
+    × (Demand3 toy any lavish → ⊥)
+    × (Demand3 toy any tardy → ⊥)
+    × (Demand3 toy any eager → ⊥)
+    × (Demand3 toy any stingy → ⊥)
+    × (Demand3 toy any undercounting → ⊥)
+    × (Demand3 toy any charging → ⊥)
+    × (Demand3 toy any settling → ⊥)
+    × (Demand3 toy any owning → ⊥)
+    × (Demand3 toy any inventing → ⊥)
 none-meets = (
   λ c. careless-caught (c fresh is-fresh flash _ .first),
   λ c. blind-caught (c fresh is-fresh flash _ .first),
@@ -80,4 +93,16 @@ none-meets = (
   λ c. trusting-caught (c fresh is-fresh flash _ .first),
   λ c. doubling-caught (c fresh is-fresh flash _ .first),
   λ c. nearsighted-caught (c fresh is-fresh flash _ .first),
+  λ c. strict-caught (c fresh is-fresh flash _ .calls),
+  λ c. partial-caught (c fresh is-fresh flash _ .calls),
+  λ c. thrifty-caught (c fresh is-fresh flash _ .calls),
+  λ c. lavish-caught (c fresh is-fresh flash _ .calls),
+  λ c. tardy-caught (c fresh is-fresh flash _ .calls),
+  λ c. eager-caught (c fresh is-fresh flash _ .calls),
+  λ c. stingy-caught (c fresh is-fresh flash _ .calls),
+  λ c. undercounting-caught (c fresh is-fresh flash _ .calls),
+  λ c. charging-caught (c fresh is-fresh flash _ .calls),
+  λ c. settling-caught (c fresh is-fresh flash _ .calls),
+  λ c. owning-caught (c fresh is-fresh flash _ .calls),
+  λ c. inventing-caught (c fresh is-fresh flash _ .calls),
 )

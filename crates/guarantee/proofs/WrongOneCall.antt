@@ -4,6 +4,7 @@ use mathlib.Core.Path.{_≡_, refl, sym, ap, _∙_}
 use mathlib.Core.Logic.{⊎-elim}
 use mathlib.Core.Bool.{Bool, cond, _&&_}
 use mathlib.Core.List.{List, [], _∷_, _++_}
+use mathlib.Core.Option.{none}
 use Prim.Native.Nat.{ℕ}
 use native.Mathlib.Omega.{arith}
 use lib.Dec.{eqb}
@@ -19,32 +20,33 @@ use Rattle.sender.specs.Job.{programFor, blockFor}
 use Rattle.machine.specs.declared.state.Stage.the-variants.{Complete}
 use Rattle.machine.specs.declared.state.Device.{Device}
 use Rattle.machine.specs.declared.state.Answer.the-variants.{Accepted, Refused}
-use Rattle.machine.specs.Device.{nextOf}
+use Rattle.machine.specs.Device.{nextOf, Situation, Outcome}
 use Rattle.machine.specs.Refusals.{lacksRoot, refusals}
 use Rattle.machine.specs.Readers.{numberOf}
-use Rattle.machine.specs.Step.{acceptBlock, accept, outcome, refusalOf}
+use Rattle.machine.specs.Step.{acceptBlock, accept, total, outcome, refusalOf, Call, stepCall}
 use Rattle.machine.proofs.RefusalLaws.{ahead, behind}
+use Rattle.guarantee.specs.Part.{call}
 use Rattle.guarantee.specs.Run.{empty, _▷_, after}
 use Rattle.guarantee.specs.Behind.{goesBy}
 use Rattle.guarantee.specs.OneCall.{OneCall, EachCall}
 use Rattle.guarantee.proofs.OneCallHolds.{each-call}
-use Rattle.guarantee.proofs.Toy.{Step, any, fresh, flash, manifestWith, but, butFlash, byKind, computing, at}
+use Rattle.guarantee.proofs.Toy.{Step, any, fresh, flash, ample, manifestWith, leaving, but, butFlash, byKind, computing, at}
 use Rattle.guarantee.proofs.WrongFirst.{withManifest}
 use Rattle.guarantee.proofs.MisledRun.{weakHash, weak, device, pair, before}
 
 -- a device that waits for the last block of the pair, and that message: fives are loaded, threes are to come
 pub waiting : Device
-waiting = after device fresh flash (empty ▷ programFor weak pair [] ▷ blockFor weak (pair .image) 1) .device
+waiting = after device fresh flash (empty ▷ ample (programFor weak pair []) ▷ ample (blockFor weak (pair .image) 1)) .device
 
-pub threes : List ℕ
-threes = blockFor weak (pair .image) 2
+pub threes : Call
+threes = ample (blockFor weak (pair .image) 2)
 
 -- one that has the pair, and an update of its first block to fours, with the root 4: the larger of 4 and 3
 pub finished : Device
 finished = after device fresh flash before .device
 
-pub fours : List ℕ
-fours = updateMessage (manifestWith 2 (weakHash 4)) 1 (replicate 64 4) []
+pub fours : Call
+fours = ample (updateMessage (manifestWith 2 (weakHash 4)) 1 (replicate 64 4) [])
 
 -- a flash that somebody else overwrote with ones
 pub worn : List ℕ
@@ -59,15 +61,18 @@ pub untidy : List ℕ
 untidy = replicate 64 5 ++ replicate 64 9
 
 -- a device that refuses by other tests
-judging : (Device → (flash m : List ℕ) → List (Refusal × Bool)) → Step
-judging tests d f m = outcome (firstThatApplies (tests d f m)) d f (accept (kind m) d f m)
+judging : (Device → List ℕ → Call → List (Refusal × Bool)) → Step
+judging tests d f c = let m = c .message in outcome (firstThatApplies (tests d f c)) (c .budget) (total weak (kind m) d f m) d f (accept (kind m) d f m)
 
--- what is said of one call of such a device, and of each
-abbrev Of : Step → Device → (flash m : List ℕ) → Type 0
-Of wrong d f m = OneCall weak (refusalOf weak any) wrong d f m
+-- what is said of one call of such a device, with a budget that suffices, and of each
+abbrev with : Step → (budget : ℕ) → Device → (flash m : List ℕ) → Outcome
+with wrong budget d f m = wrong d f (call budget m)
+
+abbrev Of : Step → Device → List ℕ → Call → Type 0
+Of wrong d f c = OneCall weak (refusalOf weak any (c .budget)) (c .budget) (with wrong (c .budget)) d f (c .message)
 
 abbrev Meets : Step → Type 0
-Meets wrong = EachCall weak any wrong
+Meets wrong = EachCall weak any (with wrong)
 
 -- what the calls compute with
 calling : ℕ
@@ -81,9 +86,10 @@ finds-altered = (refl, refl)
 
 -- Where the right one says 19 at the last block it says accepted, and changes nothing: caught at `answers`, alone.
 pub nodding : Step
-nodding = byKind device (λ d f m.
-    let o = device d f m in
-    record { answer = cond (eqb (numberOf (o .answer)) (refusalNumber refusal.Altered)) Accepted (o .answer); device = o .device; flash = o .flash }) device device
+nodding = byKind device (λ d f c.
+    let o = device d f c in
+    let m = c .message in
+    cond (eqb (numberOf (o .answer)) (refusalNumber refusal.Altered)) (outcome none (c .budget) (total weak (kind m) d f m) d f (record { device = d; flash = f })) o) device device
 
 pub nodding-caught : Of nodding waiting worn threes → ⊥
 unfolding calling nodding
@@ -93,9 +99,9 @@ nodding-caught h =
 
 -- It looks for 19 once the block is stored, and leaves it there: caught at `refused`, alone.
 pub late : Step
-late = byKind device (λ d f m.
-    let o = device d f m in
-    record { answer = o .answer; device = o .device; flash = cond (eqb (numberOf (o .answer)) (refusalNumber refusal.Altered)) (acceptBlock d f m .flash) (o .flash) }) device device
+late = byKind device (λ d f c.
+    let o = device d f c in
+    leaving o (o .device) (cond (eqb (numberOf (o .answer)) (refusalNumber refusal.Altered)) (acceptBlock d f (c .message) .flash) (o .flash))) device device
 
 pub late-caught : Of late waiting worn threes → ⊥
 unfolding calling late
@@ -105,7 +111,7 @@ late-caught h =
 
 -- It takes an update's block and keeps the manifest that it had: caught at `manifest`, alone.
 pub stale : Step
-stale = byKind device device (λ d f m. but (device d f m) d) device
+stale = byKind device device (λ d f c. but (device d f c) d) device
 
 pub stale-caught : Of stale finished (pair .image .bytes) fours → ⊥
 unfolding calling stale goesBy
@@ -115,7 +121,7 @@ stale-caught h =
 
 -- It has no 19 at an update: caught at `before`, and at `answers`.
 pub incurious : Step
-incurious = byKind device device (judging (λ d f m. let es = refusals weak any Update d f m in ahead refusal.Altered es ++ behind refusal.Altered es)) device
+incurious = byKind device device (judging (λ d f c. let es = refusals weak any (c .budget) Update d f (c .message) in ahead refusal.Altered es ++ behind refusal.Altered es)) device
 
 pub incurious-caught : Of incurious finished worn fours → ⊥
 unfolding calling incurious
@@ -125,7 +131,7 @@ incurious-caught h =
 
 -- It takes an update's manifest and leaves the block as it was: caught at `update`, alone.
 pub withholding : Step
-withholding = byKind device device (λ d f m. butFlash (device d f m) f) device
+withholding = byKind device device (λ d f c. butFlash (device d f c) f) device
 
 pub withholding-caught : Of withholding finished (pair .image .bytes) fours → ⊥
 unfolding calling withholding
@@ -143,7 +149,7 @@ three-for-five wrong f a c e h =
 
 -- It trusts the hashes held and has no 19 at the last block: caught at `last`, and at `answers`.
 pub believing : Step
-believing = byKind device (judging (λ d f m. ahead refusal.Altered (refusals weak any Block d f m))) device device
+believing = byKind device (judging (λ d f c. ahead refusal.Altered (refusals weak any (c .budget) Block d f (c .message)))) device device
 
 pub believing-caught : Of believing waiting worn threes → ⊥
 unfolding calling believing
@@ -151,9 +157,9 @@ believing-caught = three-for-five believing worn refl refl refl
 
 -- At the last block it looks at the flash as handed in, without that block: caught at `last`, and at `answers`.
 pub shortsighted : Step
-shortsighted = byKind device (judging (λ d f m.
+shortsighted = byKind device (judging (λ d f c.
     let s = d .manifest in
-    ahead refusal.Altered (refusals weak any Block d f m) ++ ((refusal.Altered, eqb (nextOf (d .stage)) (countOf s) && lacksRoot weak s f) ∷ []))) device device
+    ahead refusal.Altered (refusals weak any (c .budget) Block d f (c .message)) ++ ((refusal.Altered, eqb (nextOf (d .stage)) (countOf s) && lacksRoot weak s f) ∷ []))) device device
 
 pub shortsighted-caught : Of shortsighted waiting misplaced threes → ⊥
 unfolding calling shortsighted
@@ -161,7 +167,7 @@ shortsighted-caught = three-for-five shortsighted misplaced refl refl refl
 
 -- It takes blocks and stores none: caught at `last`, alone.
 pub dropping : Step
-dropping = byKind device (λ d f m. butFlash (device d f m) f) device device
+dropping = byKind device (λ d f c. butFlash (device d f c) f) device device
 
 pub dropping-caught : Of dropping waiting untidy threes → ⊥
 unfolding calling dropping
@@ -171,9 +177,9 @@ dropping-caught h =
 
 -- It is complete as soon as it takes a new program: caught at `only`, alone.
 pub waking : Step
-waking = byKind (λ d f m. let o = device d f m in but o (at Complete (o .device))) device device device
+waking = byKind (λ d f c. let o = device d f c in but o (at Complete (o .device))) device device device
 
-pub waking-caught : Of waking fresh flash (programFor weak pair []) → ⊥
+pub waking-caught : Of waking fresh flash (ample (programFor weak pair [])) → ⊥
 unfolding calling waking at
 waking-caught h =
     ⊎-elim (λ (e : Program ≡ Block). let z : _≡_ {A = ℕ} 0 1 = cc in omega arith)
@@ -181,15 +187,26 @@ waking-caught h =
 
 -- Where the right one says 19 at the last block it takes that, and the root that it finds: caught at `last`, and at `answers` and `manifest`.
 pub adopting : Step
-adopting = byKind device (λ d f m.
-    let o = device d f m in
+adopting = byKind device (λ d f c.
+    let o = device d f c in
+    let m = c .message in
     let t = acceptBlock d f m in
-    cond (eqb (numberOf (o .answer)) (refusalNumber refusal.Altered))
-    (record { answer = Accepted; device = withManifest (d .manifest .serial) (treeOver weak (d .manifest) (t .flash)) (t .device); flash = t .flash }) o) device device
+    let taken : Situation = record { device = withManifest (d .manifest .serial) (treeOver weak (d .manifest) (t .flash)) (t .device); flash = t .flash } in
+    cond (eqb (numberOf (o .answer)) (refusalNumber refusal.Altered)) (outcome none (c .budget) (total weak (kind m) d f m) d f taken) o) device device
 
 pub adopting-caught : Of adopting waiting worn threes → ⊥
 unfolding calling adopting withManifest
 adopting-caught = three-for-five adopting worn refl refl refl
+
+-- It reports no compressions: caught at `reports`, alone.
+pub silent : Step
+silent = byKind device (λ d f c. let o = device d f c in record { answer = o .answer; compressions = 0; budget = o .budget; device = o .device; flash = o .flash }) device device
+
+pub silent-caught : Of silent waiting (pair .image .bytes) threes → ⊥
+unfolding calling silent
+silent-caught h =
+    let z : _≡_ {A = ℕ} 0 8 = h .reports .0 in
+    omega arith
 
 pub none-meets-each-call : (Meets nodding → ⊥)
     × (Meets late → ⊥)
@@ -201,20 +218,22 @@ pub none-meets-each-call : (Meets nodding → ⊥)
     × (Meets dropping → ⊥)
     × (Meets waking → ⊥)
     × (Meets adopting → ⊥)
+    × (Meets silent → ⊥)
 none-meets-each-call = (
-  λ c. nodding-caught (c _ _ _),
-  λ c. late-caught (c _ _ _),
-  λ c. stale-caught (c _ _ _),
-  λ c. incurious-caught (c _ _ _),
-  λ c. withholding-caught (c _ _ _),
-  λ c. believing-caught (c _ _ _),
-  λ c. shortsighted-caught (c _ _ _),
-  λ c. dropping-caught (c _ _ _),
-  λ c. waking-caught (c _ _ _),
-  λ c. adopting-caught (c _ _ _),
+  λ c. nodding-caught (c _ _ _ _),
+  λ c. late-caught (c _ _ _ _),
+  λ c. stale-caught (c _ _ _ _),
+  λ c. incurious-caught (c _ _ _ _),
+  λ c. withholding-caught (c _ _ _ _),
+  λ c. believing-caught (c _ _ _ _),
+  λ c. shortsighted-caught (c _ _ _ _),
+  λ c. dropping-caught (c _ _ _ _),
+  λ c. waking-caught (c _ _ _ _),
+  λ c. adopting-caught (c _ _ _ _),
+  λ c. silent-caught (c _ _ _ _),
 )
 
 -- The right device does, with the same hash function and verdicts.
 pub right-meets : Meets device
-unfolding device
+unfolding device stepCall
 right-meets = each-call weak any

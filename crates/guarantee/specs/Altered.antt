@@ -29,18 +29,19 @@ abbrev pub BootProves : (H : List ℕ → List ℕ) → Type 0
 BootProves H = (d : Device) (flash : List ℕ) → bootCheck H d flash ≡ Accepted → Booted H d flash
 
 module _ (H : List ℕ → List ℕ) (valid : (key message signature : List ℕ) → Bool) where
-  -- The boot check answers 0 right after each call that reports a program complete, an accepted update or last block, whatever state and flash that call was given.
+  -- The boot check answers 0 right after each call that reports a program complete, an accepted update or last block, whatever budget, state and flash that call was
+  -- given.
   abbrev pub BootAfter : Type 0
   BootAfter =
-      (d : Device) (flash m : List ℕ)
-      → (let o = step H valid d flash m in
+      (budget : ℕ) (d : Device) (flash m : List ℕ)
+      → (let o = step H valid budget d flash m in
       o .answer ≡ Accepted → (kind m ≡ Update) ⊎ ((kind m ≡ Block) × (o .device .stage ≡ Complete)) → bootCheck H (o .device) (o .flash) ≡ Accepted)
 
   -- A path update keeps the boot check at 0, over any state and flash where it was so before; or the message's path and the tree over the flash collide.
   abbrev pub BootKept : Type 0
   BootKept =
-      (d : Device) (flash m : List ℕ) → bootCheck H d flash ≡ Accepted → kind m ≡ PathUpdate
-      → (let o = step H valid d flash m in o .answer ≡ Accepted → (bootCheck H (o .device) (o .flash) ≡ Accepted) ⊎ Clash H flash m)
+      (budget : ℕ) (d : Device) (flash m : List ℕ) → bootCheck H d flash ≡ Accepted → kind m ≡ PathUpdate
+      → (let o = step H valid budget d flash m in o .answer ≡ Accepted → (bootCheck H (o .device) (o .flash) ≡ Accepted) ⊎ Clash H flash m)
 
 module _ (H : List ℕ → List ℕ) (valid : (key message signature : List ℕ) → Bool) {D F C : Type 0} (part : Part D F C) (step : D → F → C → OutcomeOf D F) where
   -- In a list from a fresh device, where nobody else writes: no block is refused 19, so the honest run never meets it; an update is, or the boot check fails, only

@@ -15,15 +15,16 @@ use Rattle.machine.specs.Step.{step}
 unfoldable pub goesBy : Device → List ℕ → Manifest
 goesBy d m = cond (carries (kind m)) (manifestIn m) (d .manifest)
 
--- The outcomes a over f and b over g: the same answer, device and first T bytes of the flash, and behind these each flash as it was.
+-- The outcomes a over f and b over g: the same answer, report, device and first T bytes of the flash, and behind these each flash as it was.
 pub record Alike (T : ℕ) (f g : List ℕ) (a b : Outcome) : Type 0 where
   pub answer : a .answer ≡ b .answer
+  pub reported : (a .compressions ≡ b .compressions) × (a .budget ≡ b .budget)
   pub device : a .device ≡ b .device
   pub program : take T (a .flash) ≡ take T (b .flash)
   pub behind : (drop T (a .flash) ≡ drop T f) × (drop T (b .flash) ≡ drop T g)
 
--- A message has such outcomes over any two flashes of one length with the same first T bytes.
+-- A message has such outcomes, with any budget, over any two flashes of one length with the same first T bytes.
 abbrev pub BehindUnread : (H : List ℕ → List ℕ) (valid : (key message signature : List ℕ) → Bool) → Type 0
 BehindUnread H valid =
-    (d : Device) (f g m : List ℕ) → length f ≡ length g
-    → (let T = goesBy d m .«image_len» in take T f ≡ take T g → Alike T f g (step H valid d f m) (step H valid d g m))
+    (budget : ℕ) (d : Device) (f g m : List ℕ) → length f ≡ length g
+    → (let T = goesBy d m .«image_len» in take T f ≡ take T g → Alike T f g (step H valid budget d f m) (step H valid budget d g m))

@@ -1,4 +1,4 @@
--- What is shown of lists of messages besides demand 3 and recovery (in proofs/).
+-- What is shown of lists of calls besides demand 3 and recovery (in proofs/).
 use mathlib.Core.Path.{_≡_}
 use mathlib.Core.Logic.{_⊎_}
 use mathlib.Core.Bool.{Bool, false}

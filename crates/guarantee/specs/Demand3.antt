@@ -17,6 +17,7 @@ use Rattle.wire.specs.Refusal.{refusalNumber}
 use Rattle.wire.specs.Size.{wrongSize}
 use Rattle.wire.specs.Manifest.{written}
 use Rattle.wire.specs.Geometry.{countOf, blocksOf, treeOver}
+use Rattle.wire.specs.Cost.{costDue}
 use Rattle.wire.specs.Message.{kind, carries, manifestBytes, manifestIn, updateNumber, atStart}
 use Rattle.sender.specs.Job.{Image, Job, count, blocks, manifestFor, blockFor}
 use Rattle.machine.specs.declared.state.Stage.the-variants.{Idle, Loading, Complete}
@@ -25,9 +26,9 @@ use Rattle.machine.specs.declared.state.Answer.{Answer}
 use Rattle.machine.specs.declared.state.Answer.the-variants.{Accepted, Refused}
 use Rattle.machine.specs.Device.{Fresh, heldBy, OutcomeOf, Outcome}
 use Rattle.machine.specs.Readers.{numberOf}
-use Rattle.machine.specs.Step.{answerOf}
+use Rattle.machine.specs.Step.{answerOf, Call}
 use Rattle.guarantee.specs.Part.{Part, whole}
-use Rattle.guarantee.specs.Run.{Trace, Messages, _▷_, after, answerTo, accepted, lastProgram, blocksSince, lastCarrier, signatureIn, siblingsIn, Completed}
+use Rattle.guarantee.specs.Run.{Trace, Messages, _▷_, after, outcomeTo, answerTo, accepted, lastProgram, blocksSince, lastCarrier, signatureIn, siblingsIn, Completed}
 
 -- The sender writes a manifest for the job: it does not refuse 5, and model and serial have four bytes.
 pub record Sendable (job : Job) : Type 0 where
@@ -73,6 +74,13 @@ module _ (H : List ℕ → List ℕ) (valid : (key message signature : List ℕ)
   abbrev answer : Trace C → C → Answer
   answer cs c = answerTo step d flash cs c
 
+  -- all that the call gives, and what it reports if it is accepted
+  abbrev outcome : Trace C → C → OutcomeOf D F
+  outcome cs c = outcomeTo step d flash cs c
+
+  abbrev total : Trace C → C → ℕ
+  total cs c = part .total (after step d flash cs .device) (after step d flash cs .flash) c
+
   -- the call is taken for the part: it names the part and is accepted
   abbrev Taken : Trace C → C → Type 0
   Taken cs c = (part .names c ≡ true) × (answer cs c ≡ Accepted)
@@ -89,6 +97,9 @@ module _ (H : List ℕ → List ℕ) (valid : (key message signature : List ℕ)
     pub numbers : (c : C) → numberOf (answer cs c) ≡ elim (refusal cs c) [ none ↦ 0 | some r ↦ refusalNumber r ]
     -- "a refused one leaves both as they were"
     pub refused : (c : C) (r : Refusal) → answer cs c ≡ Refused r → after step d flash (cs ▷ c) ≡ after step d flash cs
+    -- 02, change 7: "an accepted one reports its total"; a refused one reports 0. 01's form: "count and caller's budget as numbers in the result".
+    pub reports : (c : C) → part .names c ≡ true
+        → (outcome cs c .compressions ≡ elim (outcome cs c .answer) [ Accepted ↦ total cs c | Refused r ↦ 0 ]) × (outcome cs c .budget ≡ part .budget c)
     -- a call that does not name the part leaves its device and its flash as they were
     pub leaves : (c : C) → part .names c ≡ false → (deviceAfter (cs ▷ c) ≡ deviceAfter cs) × (flashAfter (cs ▷ c) ≡ flashAfter cs)
     -- "no call changes model or key"
@@ -146,10 +157,12 @@ module _ (H : List ℕ → List ℕ) (valid : (key message signature : List ℕ)
 
   -- "After it the sender's block messages for the same image and values stand in the list in order, from 1 up to some j, j from 0 to n, and every other message
   -- after that slip was refused": `next` is a call that names the part and hands over the block message due, whatever its answer; `other` is not taken for the part.
+  -- 02, change 7: "the honest run now needs budgets that suffice": for what the sender's block message costs by L, T and its number alone, whatever the device's state. A
+  -- block message with a smaller one is one of the others.
   pub data Honest (job : Job) (before : Trace C) (c : C) : ℕ → Trace C → Type 0 where
     begin : Honest job before c 0 (before ▷ c)
-    next : {j : ℕ} {cs : Trace C} {x : C} → j < count (job .image) → part .names x ≡ true → part .message x ≡ blockFor H (job .image) (suc j) → Honest job before c j cs
-        → Honest job before c (suc j) (cs ▷ x)
+    next : {j : ℕ} {cs : Trace C} {x : C} → j < count (job .image) → part .names x ≡ true → part .message x ≡ blockFor H (job .image) (suc j)
+        → costDue H (manifestFor H job) (suc j) ≤ part .budget x → Honest job before c j cs → Honest job before c (suc j) (cs ▷ x)
     other : {j : ℕ} {cs : Trace C} {x : C} → (Taken cs x → ⊥) → Honest job before c j cs → Honest job before c j (cs ▷ x)
 
   -- "For j = n the stage is then complete with this slip, the area begins with the .. image, and its bytes beyond are as when the slip came", and no hash is held.
@@ -177,6 +190,7 @@ module _ (H : List ℕ → List ℕ) (valid : (key message signature : List ℕ)
     pub first : FirstHalf cs
     pub second : SecondHalf cs
 
--- "It starts from a fresh drive with any model and key, and an area of any length and content": every list of messages, "the empty one included".
-abbrev pub Demand3 : (H : List ℕ → List ℕ) (valid : (key message signature : List ℕ) → Bool) (step : Device → List ℕ → List ℕ → Outcome) → Type 0
-Demand3 H valid step = (d : Device) → Fresh d → (flash : List ℕ) (ms : Messages) → Claim H valid (whole H valid) step d flash ms
+-- "It starts from a fresh drive with any model and key, and an area of any length and content": every list of calls, "the empty one included". "A further number that a
+-- later change has the caller hand along may have any value": so the budget of each.
+abbrev pub Demand3 : (H : List ℕ → List ℕ) (valid : (key message signature : List ℕ) → Bool) (step : Device → List ℕ → Call → Outcome) → Type 0
+Demand3 H valid step = (d : Device) → Fresh d → (flash : List ℕ) (cs : Trace Call) → Claim H valid (whole H valid) step d flash cs

@@ -31,9 +31,12 @@ module _ {D F C : Type 0} (step : D → F → C → OutcomeOf D F) (d : D) (flas
   after empty = record { device = d; flash = flash }
   after (cs ▷ c) = let o = step (after cs .device) (after cs .flash) c in record { device = o .device; flash = o .flash }
 
-  -- the answer to one call more
+  -- what one call more gives, and its answer
+  abbrev pub outcomeTo : Trace C → C → OutcomeOf D F
+  outcomeTo cs c = step (after cs .device) (after cs .flash) c
+
   unfoldable pub answerTo : Trace C → C → Answer
-  answerTo cs c = step (after cs .device) (after cs .flash) c .answer
+  answerTo cs c = outcomeTo cs c .answer
 
   -- "Accepted: the call gave no refusal number": the messages of the calls that name the part and were accepted
   unfoldable pub accepted : Part D F C → Trace C → Messages

@@ -40,8 +40,8 @@ module _ (H : List ℕ → List ℕ) (valid : (key message signature : List ℕ)
     pub newer : a .serial < b .serial
     pub signed : valid (d .key) (written (manifestFor H b)) signature ≡ true
 
-  -- Such a device takes the sender's message of kind 3, and that of kind 4: it then has b's image, and behind that the flash is as it was.
+  -- Such a device takes the sender's message of kind 3, and that of kind 4, with any budget: it then has b's image, and behind that the flash is as it was.
   abbrev pub Updates : Type 0
   Updates =
-      (d : Device) (flash old : List ℕ) (a b : Job) (i : ℕ) (signature : List ℕ) → Installed H a old d flash → UpdateOffered d a b i signature
-      → Updated H b old (step H valid d flash (updateFor H b (suc i) signature)) × Updated H b old (step H valid d flash (pathFor H b (suc i) signature))
+      (budget : ℕ) (d : Device) (flash old : List ℕ) (a b : Job) (i : ℕ) (signature : List ℕ) → Installed H a old d flash → UpdateOffered d a b i signature
+      → Updated H b old (step H valid budget d flash (updateFor H b (suc i) signature)) × Updated H b old (step H valid budget d flash (pathFor H b (suc i) signature))

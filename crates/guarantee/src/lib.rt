@@ -1,1 +1,1 @@
-// What is guaranteed of every list of messages (01, demand 3): definitions and proofs about `machine`, and no code.
+// What is guaranteed of every list of calls (01, demand 3): definitions and proofs about `machine`, and no code.

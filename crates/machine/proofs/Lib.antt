@@ -6,3 +6,4 @@ pub mod SenseLaws
 pub mod LimitLaws
 pub mod SerialLaws
 pub mod OrderLaws
+pub mod BudgetLaws

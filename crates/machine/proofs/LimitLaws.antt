@@ -18,8 +18,8 @@ use Rattle.machine.specs.Claims.{Above, blocks, next, AboveLimit}
 use Rattle.machine.proofs.RefusalLaws.{loading}
 use Rattle.machine.proofs.SenseLaws.{sound}
 
-module _ (H : List ℕ → List ℕ) (valid : (key message signature : List ℕ) → Bool) (d : Device) (flash m : List ℕ) where
-  first : senseless d ≡ true → (refusalOf H valid d flash m ≡ some State) × (bootCheck H d flash ≡ Refused State)
+module _ (H : List ℕ → List ℕ) (valid : (key message signature : List ℕ) → Bool) (budget : ℕ) (d : Device) (flash m : List ℕ) where
+  first : senseless d ≡ true → (refusalOf H valid budget d flash m ≡ some State) × (bootCheck H d flash ≡ Refused State)
   unfolding refusalOf refusals always firstThatApplies bootCheck ofBoot answerOf
   first e = rw e (refl, refl)
 
@@ -28,7 +28,7 @@ module _ (H : List ℕ → List ℕ) (valid : (key message signature : List ℕ)
   within-limit e (blocks busy many) = omega (arith, many, sized _ _ (sound d e busy .1) .count)
   within-limit e (next z far) = omega (arith, far, loading d e z .high)
 
-  pub above-limit : AboveLimit H valid d flash m
+  pub above-limit : AboveLimit H valid budget d flash m
   above-limit over = first (go (senseless d) refl)
     where
       go : (t : Bool) → senseless d ≡ t → senseless d ≡ true

@@ -8,6 +8,6 @@ use Rattle.machine.specs.Refusals.{ofManifest, always, ofProgram, ofBloc
 use Rattle.machine.specs.BootCheck.{ofBoot}
 use Rattle.machine.specs.Claims.{numbers, Orders}
 
-pub orders : (H : List ℕ → List ℕ) (valid : (key message signature : List ℕ) → Bool) (d : Device) (flash m : List ℕ) → Orders H valid d flash m
+pub orders : (H : List ℕ → List ℕ) (valid : (key message signature : List ℕ) → Bool) (budget : ℕ) (d : Device) (flash m : List ℕ) → Orders H valid budget d flash m
 unfolding numbers always ofManifest ofProgram ofBlock ofSuccessor ofUpdate ofPathUpdate ofKind refusals ofBoot
-orders H valid d flash m = record { program = refl; block = refl; update = refl; pathUpdate = refl; boot = refl }
+orders H valid budget d flash m = record { program = refl; block = refl; update = refl; pathUpdate = refl; boot = refl }

@@ -30,7 +30,7 @@ use Rattle.machine.specs.declared.state.Device.{Device}
 use Rattle.machine.specs.declared.state.Answer.the-variants.{Accepted, Refused}
 use Rattle.machine.specs.Device.{nextOf}
 use Rattle.machine.specs.Flash.{stored, updated}
-use Rattle.machine.specs.Refusals.{wrongVersion, senseless, otherModel, notNewer, noKind, tooSmall, notLoading, notComplete, notNext, wrongLength, mismatch, unlike, lacksRoot, lastAltered, strays, unsigned, ofManifest, always, ofProgram, ofBlock, ofSuccessor, ofUpdate, ofPathUpdate, ofKind, refusals}
+use Rattle.machine.specs.Refusals.{wrongVersion, senseless, otherModel, notNewer, noKind, tooSmall, notLoading, notComplete, notNext, wrongLength, mismatch, unlike, lacksRoot, lastAltered, spent, strays, unsigned, ofManifest, always, ofProgram, ofBlock, ofSuccessor, ofUpdate, ofPathUpdate, ofKind, refusals}
 use Rattle.machine.specs.Step.{answerOf, refusalOf}
 
 -- The test of a refusal; one that the list lacks never applies.
@@ -247,7 +247,7 @@ module _ (H : List ℕ → List ℕ) (valid : (key message signature : List ℕ)
     pub area : tooSmall (manifestIn m) flash ≡ false
     pub signed : unsigned valid d (manifestBytes m) (programSignature m) ≡ false
 
-  -- the block message that the device waits for: no test applies
+  -- the block message that the device waits for: no test applies but 20, which looks at the budget
   pub record NextDue : Type 0 where
     pub is : kind m ≡ Block
     pub sense : senseless d ≡ false
@@ -275,153 +275,154 @@ module _ (H : List ℕ → List ℕ) (valid : (key message signature : List ℕ)
     pub long : ltb (length m) least ≡ false
     pub signed : unsigned valid d (manifestBytes m) signature ≡ false
 
-  unrefused : (k : Kind) → kind m ≡ k → refusalOf H valid d flash m ≡ none → firstThatApplies (refusals H valid k d flash m) ≡ none
-  unfolding refusalOf
-  unrefused k e a = subst (λ x. firstThatApplies (refusals H valid x d flash m) ≡ none) e a
-
-  -- refusal r does not apply
-  without : (r : Refusal) (k : Kind) → kind m ≡ k → refusalOf H valid d flash m ≡ none → testOf r (refusals H valid k d flash m) ≡ false
-  without r k e a = clear r (refusals H valid k d flash m) (unrefused k e a)
-
-  pub program-passed : kind m ≡ Program → refusalOf H valid d flash m ≡ none → ProgramPassed
-  unfolding refusals always ofKind ofManifest ofProgram testOf short tooSmall unsigned
-  program-passed k a =
-      record {
-        long = ltb-false (length m) (leastLength Program) (without refusal.Short Program k a);
-        version = without refusal.Version Program k a;
-        size = sized _ _ (without refusal.Size Program k a);
-        newer = without refusal.Serial Program k a;
-        room = ltb-false _ _ (without refusal.Area Program k a);
-        signed = not-false _ (without refusal.Unsigned Program k a);
-      }
-
-  pub block-passed : kind m ≡ Block → refusalOf H valid d flash m ≡ none → BlockPassed
-  unfolding refusals always ofKind ofBlock testOf tooSmall wrongLength lastAltered
-  block-passed k a =
-      record {
-        awaited = awaits d (without refusal.State Block k a) (without refusal.Stage Block k a) refl;
-        loading = without refusal.Stage Block k a;
-        room = ltb-false _ _ (without refusal.Area Block k a);
-        long = eqb-true _ _ (not-false _ (without refusal.Length Block k a));
-        same = without refusal.Mismatch Block k a;
-        whole = λ e. has-root H _ _ (after-true _ _ (eq-eqb _ _ e) (without refusal.Altered Block k a));
-      }
-
-  -- what an update of either kind meets behind its own tests: 11, 12, 9, then others
-  abbrev ofRest : ℕ → List ℕ → List (Refusal × Bool) → List (Refusal × Bool)
-  ofRest least signature rest =
-      (refusal.Turn, outside (countOf (manifestIn m)) (updateNumber m)) ∷ (refusal.Length, ltb (length m) least) ∷ (refusal.Unsigned, unsigned valid d (manifestBytes m) signature) ∷ rest
-
-  -- an update of either kind that no refusal applies to; `own` are tests that one kind has in the middle
-  successor-passed : (k : Kind) {least : ℕ} {signature : List ℕ} (own rest : List (Refusal × Bool))
-      → firstThatApplies (always k d m ++ (ofSuccessor d flash (manifestIn m) ++ (own ++ ofRest least signature rest))) ≡ none
-      → Successor least signature
-  unfolding always ofManifest ofSuccessor testOf tooSmall unsigned
-  successor-passed k own rest a =
-      let b = of-second own _ (of-second (ofSuccessor d flash (manifestIn m)) _ (of-second (always k d m) _ a)) in
-      record {
-        complete = clear refusal.Stage _ a;
-        version = clear refusal.Version _ a;
-        size = sized _ _ (clear refusal.Size _ a);
-        newer = clear refusal.Serial _ a;
-        alike = clear refusal.Unlike _ a;
-        room = ltb-false _ _ (clear refusal.Area _ a);
-        turn = inside _ _ (clear refusal.Turn _ b);
-        long = ltb-false _ _ (clear refusal.Length _ b);
-        signed = not-false _ (clear refusal.Unsigned _ b);
-      }
-
-  pub update-passed : kind m ≡ Update → refusalOf H valid d flash m ≡ none → UpdatePassed
-  unfolding refusals always ofKind ofManifest ofSuccessor ofUpdate testOf
-  update-passed k a =
-      record {
-        successor = successor-passed Update ((refusal.Altered, lacksRoot H (d .manifest) flash) ∷ []) _ (unrefused Update k a);
-        intact = has-root H _ _ (without refusal.Altered Update k a);
-        rooted = has-root H _ _ (without refusal.Mismatch Update k a);
-      }
-
-  pub path-passed : kind m ≡ PathUpdate → refusalOf H valid d flash m ≡ none → PathPassed
-  unfolding refusals always ofKind ofManifest ofSuccessor ofPathUpdate testOf strays
-  path-passed k a =
-      record {
-        successor = successor-passed PathUpdate [] _ (unrefused PathUpdate k a);
-        old = equal-true _ _ (not-false _ (without refusal.Path PathUpdate k a));
-        new = equal-true _ _ (not-false _ (without refusal.Mismatch PathUpdate k a));
-      }
-
-  -- it has its block whole
+  -- an update by a path that passes has its block whole
   pub path-block : PathPassed → leastUpdate (manifestIn m .«block_len») (manifestIn m .«image_len») (updateNumber m) ≤ length m
   unfolding leastPath
   path-block p = let l = p .successor .long in omega arith
 
-  pub unknown-refused : kind m ≡ Unknown → refusalOf H valid d flash m ≡ none → ⊥
-  unfolding refusals always ofKind noKind testOf
-  unknown-refused k a = true≢false (without refusal.Kind Unknown k a)
+  module _ (budget : ℕ) where
+    unrefused : (k : Kind) → kind m ≡ k → refusalOf H valid budget d flash m ≡ none → firstThatApplies (refusals H valid budget k d flash m) ≡ none
+    unfolding refusalOf
+    unrefused k e a = subst (λ x. firstThatApplies (refusals H valid budget x d flash m) ≡ none) e a
 
-  pub passed : refusalOf H valid d flash m ≡ none → Passed
-  passed a = go (kind m) refl
-    where
-      go : (k : Kind) → kind m ≡ k → Passed
-      go Program e = took-program e (program-passed e a)
-      go Block e = took-block e (block-passed e a)
-      go Update e = took-update e (update-passed e a)
-      go PathUpdate e = took-path e (path-passed e a)
-      go Unknown e = absurd (unknown-refused e a)
+    -- refusal r does not apply
+    without : (r : Refusal) (k : Kind) → kind m ≡ k → refusalOf H valid budget d flash m ≡ none → testOf r (refusals H valid budget k d flash m) ≡ false
+    without r k e a = clear r (refusals H valid budget k d flash m) (unrefused k e a)
 
-  pub program-unrefused : ProgramDue → refusalOf H valid d flash m ≡ none
-  unfolding refusalOf refusals always ofKind ofManifest ofProgram noKind firstThatApplies
-  program-unrefused w =
-      subst (λ k. firstThatApplies (refusals H valid k d flash m) ≡ none) (sym (w .is))
-      ((start (refusals H valid Program d flash m)
-      past w .sense
-      past refl
-      past w .head
-      past w .version
-      past w .size
-      past w .model
-      past w .serial
-      past w .area
-      past w .signed) .same)
+    pub program-passed : kind m ≡ Program → refusalOf H valid budget d flash m ≡ none → ProgramPassed
+    unfolding refusals always ofKind ofManifest ofProgram testOf short tooSmall unsigned
+    program-passed k a =
+        record {
+          long = ltb-false (length m) (leastLength Program) (without refusal.Short Program k a);
+          version = without refusal.Version Program k a;
+          size = sized _ _ (without refusal.Size Program k a);
+          newer = without refusal.Serial Program k a;
+          room = ltb-false _ _ (without refusal.Area Program k a);
+          signed = not-false _ (without refusal.Unsigned Program k a);
+        }
 
-  pub due-unrefused : NextDue → refusalOf H valid d flash m ≡ none
-  unfolding refusalOf refusals always ofKind ofBlock noKind firstThatApplies
-  due-unrefused w =
-      subst (λ k. firstThatApplies (refusals H valid k d flash m) ≡ none) (sym (w .is))
-      ((start (refusals H valid Block d flash m) past w .sense past refl past w .head past w .loading past w .area past w .turn past w .size past w .same past w .whole) .same)
+    pub block-passed : kind m ≡ Block → refusalOf H valid budget d flash m ≡ none → BlockPassed
+    unfolding refusals always ofKind ofBlock testOf tooSmall wrongLength lastAltered
+    block-passed k a =
+        record {
+          awaited = awaits d (without refusal.State Block k a) (without refusal.Stage Block k a) refl;
+          loading = without refusal.Stage Block k a;
+          room = ltb-false _ _ (without refusal.Area Block k a);
+          long = eqb-true _ _ (not-false _ (without refusal.Length Block k a));
+          same = without refusal.Mismatch Block k a;
+          whole = λ e. has-root H _ _ (after-true _ _ (eq-eqb _ _ e) (without refusal.Altered Block k a));
+        }
 
-  -- what updates of both kinds meet first is past
-  successor-past : {k : Kind} {least : ℕ} {signature : List ℕ} → SuccessorDue k least signature → noKind k ≡ false → (rest : List (Refusal × Bool))
-      → Passes (always k d m ++ (ofSuccessor d flash (manifestIn m) ++ rest)) rest
-  unfolding always ofManifest ofSuccessor
-  successor-past w known rest =
-      start _
-      past w .sense
-      past known
-      past w .head
-      past w .complete
-      past w .version
-      past w .size
-      past w .model
-      past w .serial
-      past w .alike
-      past w .area
+    -- what an update of either kind meets behind its own tests: 11, 12, 9, then others
+    abbrev ofRest : ℕ → List ℕ → List (Refusal × Bool) → List (Refusal × Bool)
+    ofRest least signature rest =
+        (refusal.Turn, outside (countOf (manifestIn m)) (updateNumber m)) ∷ (refusal.Length, ltb (length m) least) ∷ (refusal.Unsigned, unsigned valid d (manifestBytes m) signature) ∷ rest
 
-  -- .. and what they meet behind the tests of one of them
-  rest-past : {k : Kind} {least : ℕ} {signature : List ℕ} → SuccessorDue k least signature → {es rest : List (Refusal × Bool)} → Passes es (ofRest least signature rest) → Passes es rest
-  rest-past w p = p past w .turn past w .long past w .signed
+    -- an update of either kind that no refusal applies to; `own` are tests that one kind has in the middle
+    successor-passed : (k : Kind) {least : ℕ} {signature : List ℕ} (own rest : List (Refusal × Bool))
+        → firstThatApplies (always k d m ++ (ofSuccessor d flash (manifestIn m) ++ (own ++ ofRest least signature rest))) ≡ none
+        → Successor least signature
+    unfolding always ofManifest ofSuccessor testOf tooSmall unsigned
+    successor-passed k own rest a =
+        let b = of-second own _ (of-second (ofSuccessor d flash (manifestIn m)) _ (of-second (always k d m) _ a)) in
+        record {
+          complete = clear refusal.Stage _ a;
+          version = clear refusal.Version _ a;
+          size = sized _ _ (clear refusal.Size _ a);
+          newer = clear refusal.Serial _ a;
+          alike = clear refusal.Unlike _ a;
+          room = ltb-false _ _ (clear refusal.Area _ a);
+          turn = inside _ _ (clear refusal.Turn _ b);
+          long = ltb-false _ _ (clear refusal.Length _ b);
+          signed = not-false _ (clear refusal.Unsigned _ b);
+        }
 
-  pub update-unrefused : SuccessorDue Update (leastUpdate (manifestIn m .«block_len») (manifestIn m .«image_len») (updateNumber m)) (updateSignature newLength m)
-      → treeOver H (d .manifest) flash ≡ d .manifest .root → treeOver H (manifestIn m) (updated (manifestIn m) flash m) ≡ manifestIn m .root
-      → refusalOf H valid d flash m ≡ none
-  unfolding refusalOf refusals ofKind ofUpdate noKind firstThatApplies
-  update-unrefused w intact rooted =
-      subst (λ k. firstThatApplies (refusals H valid k d flash m) ≡ none) (sym (w .is))
-      ((rest-past w (successor-past w refl _ past lacks-none H _ _ intact) past lacks-none H _ _ rooted) .same)
+    pub update-passed : kind m ≡ Update → refusalOf H valid budget d flash m ≡ none → UpdatePassed
+    unfolding refusals always ofKind ofManifest ofSuccessor ofUpdate testOf
+    update-passed k a =
+        record {
+          successor = successor-passed Update ((refusal.Altered, lacksRoot H (d .manifest) flash) ∷ []) _ (unrefused Update k a);
+          intact = has-root H _ _ (without refusal.Altered Update k a);
+          rooted = has-root H _ _ (without refusal.Mismatch Update k a);
+        }
 
-  pub path-unrefused : SuccessorDue PathUpdate (leastPath (manifestIn m .«block_len») (manifestIn m .«image_len») (updateNumber m)) (pathSignature newLength newDepth m)
-      → ledTo (blocksOf (manifestIn m) flash (pred (updateNumber m))) ≡ d .manifest .root → ledTo (updateBlock newLength m) ≡ manifestIn m .root
-      → refusalOf H valid d flash m ≡ none
-  unfolding refusalOf refusals ofKind ofPathUpdate noKind strays firstThatApplies
-  path-unrefused w old new =
-      subst (λ k. firstThatApplies (refusals H valid k d flash m) ≡ none) (sym (w .is))
-      ((rest-past w (successor-past w refl _) past not-unequal old past not-unequal new) .same)
+    pub path-passed : kind m ≡ PathUpdate → refusalOf H valid budget d flash m ≡ none → PathPassed
+    unfolding refusals always ofKind ofManifest ofSuccessor ofPathUpdate testOf strays
+    path-passed k a =
+        record {
+          successor = successor-passed PathUpdate [] _ (unrefused PathUpdate k a);
+          old = equal-true _ _ (not-false _ (without refusal.Path PathUpdate k a));
+          new = equal-true _ _ (not-false _ (without refusal.Mismatch PathUpdate k a));
+        }
+
+    pub unknown-refused : kind m ≡ Unknown → refusalOf H valid budget d flash m ≡ none → ⊥
+    unfolding refusals always ofKind noKind testOf
+    unknown-refused k a = true≢false (without refusal.Kind Unknown k a)
+
+    pub passed : refusalOf H valid budget d flash m ≡ none → Passed
+    passed a = go (kind m) refl
+      where
+        go : (k : Kind) → kind m ≡ k → Passed
+        go Program e = took-program e (program-passed e a)
+        go Block e = took-block e (block-passed e a)
+        go Update e = took-update e (update-passed e a)
+        go PathUpdate e = took-path e (path-passed e a)
+        go Unknown e = absurd (unknown-refused e a)
+
+    pub program-unrefused : ProgramDue → refusalOf H valid budget d flash m ≡ none
+    unfolding refusalOf refusals always ofKind ofManifest ofProgram noKind firstThatApplies
+    program-unrefused w =
+        subst (λ k. firstThatApplies (refusals H valid budget k d flash m) ≡ none) (sym (w .is))
+        ((start (refusals H valid budget Program d flash m)
+        past w .sense
+        past refl
+        past w .head
+        past w .version
+        past w .size
+        past w .model
+        past w .serial
+        past w .area
+        past w .signed) .same)
+
+    pub due-unrefused : NextDue → spent H budget (d .manifest) (nextOf (d .stage)) flash m ≡ false → refusalOf H valid budget d flash m ≡ none
+    unfolding refusalOf refusals always ofKind ofBlock noKind firstThatApplies
+    due-unrefused w within =
+        subst (λ k. firstThatApplies (refusals H valid budget k d flash m) ≡ none) (sym (w .is))
+        ((start (refusals H valid budget Block d flash m) past w .sense past refl past w .head past w .loading past w .area past w .turn past w .size past within past w .same past w .whole) .same)
+
+    -- what updates of both kinds meet first is past
+    successor-past : {k : Kind} {least : ℕ} {signature : List ℕ} → SuccessorDue k least signature → noKind k ≡ false → (rest : List (Refusal × Bool))
+        → Passes (always k d m ++ (ofSuccessor d flash (manifestIn m) ++ rest)) rest
+    unfolding always ofManifest ofSuccessor
+    successor-past w known rest =
+        start _
+        past w .sense
+        past known
+        past w .head
+        past w .complete
+        past w .version
+        past w .size
+        past w .model
+        past w .serial
+        past w .alike
+        past w .area
+
+    -- .. and what they meet behind the tests of one of them
+    rest-past : {k : Kind} {least : ℕ} {signature : List ℕ} → SuccessorDue k least signature → {es rest : List (Refusal × Bool)} → Passes es (ofRest least signature rest) → Passes es rest
+    rest-past w p = p past w .turn past w .long past w .signed
+
+    pub update-unrefused : SuccessorDue Update (leastUpdate (manifestIn m .«block_len») (manifestIn m .«image_len») (updateNumber m)) (updateSignature newLength m)
+        → treeOver H (d .manifest) flash ≡ d .manifest .root → treeOver H (manifestIn m) (updated (manifestIn m) flash m) ≡ manifestIn m .root
+        → refusalOf H valid budget d flash m ≡ none
+    unfolding refusalOf refusals ofKind ofUpdate noKind firstThatApplies
+    update-unrefused w intact rooted =
+        subst (λ k. firstThatApplies (refusals H valid budget k d flash m) ≡ none) (sym (w .is))
+        ((rest-past w (successor-past w refl _ past lacks-none H _ _ intact) past lacks-none H _ _ rooted) .same)
+
+    pub path-unrefused : SuccessorDue PathUpdate (leastPath (manifestIn m .«block_len») (manifestIn m .«image_len») (updateNumber m)) (pathSignature newLength newDepth m)
+        → ledTo (blocksOf (manifestIn m) flash (pred (updateNumber m))) ≡ d .manifest .root → ledTo (updateBlock newLength m) ≡ manifestIn m .root
+        → refusalOf H valid budget d flash m ≡ none
+    unfolding refusalOf refusals ofKind ofPathUpdate noKind strays firstThatApplies
+    path-unrefused w old new =
+        subst (λ k. firstThatApplies (refusals H valid budget k d flash m) ≡ none) (sym (w .is))
+        ((rest-past w (successor-past w refl _) past not-unequal old past not-unequal new) .same)

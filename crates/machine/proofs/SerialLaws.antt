@@ -16,8 +16,8 @@ use Rattle.machine.specs.Refusals.{notNewer}
 use Rattle.machine.specs.Claims.{LastSerial}
 use Rattle.machine.proofs.RefusalLaws.{program-passed, update-passed, path-passed}
 
-module _ (H : List ℕ → List ℕ) (valid : (key message signature : List ℕ) → Bool) (d : Device) (flash m : List ℕ) where
-  pub last-serial : LastSerial H valid d flash m
+module _ (H : List ℕ → List ℕ) (valid : (key message signature : List ℕ) → Bool) (budget : ℕ) (d : Device) (flash m : List ℕ) where
+  pub last-serial : LastSerial H valid budget d flash m
   unfolding carries leastUpdate leastPath
   last-serial bytes e c a = go (kind m) refl
     where
@@ -28,8 +28,8 @@ module _ (H : List ℕ → List ℕ) (valid : (key message signature : List ℕ)
           omega (arith, manifest-fits m bytes h .serial)
 
       go : (k : Kind) → kind m ≡ k → ⊥
-      go Program q = let p = program-passed H valid d flash m q a in last (p .long) (p .newer)
+      go Program q = let p = program-passed H valid d flash m budget q a in last (p .long) (p .newer)
       go Block q = false≢true (rw q at c)
-      go Update q = let p = update-passed H valid d flash m q a .successor in last (omega (arith, p .long)) (p .newer)
-      go PathUpdate q = let p = path-passed H valid d flash m q a .successor in last (omega (arith, p .long)) (p .newer)
+      go Update q = let p = update-passed H valid d flash m budget q a .successor in last (omega (arith, p .long)) (p .newer)
+      go PathUpdate q = let p = path-passed H valid d flash m budget q a .successor in last (omega (arith, p .long)) (p .newer)
       go Unknown q = false≢true (rw q at c)

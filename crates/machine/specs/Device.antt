@@ -39,13 +39,16 @@ nextOf t = elim t [ Idle ↦ 0 | Loading i ↦ i | Complete ↦ 0 ]
 unfoldable pub heldBy : Device → List (List ℕ)
 heldBy d = elim (d .stage) [ Idle ↦ [] | Loading i ↦ heldIn (countOf (d .manifest)) (pred i) (d .hashes) | Complete ↦ [] ]
 
--- A device's state D and its flash F (01: area) between two calls, and with the answer after one.
+-- A device's state D and its flash F (01: area) between two calls; and after one, with its answer and, as 01's form has it, "count and caller's budget as numbers in the
+-- result": the SHA-256 compressions that the message is reported to have taken, and the budget that was handed along (02, change 7).
 pub record SituationOf (D F : Type 0) : Type 0 where
   pub device : D
   pub flash : F
 
 pub record OutcomeOf (D F : Type 0) : Type 0 where
   pub answer : Answer
+  pub compressions : ℕ
+  pub budget : ℕ
   pub device : D
   pub flash : F
 

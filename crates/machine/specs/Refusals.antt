@@ -17,6 +17,7 @@ use Rattle.wire.specs.declared.refusal.Refusal.{Refusal}
 use Rattle.wire.specs.declared.refusal.Refusal.the-variants as refusal
 use Rattle.wire.specs.Size.{wrongSize, outside}
 use Rattle.wire.specs.Geometry.{countOf, blockLength, blocksOf, treeOver}
+use Rattle.wire.specs.Cost.{blockCost}
 use Rattle.wire.specs.Message.{short, manifestBytes, manifestIn, programSignature, numberIn, blockIn, hashesAfter, updateNumber, updateBlock, updateSignature, pathIn, pathSignature, dueLength, leastUpdate, leastPath}
 use Rattle.machine.specs.declared.state.Stage.{Stage}
 use Rattle.machine.specs.declared.state.Stage.the-variants.{Idle, Loading, Complete}
@@ -89,6 +90,10 @@ module _ (H : List ℕ → List ℕ) where
   unfoldable pub lastAltered : Manifest → (i : ℕ) → (flash m : List ℕ) → Bool
   lastAltered s i flash m = eqb i (countOf s) && lacksRoot s (stored s i flash m)
 
+  -- 20 for kind 2 (02, change 7): "exactly if that total is above the budget"; s is the current manifest
+  unfoldable pub spent : (budget : ℕ) → Manifest → (i : ℕ) → (flash m : List ℕ) → Bool
+  spent budget s i flash m = ltb budget (blockCost H s i flash m)
+
   -- 15 and 14 for kind 4: block i with these siblings does not lead to the root
   unfoldable pub strays : Manifest → (i : ℕ) → (block siblings root : List ℕ) → Bool
   strays s i block siblings root =
@@ -122,13 +127,14 @@ ofProgram valid d flash m s =
     ∷ (refusal.Unsigned, unsigned valid d (manifestBytes m) (programSignature m))
     ∷ [])
 
--- "Kind 2: 10, 8, 11, 12, 14", and 19 "for the last block after 14"; i is the next number
-unfoldable pub ofBlock : (H : List ℕ → List ℕ) → Device → (flash m : List ℕ) → ℕ → List (Refusal × Bool)
-ofBlock H d flash m i =
+-- "Kind 2: 10, 8, 11, 12, 14", 20 "after 12 and before 14", and 19 "for the last block after 14"; i is the next number
+unfoldable pub ofBlock : (H : List ℕ → List ℕ) (budget : ℕ) → Device → (flash m : List ℕ) → ℕ → List (Refusal × Bool)
+ofBlock H budget d flash m i =
     (refusal.Stage, notLoading (d .stage))
     ∷ (refusal.Area, tooSmall (d .manifest) flash)
     ∷ (refusal.Turn, notNext i m)
     ∷ (refusal.Length, wrongLength (d .manifest) i m)
+    ∷ (refusal.Spent, spent H budget (d .manifest) i flash m)
     ∷ (refusal.Mismatch, mismatch H d i m)
     ∷ (refusal.Altered, lastAltered H (d .manifest) i flash m)
     ∷ []
@@ -170,15 +176,16 @@ module _ (H : List ℕ → List ℕ) (valid : (key message signature : List ℕ)
       ∷ (refusal.Mismatch, strays H s i (updateBlock k m) siblings (s .root))
       ∷ [])
 
-  unfoldable pub ofKind : Kind → Device → (flash m : List ℕ) → List (Refusal × Bool)
-  ofKind k d flash m =
+  -- 02, change 7: "The caller hands a budget along with each kind 2 message": one goes with every message, and only kind 2 looks at it
+  unfoldable pub ofKind : (budget : ℕ) → Kind → Device → (flash m : List ℕ) → List (Refusal × Bool)
+  ofKind budget k d flash m =
       elim k [
         | kinds.Program ↦ ofProgram valid d flash m (manifestIn m)
-        | kinds.Block ↦ ofBlock H d flash m (nextOf (d .stage))
+        | kinds.Block ↦ ofBlock H budget d flash m (nextOf (d .stage))
         | kinds.Update ↦ ofUpdate d flash m (manifestIn m) (updateNumber m)
         | kinds.PathUpdate ↦ ofPathUpdate d flash m (manifestIn m) (updateNumber m)
         | kinds.Unknown ↦ []
       ]
 
-  unfoldable pub refusals : Kind → Device → (flash m : List ℕ) → List (Refusal × Bool)
-  refusals k d flash m = always k d m ++ ofKind k d flash m
+  unfoldable pub refusals : (budget : ℕ) → Kind → Device → (flash m : List ℕ) → List (Refusal × Bool)
+  refusals budget k d flash m = always k d m ++ ofKind budget k d flash m

@@ -11,6 +11,7 @@ use Rattle.wire.specs.declared.refusal.Refusal.{Refusal}
 use Rattle.wire.specs.Refusal.{firstThatApplies}
 use Rattle.wire.specs.Geometry.{countOf, blockLength}
 use Rattle.wire.specs.Message.{kind, manifestIn, hashesAfter}
+use Rattle.wire.specs.Cost.{blockCost}
 use Rattle.machine.specs.declared.state.Stage.{Stage}
 use Rattle.machine.specs.declared.state.Stage.the-variants.{Loading, Complete}
 use Rattle.machine.specs.declared.state.Device.{Device}
@@ -68,18 +69,38 @@ accept k d flash m =
 unfoldable pub answerOf : Option Refusal → Answer
 answerOf r = elim r [ none ↦ Accepted | some x ↦ Refused x ]
 
--- accepted where no refusal applies, with what that does; else the refusal alone, and device and flash as before
-unfoldable pub outcome : {D F : Type 0} → Option Refusal → D → F → SituationOf D F → OutcomeOf D F
-outcome r d flash then =
-    elim r [
-      | none ↦ record { answer = Accepted; device = then .device; flash = then .flash }
-      | some x ↦ record { answer = Refused x; device = d; flash = flash }
+-- what an accepted message of this kind reports: "an accepted one reports its total", of kind 2; for the other kinds, which the papers leave free, 0
+unfoldable pub total : (List ℕ → List ℕ) → Kind → Device → (flash m : List ℕ) → ℕ
+total H k d flash m =
+    elim k [
+      | kinds.Program ↦ 0
+      | kinds.Block ↦ blockCost H (d .manifest) (nextOf (d .stage)) flash m
+      | kinds.Update ↦ 0
+      | kinds.PathUpdate ↦ 0
+      | kinds.Unknown ↦ 0
     ]
 
-module _ (H : List ℕ → List ℕ) (valid : (key message signature : List ℕ) → Bool) where
+-- accepted where no refusal applies, with what that does and costs; else the refusal alone, a count of 0, and device and flash as before; either way with the budget
+-- handed in
+unfoldable pub outcome : {D F : Type 0} → Option Refusal → (budget cost : ℕ) → D → F → SituationOf D F → OutcomeOf D F
+outcome r budget cost d flash then =
+    elim r [
+      | none ↦ record { answer = Accepted; compressions = cost; budget = budget; device = then .device; flash = then .flash }
+      | some x ↦ record { answer = Refused x; compressions = 0; budget = budget; device = d; flash = flash }
+    ]
+
+module _ (H : List ℕ → List ℕ) (valid : (key message signature : List ℕ) → Bool) (budget : ℕ) where
   -- the first refusal that applies, if any
   unfoldable pub refusalOf : Device → (flash m : List ℕ) → Option Refusal
-  refusalOf d flash m = firstThatApplies (refusals H valid (kind m) d flash m)
+  refusalOf d flash m = firstThatApplies (refusals H valid budget (kind m) d flash m)
 
   unfoldable pub step : Device → (flash m : List ℕ) → Outcome
-  step d flash m = outcome (refusalOf d flash m) d flash (accept (kind m) d flash m)
+  step d flash m = outcome (refusalOf d flash m) budget (total H (kind m) d flash m) d flash (accept (kind m) d flash m)
+
+-- A call: a message, and the budget that goes with it. "A further number that a later change has the caller hand along may have any value."
+pub record Call : Type 0 where
+  pub message : List ℕ
+  pub budget : ℕ
+
+unfoldable pub stepCall : (H : List ℕ → List ℕ) (valid : (key message signature : List ℕ) → Bool) → Device → List ℕ → Call → Outcome
+stepCall H valid d flash c = step H valid (c .budget) d flash (c .message)

@@ -2,7 +2,7 @@
 use Prim.Native.Nat.{_<_}
 use native.Mathlib.Omega.{arith}
 use Rattle.wire.specs.declared.refusal.Refusal.{Refusal}
-use Rattle.wire.specs.declared.refusal.Refusal.the-variants.{State, Kind, Short, Version, Size, Model, Serial, Area, Unsigned, Stage, Turn, Length, Unlike, Mismatch, Path, Text, Place, Twice, Altered}
+use Rattle.wire.specs.declared.refusal.Refusal.the-variants.{State, Kind, Short, Version, Size, Model, Serial, Area, Unsigned, Stage, Turn, Length, Unlike, Mismatch, Path, Text, Place, Twice, Altered, Spent}
 use Rattle.wire.specs.Refusal.{refusalNumber}
 
 -- no refusal has the number of an accepted message
@@ -26,3 +26,4 @@ above-zero Text = omega arith
 above-zero Place = omega arith
 above-zero Twice = omega arith
 above-zero Altered = omega arith
+above-zero Spent = omega arith

@@ -1,16 +1,20 @@
 -- What is shown of the definitions (in proofs/).
 use mathlib.Core.Path.{_≡_}
+use mathlib.Core.Bool.{false}
 use mathlib.Core.List.{List}
 use Prim.Native.Nat.{ℕ, _+_, _-_, _*_, _^_, _≤_, _<_}
 use lib.ListN.{length}
 use Rattle.octets.specs.Octets.{Bytes}
 use Rattle.merkle.specs.Limits.{hashLength}
 use Rattle.merkle.specs.Blocks.{blockCount}
+use Rattle.merkle.specs.Cost.{mostCost}
 use Rattle.wire.specs.declared.kind.Kind.the-variants.{Program, Block, Update, PathUpdate}
 use Rattle.wire.specs.declared.manifest.Manifest.{Manifest}
 use Rattle.wire.specs.Manifest.{manifestLength, written, read, Fits}
-use Rattle.wire.specs.Geometry.{blockLength}
-use Rattle.wire.specs.Message.{kind, numberLength, programMessage, blockMessage, updateMessage, leastLength, manifestBytes, programSignature, numberIn, blockIn, hashesAfter, updateNumber, updateBlock, updateSignature, pathMessage, pathIn, pathSignature}
+use Rattle.wire.specs.Size.{wrongSize}
+use Rattle.wire.specs.Geometry.{countOf, blockLength}
+use Rattle.wire.specs.Message.{kind, numberLength, programMessage, blockMessage, updateMessage, leastLength, manifestBytes, programSignature, numberIn, blockIn, hashesAfter, updateNumber, updateBlock, updateSignature, pathMessage, pathIn, pathSignature, dueLength}
+use Rattle.wire.specs.Cost.{blockCost, costDue}
 
 -- 02, change 2: "the last block travels with the bytes it has". An image of T bytes has n blocks: each but the last has L bytes, and the
 -- last the T - (n - 1) × L that are left, 1 to L.
@@ -82,3 +86,14 @@ abbrev pub PathBack : Type 0
 PathBack =
     (s : Manifest) → length (s .root) ≡ hashLength → (signature : List ℕ) (i : ℕ) (block siblings : List ℕ) (d : ℕ) → length siblings ≡ hashLength * d → i < 256 ^ numberLength
     → OfPath s i block siblings signature d (pathMessage s i block siblings signature)
+
+-- 02, change 7: what a block message costs is known before anything is hashed: `blockCost` is `costDue`, whatever flash and message hold, where the flash has the
+-- image's bytes and the message its due length; and no block message costs more than 29,199, the last of 1,536 whole blocks of 1,024 bytes.
+pub record CostDue (H : List ℕ → List ℕ) (s : Manifest) (i : ℕ) : Type 0 where
+  pub known : (flash m : List ℕ) → s .«image_len» ≤ length flash → length m ≡ dueLength (s .«block_len») (s .«image_len») i → blockCost H s i flash m ≡ costDue H s i
+  pub most : costDue H s i ≤ mostCost
+
+abbrev pub CostsDue : Type 0
+CostsDue =
+    (H : List ℕ → List ℕ) → ((x : List ℕ) → length (H x) ≡ hashLength) → (s : Manifest) (i : ℕ) → wrongSize (s .«block_len») (s .«image_len») ≡ false → 0 < i
+    → i ≤ countOf s → CostDue H s i

@@ -3,4 +3,5 @@ pub mod Size
 pub mod Manifest
 pub mod Geometry
 pub mod Message
+pub mod Cost
 pub mod Claims

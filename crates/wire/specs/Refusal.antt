@@ -1,10 +1,10 @@
--- The refusals (01, 'The drive's refusals', and 02, changes 1, 3 and 5): their numbers, and which of several is given.
+-- The refusals (01, 'The drive's refusals', and 02, changes 1, 3, 5 and 7): their numbers, and which of several is given.
 use mathlib.Core.Bool.{Bool, cond}
 use mathlib.Core.List.{List, [], _∷_}
 use mathlib.Core.Option.{Option, none, some}
 use Prim.Native.Nat.{ℕ}
 use Rattle.wire.specs.declared.refusal.Refusal.{Refusal}
-use Rattle.wire.specs.declared.refusal.Refusal.the-variants.{State, Kind, Short, Version, Size, Model, Serial, Area, Unsigned, Stage, Turn, Length, Unlike, Mismatch, Path, Text, Place, Twice, Altered}
+use Rattle.wire.specs.declared.refusal.Refusal.the-variants.{State, Kind, Short, Version, Size, Model, Serial, Area, Unsigned, Stage, Turn, Length, Unlike, Mismatch, Path, Text, Place, Twice, Altered, Spent}
 
 -- the papers' number of each refusal
 abbrev pub refusalNumber : Refusal → ℕ
@@ -27,6 +27,7 @@ refusalNumber Text = 16
 refusalNumber Place = 17
 refusalNumber Twice = 18
 refusalNumber Altered = 19
+refusalNumber Spent = 20
 
 -- "Order, first that applies": of refusals in order, each with whether it applies
 unfoldable pub firstThatApplies : List (Refusal × Bool) → Option Refusal

@@ -19,6 +19,7 @@ pub use manifest::MANIFEST_LEN;
 pub use manifest::Manifest;
 pub use manifest::read;
 pub use manifest::to_bytes;
+pub use measures::cost_due;
 pub use measures::count_of;
 pub use measures::flash_block;
 pub use measures::leaf_depth;

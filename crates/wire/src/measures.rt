@@ -1,4 +1,5 @@
-// What follows from a manifest: how many blocks its program has, how long each is, how deep its leaf lies, and where it stands in a flash. Blocks count from 1.
+// What follows from a manifest: how many blocks its program has, how long each is, what its message costs, how deep its leaf lies, and where it stands in a flash.
+// Blocks count from 1.
 use crate::blocks::block_length;
 use crate::blocks::block_of;
 use crate::manifest::Manifest;
@@ -7,9 +8,11 @@ ghost use mathlib.Core.Path.{_≡_};
 ghost use mathlib.Core.Bool.{false};
 ghost use Prim.Native.Nat.{pred, _≤_, _<_};
 ghost use lib.ListN.{length};
+ghost use Rattle.sha256.specs.Sha256.{digest};
 ghost use Rattle.merkle.specs.Path.{leafDepth};
 ghost use Rattle.wire.specs.Size.{wrongSize, outside};
 ghost use Rattle.wire.specs.Geometry.{countOf, blockLength, blocksOf};
+ghost use Rattle.wire.specs.Cost.{costDue};
 
 // The number of blocks (01: n).
 pub fn count_of(manifest: Manifest) -> usize
@@ -28,6 +31,19 @@ pub fn own_len(manifest: Manifest, number: u16) -> usize
         manifest.block_len as usize,
         manifest.image_len as usize,
         number as usize,
+    )
+}
+
+// What the message of block `number` costs, in SHA-256 compressions. Nothing is hashed to know it.
+pub fn cost_due(manifest: Manifest, number: u16) -> usize
+    requires { ⌜ (wrongSize (manifest .«block_len») (manifest .«image_len») ≡ false) × (0 < number) × (number ≤ countOf manifest) ⌝ }
+    ensures { λ r. ⌜ r ≡ costDue digest manifest number ⌝ }
+{
+    merkle::known_cost(
+        manifest.block_len as usize,
+        count_of(manifest),
+        number as usize - 1,
+        own_len(manifest, number),
     )
 }
 

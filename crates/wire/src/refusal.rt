@@ -22,6 +22,7 @@ pub enum Refusal {
     Place,
     Twice,
     Altered,
+    Spent,
 }
 
 // The papers' number of a refusal.
@@ -48,5 +49,6 @@ pub fn refusal_number(refusal: Refusal) -> u8
         Refusal::Place => 17,
         Refusal::Twice => 18,
         Refusal::Altered => 19,
+        Refusal::Spent => 20,
     }
 }

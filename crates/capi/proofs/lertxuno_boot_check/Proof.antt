@@ -1,4 +1,5 @@
-use mathlib.Core.Path.{_∙_}
+use mathlib.Core.Path.{refl, _∙_}
+use Rattle.capi.proofs.StateLaws.{device-is}
 use Rattle.capi.proofs.CallLaws.{none-boot-check, length-stage-read, checked}
 use borrow.Author.Needs.{needs}
 use Rattle.capi.proofs.lertxuno_boot_check.Statement.{statement}
@@ -16,8 +17,8 @@ enum-told c = search needs
 returns : tie.Need-returns
 returns c = none-boot-check _ (c .before .before .stage-in .ensures) _ (c .enum-told .given .1)
 
-device-in-requires : tie.Need-device-in-requires
-device-in-requires c κs = length-stage-read _ (c .before .before .before .stage-in .ensures) (c .before .stage .given .1)
+manifest-in-requires : tie.Need-manifest-in-requires
+manifest-in-requires c κs = length-stage-read _ (c .before .before .before .stage-in .ensures) (c .before .stage .given .1)
 
 boot-check-requires : tie.Need-boot-check-requires
 boot-check-requires c κs = search needs
@@ -32,7 +33,7 @@ returns-2 : tie.Need-returns-2
 returns-2 c =
     let b = c .before .before in
     let s = b .before .before .before in
-    checked _ (s .before .before .stage-in .ensures) _ (s .stage .given .1) (b .before .device-in .ensures) (b .boot-check .ensures) (c .wide .ensures ∙ c .before .answer-number .ensures)
+    checked _ (s .before .before .stage-in .ensures) _ (s .stage .given .1) (device-is _ _ refl refl (b .before .manifest-in .ensures) refl) (b .boot-check .ensures _ _ _) (c .wide .ensures ∙ c .before .answer-number .ensures)
 
 pub lertxuno-boot-check-spec : {M : Type 1} → statement M
 lertxuno-boot-check-spec =
@@ -42,7 +43,7 @@ lertxuno-boot-check-spec =
     enum-known-stage
     enum-told
     returns
-    device-in-requires
+    manifest-in-requires
     boot-check-requires
     answer-number-requires
     wide-requires

@@ -1,16 +1,15 @@
-use mathlib.Core.Path.{_≡_, sym, ap, _∙_}
+use mathlib.Core.Path.{_≡_, refl, ap, _∙_}
 use mathlib.Core.List.{List}
 use Prim.Native.Nat.{ℕ, _-_, _≤_}
 use native.Mathlib.Omega.{arith}
 use lib.ListN.{length, take, drop, length-drop}
 use lib.Seq.{length-take-le}
-use Rattle.octets.proofs.CopyLaws.{length-part}
+use Rattle.octets.specs.Octets.{Bytes}
 use Rattle.merkle.specs.Limits.{heldBytes}
-use Rattle.lms.specs.Lms.{keyLength}
 use Rattle.machine.specs.declared.state.Device.{Device}
 use Rattle.device.specs.Fields.{deviceOf}
-use Rattle.capi.specs.State.{keyAt, hashesAt, stateLength, deviceIn}
-use Rattle.capi.proofs.StateLaws.{front-room, front-long, end-put, end-same, encode-is}
+use Rattle.capi.specs.State.{stageAt, hashesAt, stateLength, deviceIn}
+use Rattle.capi.proofs.StateLaws.{device-is, front-room, part-long, end-same, encode-back}
 use Rattle.capi.proofs.CallLaws.{length-stage-read, unknown, unchanged, refused, accepted}
 use borrow.Author.Needs.{needs}
 use Rattle.capi.proofs.lertxuno_receive.Statement.{statement}
@@ -22,6 +21,9 @@ long c = length-stage-read _ (c .before .before .before .stage-in .ensures) (c .
 
 abbrev bytes : tie.After-receive-in-place → List ℕ
 bytes c = c .before .before .before .before .before .before .before .before .before .before .before .before .before .before .before .before .before .before .args .state .now
+
+are-bytes : (c : tie.After-receive-in-place) → Bytes (bytes c)
+are-bytes c i h = omega (arith, c .before .before .before .before .before .before .before .before .before .before .before .before .before .before .before .before .before .slice-known .given i)
 
 enough : (c : tie.After-receive-in-place) → hashesAt ≤ length (bytes c)
 enough c = let l = long (c .before .before .before .before .before .before .before .before .before .before) in omega arith
@@ -35,18 +37,10 @@ held c =
 -- what was handed on is the device that they encode
 is-device : (c : tie.After-receive-in-place)
     → deviceOf (c .before .before .before .before .before .before .before .before .u32-at .result) (c .before .before .before .before .before .before .key-in .result) (c .before .before .before .before .before .before .before .before .before .before .before .stage .given .0 .0) (c .before .before .before .before .manifest-in .result) (take (length (bytes c) - hashesAt) (drop hashesAt (bytes c))) ≡ deviceIn (bytes c) (c .before .before .before .before .before .before .before .before .before .before .before .stage .given .0 .0)
-unfolding deviceIn
 is-device c =
     let l = long (c .before .before .before .before .before .before .before .before .before .before) in
     let k : length (bytes c) - hashesAt ≡ heldBytes = omega arith in
-    λ i.
-    record {
-      model = c .before .before .before .before .before .before .before .before .u32-at .ensures i;
-      key = c .before .before .before .before .before .before .key-in .ensures i;
-      stage = c .before .before .before .before .before .before .before .before .before .before .before .stage .given .0 .0;
-      manifest = c .before .before .before .before .manifest-in .ensures i;
-      hashes = take (k i) (drop hashesAt (bytes c));
-    }
+    device-is (bytes c) _ (c .before .before .before .before .before .before .before .before .u32-at .ensures) (c .before .before .before .before .before .before .key-in .ensures) (c .before .before .before .before .manifest-in .ensures) (ap (λ (n : ℕ). take n (drop hashesAt (bytes c))) k)
 
 stage-in-requires : tie.Need-stage-in-requires
 stage-in-requires c κs = search needs
@@ -61,7 +55,7 @@ same-length : tie.Need-same-length
 same-length c = search needs
 
 returns : tie.Need-returns
-returns c = unknown _ (c .before .before .stage-in .ensures) _ _ (c .enum-told .given .1)
+returns c = unknown _ (c .before .before .stage-in .ensures) _ _ _ (c .enum-told .given .1)
 
 u32-at-requires : tie.Need-u32-at-requires
 u32-at-requires c κs = let l = long (c .before) in omega arith
@@ -109,20 +103,20 @@ returns-2 : tie.Need-returns-2
 returns-2 c =
     let r = c .before .before .before .before .before .before .before .before in
     let z = c .before .before .enum-told3 .given .1 in
-    refused _ (r .before .before .before .before .before .before .before .before .before .before .before .before .before .stage-in .ensures) _ _ (r .before .before .before .before .before .before .before .before .before .before .before .stage .given .1) (is-device r) (held r) (r .receive-in-place .ensures) z (c .wide .ensures ∙ c .before .answer-number .ensures)
-    (end-same (bytes r) hashesAt (enough r) (ap (λ (d : Device). d .hashes) (unchanged _ (r .before .before .before .before .before .before .before .before .before .before .before .before .before .stage-in .ensures) _ _ (r .before .before .before .before .before .before .before .before .before .before .before .stage .given .1) (is-device r) (held r) (r .receive-in-place .ensures) z)))
+    refused _ (r .before .before .before .before .before .before .before .before .before .before .before .before .before .stage-in .ensures) _ _ _ (r .before .before .before .before .before .before .before .before .before .before .before .stage .given .1) (is-device r) (held r) (r .receive-in-place .ensures) z (c .wide .ensures ∙ c .before .answer-number .ensures)
+    (end-same (bytes r) hashesAt (enough r) (ap (λ (d : Device). d .hashes) (unchanged _ (r .before .before .before .before .before .before .before .before .before .before .before .before .before .stage-in .ensures) _ _ _ (r .before .before .before .before .before .before .before .before .before .before .before .stage .given .1) (is-device r) (held r) (r .receive-in-place .ensures) z)))
 
-slice-relend-prefix-put-head : tie.Need-slice-relend-prefix-put-head
-slice-relend-prefix-put-head c = let r = c .before .before .before .before .before .before .before in front-room (bytes r) hashesAt (enough r) _
+sub-put-progress : tie.Need-sub-put-progress
+sub-put-progress c = search needs
 
-slice-aggregate-put-head : tie.Need-slice-aggregate-put-head
-slice-aggregate-put-head c = let r = c .before .before .before .before .before .before .before .before in sym (front-long (bytes r) hashesAt (enough r) _)
+part-put-progress-start : tie.Need-part-put-progress-start
+part-put-progress-start c = search needs
 
-slice-aggregate-put-head-2 : tie.Need-slice-aggregate-put-head-2
-slice-aggregate-put-head-2 c = search needs
+part-put-progress-end : tie.Need-part-put-progress-end
+part-put-progress-end c = let r = c .before .before .before .before .before .before .before in front-room (bytes r) hashesAt (enough r) _
 
-put-head-requires : tie.Need-put-head-requires
-put-head-requires c κs = let r = c .before .before .before .before .before .before .before .before .before in (front-long (bytes r) hashesAt (enough r) _, ap length (r .before .before .before .before .before .before .key-in .ensures) ∙ length-part (bytes r) keyAt keyLength (let l = long (r .before .before .before .before .before .before .before .before .before .before) in omega arith))
+put-progress-requires : tie.Need-put-progress-requires
+put-progress-requires c κs = let r = c .before .before .before .before .before .before .before .before in part-long (bytes r) hashesAt (enough r) stageAt (omega arith) _
 
 same-length-4 : tie.Need-same-length-4
 same-length-4 c = search needs
@@ -132,9 +126,9 @@ same-length-5 c = search needs
 
 returns-3 : tie.Need-returns-3
 returns-3 c =
-    let r = c .before .before .before .before .before .before .before .before .before .before .before .before in
-    accepted _ (r .before .before .before .before .before .before .before .before .before .before .before .before .before .stage-in .ensures) _ _ (r .before .before .before .before .before .before .before .before .before .before .before .stage .given .1) (is-device r) (held r) (r .receive-in-place .ensures) (c .before .before .before .before .before .before .enum-told2 .given .1)
-    (encode-is _ (c .before .before .put-head .ensures) (end-put (bytes r) hashesAt (enough r) _))
+    let r = c .before .before .before .before .before .before .before .before .before .before .before in
+    accepted _ (r .before .before .before .before .before .before .before .before .before .before .before .before .before .stage-in .ensures) _ _ _ (r .before .before .before .before .before .before .before .before .before .before .before .stage .given .1) (is-device r) (held r) (r .receive-in-place .ensures) _ (c .before .before .before .before .before .enum-told2 .given .1)
+    (encode-back (bytes r) (are-bytes r) (long (r .before .before .before .before .before .before .before .before .before .before)) _ (r .before .before .before .before .before .before .before .before .u32-at .ensures) (r .before .before .before .before .before .before .key-in .ensures) (c .before .before .put-progress .ensures) refl)
 
 pub lertxuno-receive-spec : {M : Type 1} → statement M
 lertxuno-receive-spec =
@@ -160,10 +154,10 @@ lertxuno-receive-spec =
     same-length-2
     same-length-3
     returns-2
-    slice-relend-prefix-put-head
-    slice-aggregate-put-head
-    slice-aggregate-put-head-2
-    put-head-requires
+    sub-put-progress
+    part-put-progress-start
+    part-put-progress-end
+    put-progress-requires
     same-length-4
     same-length-5
     returns-3)

@@ -19,7 +19,7 @@ same-length c = search needs
 returns : tie.Need-returns
 returns c =
     let r = c .before .before .before .before in
-    sym (held-step _ _ _ (search needs)) ∙ r .receive-in-place .ensures
+    sym (held-step _ _ _ _ (search needs)) ∙ r .receive-in-place .ensures
 
 pub receive-spec : {M : Type 1} → statement M
 receive-spec =

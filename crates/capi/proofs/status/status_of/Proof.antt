@@ -1,4 +1,5 @@
 use mathlib.Core.Path.{_∙_}
+use mathlib.Core.List.{[]}
 use Rattle.machine.specs.Device.{serialOf, nextOf}
 use Rattle.capi.specs.State.{stageNumber}
 use Rattle.capi.specs.Status.{unlessIdle, statusOf}
@@ -24,25 +25,25 @@ cast-with-manifest : tie.Need-cast-with-manifest
 cast-with-manifest c = search needs
 
 with-manifest-requires : tie.Need-with-manifest-requires
-with-manifest-requires c κs = loading _ (c .before .before .before .before .pre) (c .before .stage .given .1) .size
+with-manifest-requires c κs = loading _ (c .before .before .before .before .pre [] []) (c .before .stage .given .1) .size
 
 enum-told-2 : tie.Need-enum-told-2
 enum-told-2 c = search needs
 
 with-manifest-requires-2 : tie.Need-with-manifest-requires-2
-with-manifest-requires-2 c κs = complete-size _ (c .before .before .before .pre) (c .enum-told2 .given .1)
+with-manifest-requires-2 c κs = complete-size _ (c .before .before .before .pre [] []) (c .enum-told2 .given .1)
 
 returns : tie.Need-returns
 unfolding statusOf unlessIdle nextOf serialOf stageNumber
-returns c = rw (c .before .before .stage-number .ensures, c .enum-told .given .1)
+returns c key hashes = rw (c .before .before .stage-number .ensures, c .enum-told .given .1)
 
 returns-2 : tie.Need-returns-2
 unfolding statusOf unlessIdle nextOf serialOf stageNumber
-returns-2 c = c .with-manifest .ensures ∙ rw (c .before .before .before .before .stage-number .ensures, c .before .before .stage .given .1)
+returns-2 c key hashes = c .with-manifest .ensures ∙ rw (c .before .before .before .before .stage-number .ensures, c .before .before .stage .given .1)
 
 returns-3 : tie.Need-returns-3
 unfolding statusOf unlessIdle nextOf serialOf stageNumber
-returns-3 c = c .with-manifest2 .ensures ∙ rw (c .before .before .before .stage-number .ensures, c .before .enum-told2 .given .1)
+returns-3 c key hashes = c .with-manifest2 .ensures ∙ rw (c .before .before .before .stage-number .ensures, c .before .enum-told2 .given .1)
 
 pub status-of-spec : {M : Type 1} → statement M
 status-of-spec =

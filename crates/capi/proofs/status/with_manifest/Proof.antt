@@ -12,10 +12,10 @@ cast-block-count-2 : tie.Need-cast-block-count-2
 cast-block-count-2 c = search needs
 
 block-count-requires : tie.Need-block-count-requires
-block-count-requires c κs = let z = sized _ _ (c .before .before .before .pre) in (omega arith, omega arith)
+block-count-requires c κs = let z = sized _ _ (c .before .before .pre) in (omega arith, omega arith)
 
 cast-count : tie.Need-cast-count
-cast-count c = let z = sized _ _ (c .before .before .before .before .pre) in omega (arith, c .block-count .ensures)
+cast-count c = let z = sized _ _ (c .before .before .before .pre) in omega (arith, c .block-count .ensures)
 
 cast-t9 : tie.Need-cast-t9
 cast-t9 c = search needs

@@ -12,7 +12,7 @@ enum-told : tie.Need-enum-told
 enum-told c = search needs
 
 accept-program-requires : tie.Need-accept-program-requires
-accept-program-requires c κs = let s = c .before .before .before .before .before .before in (s .pre .0, program-passed digest valid _ _ _ (sym (s .pre .1) ∙ c .before .enum-told .given .1) (s .pre .2 .unrefused) .long)
+accept-program-requires c κs = let s = c .before .before .before .before .before .before in (s .pre .0, program-passed digest valid _ _ _ _ (sym (s .pre .1) ∙ c .before .enum-told .given .1) (s .pre .2 .unrefused) .long)
 
 accept-block-requires : tie.Need-accept-block-requires
 accept-block-requires c κs = let s = c .before .before .before .before .before .before in (s .pre .0, s .pre .1, bringing (s .args .kind) (c .before .before .match .keys2), s .pre .2)

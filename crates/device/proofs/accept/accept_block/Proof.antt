@@ -10,7 +10,7 @@ use Rattle.wire.specs.Geometry.{countOf, blockLength}
 use Rattle.wire.specs.Message.{hashesAfter}
 use Rattle.machine.specs.declared.state.Device.{Device}
 use Rattle.device.specs.Fields.{deviceOf}
-use Rattle.device.specs.Inner.{programOf, numberOf, headOf}
+use Rattle.device.specs.Inner.{programOf, blockNumberOf, headOf}
 use Rattle.device.proofs.ConditionLaws.{room}
 use Rattle.device.proofs.AcceptLaws.{Brought, length-brought, brought, siblings, update-is, block-is}
 use borrow.Author.Needs.{needs}
@@ -25,8 +25,8 @@ abbrev device : tie.Start → Device
 device a = deviceOf (a .pre .3 .model) (a .pre .3 .key) (a .args .stage) (a .args .current) (a .args .hashes .now)
 
 -- what it brings
-there : (c : tie.After-updates) → let a = start-of c .args in let u = c .updates .result in Brought (programOf u (a .current) (a .message .now)) (numberOf u (a .stage) (a .message .now)) (headOf u) (a .flash .now) (a .message .now)
-there c = let a = start-of c in brought (device a) (a .args .flash .now) (a .args .message .now) (a .args .kind) (a .pre .1) (a .pre .2) (a .pre .3 .unrefused) (c .updates .result) (c .updates .ensures)
+there : (c : tie.After-updates) → let a = start-of c .args in let u = c .updates .result in Brought (programOf u (a .current) (a .message .now)) (blockNumberOf u (a .stage) (a .message .now)) (headOf u) (a .flash .now) (a .message .now)
+there c = let a = start-of c in brought (device a) (a .args .flash .now) (a .args .message .now) (a .args .kind) (a .pre .1) (a .pre .2) (a .pre .3 .budget) (a .pre .3 .unrefused) (c .updates .result) (c .updates .ensures)
 
 -- .. by what was read
 read : (c : tie.After-number-of) → let j = c .before .before in let a = start-of j .args in Brought (c .before .program-of .result) (c .number-of .result) (headOf (j .updates .result)) (a .flash .now) (a .message .now)
@@ -38,7 +38,7 @@ behind : (c : tie.After-number-of) → let j = c .before .before in let s = c .b
 behind c z =
     let j = c .before .before in
     let a = start-of j in
-    rw (c .number-of .ensures, c .before .program-of .ensures) (siblings (device a) (a .args .flash .now) (a .args .message .now) (a .args .kind) (a .pre .1) (a .pre .2) (a .pre .3 .unrefused) (j .updates .result) (j .updates .ensures) z)
+    rw (c .number-of .ensures, c .before .program-of .ensures) (siblings (device a) (a .args .flash .now) (a .args .message .now) (a .args .kind) (a .pre .1) (a .pre .2) (a .pre .3 .budget) (a .pre .3 .unrefused) (j .updates .result) (j .updates .ensures) z)
 
 long : (c : tie.After-own-len) → let j = c .before .before .before in headOf (j .updates .result) + c .own-len .result ≤ length (start-of j .args .message .now)
 long c = rw (c .own-len .ensures) (read (c .before) .long)

@@ -3,8 +3,11 @@ use mathlib.Core.Bool.{not}
 use mathlib.Core.List.{List}
 use Prim.Native.Nat.{ℕ, _*_}
 use native.Mathlib.Omega.{arith}
+use lib.ListN.{length}
 use Rattle.octets.specs.Octets.{equal}
 use Rattle.sha256.specs.Sha256.{digest}
+use Rattle.sha256.proofs.DigestLaws.{length-digest}
+use Rattle.merkle.proofs.PathBindingLaws.{length-path}
 use Rattle.merkle.specs.Limits.{hashLength}
 use Rattle.merkle.specs.Shape.{shape}
 use Rattle.merkle.specs.Hash.{plain}
@@ -25,11 +28,12 @@ sub-path-hash c = omega (arith, inside _ _ (c .before .before .before .pre .1))
 
 path-hash-requires : tie.Need-path-hash-requires
 path-hash-requires c κs =
-    let p = c .before .before .before .pre in
-    (omega (arith, inside _ _ (p .1), c .count-of .ensures), p .2 ∙ ap (λ k. hashLength * k) (sym (ap₂ leafDepth (c .count-of .ensures) (before-is _))))
+    let p = c .before .before .before .before .pre in
+    let n = c .before .count-of .ensures in
+    (omega (arith, inside _ _ (p .1), n), p .2 ∙ ap (λ k. hashLength * k) (sym (ap₂ leafDepth n (before-is _))))
 
 slice-aggregate-equal : tie.Need-slice-aggregate-equal
-slice-aggregate-equal c = search needs
+slice-aggregate-equal c = sym (ap length (c .before .path-hash .ensures .0) ∙ length-path (plain digest) length-digest 0 (shape _) _ _ _)
 
 equal-requires : tie.Need-equal-requires
 equal-requires c κs = search needs
@@ -37,10 +41,11 @@ equal-requires c κs = search needs
 returns : tie.Need-returns
 unfolding strays
 returns c =
-    let a = c .before .before .before .before .before .before .before .args in
-    let n = c .before .before .before .before .count-of in
-    ap not (c .equal .ensures ∙ ap (λ (x : List ℕ). equal x (a .root .now)) (c .before .before .before .path-hash .ensures
-    ∙ ap₂ (λ n i. pathHash (plain digest) 0 (shape n) i (a .block .now) (hashesIn (leafDepth n i) (a .siblings .now))) (n .ensures) (before-is _)))
+    let h = c .before .before .before in
+    let n = h .before .before in
+    let a = n .before .before .before .args in
+    ap not (c .equal .ensures ∙ ap (λ (x : List ℕ). equal x (a .root .now)) (h .path-hash .ensures .0
+    ∙ ap₂ (λ n i. pathHash (plain digest) 0 (shape n) i (a .block .now) (hashesIn (leafDepth n i) (a .siblings .now))) (n .count-of .ensures) (before-is _)))
 
 pub strays-spec : {M : Type 1} → statement M
 strays-spec =

@@ -31,7 +31,7 @@ early-requires : tie.Need-early-requires
 early-requires c κs = search needs
 
 returns : tie.Need-returns
-returns c = λ hashes. early-refused digest valid (device (c .before .before .before .before .before) hashes) _ _ _ (sym (c .before .early .ensures) ∙ c .if1 .taken)
+returns c = λ budget hashes. early-refused digest valid budget (device (c .before .before .before .before .before) hashes) _ _ _ (sym (c .before .early .ensures) ∙ c .if1 .taken)
 
 manifest-in-requires : tie.Need-manifest-in-requires
 manifest-in-requires c κs = let a = c .before .before .before .before .before in omega (arith, carried-long (a .args .kind) (a .pre .0), a .pre .1)
@@ -46,10 +46,10 @@ enum-told-2 : tie.Need-enum-told-2
 enum-told-2 c = search needs
 
 returns-2 : tie.Need-returns-2
-returns-2 c = λ hashes.
+returns-2 c = λ budget hashes.
     let a = c .before .before .before .before .before .before .before .before .before in
     let e = c .enum-told2 .given .1 in
-    e ∙ manifest-refused digest valid (device a hashes) _ _ _ (a .pre .0) (late (c .before .before .before .before)) (rw (c .before .before .before .manifest-in .ensures) at (sym e ∙ c .before .before .judge-manifest .ensures (a .args .key .now) hashes))
+    e ∙ manifest-refused digest valid budget (device a hashes) _ _ _ (a .pre .0) (late (c .before .before .before .before)) (rw (c .before .before .before .manifest-in .ensures) at (sym e ∙ c .before .before .judge-manifest .ensures (a .args .key .now) hashes))
 
 enum-told-3 : tie.Need-enum-told-3
 enum-told-3 c = search needs
@@ -73,15 +73,15 @@ judge-path-update-requires c κs = ((let q = c .enum-told5 .given .1 in rw q at 
 
 returns-3 : tie.Need-returns-3
 unfolding ofKind
-returns-3 c = λ hashes. rw (c .before .enum-told3 .given .1) (c .judge-program .ensures hashes)
+returns-3 c = λ budget hashes. rw (c .before .enum-told3 .given .1) (c .judge-program .ensures hashes)
 
 returns-4 : tie.Need-returns-4
 unfolding ofKind
-returns-4 c = λ hashes. rw (c .before .enum-told4 .given .1) (c .judge-update .ensures hashes)
+returns-4 c = λ budget hashes. rw (c .before .enum-told4 .given .1) (c .judge-update .ensures hashes)
 
 returns-5 : tie.Need-returns-5
 unfolding ofKind
-returns-5 c = λ hashes. rw (c .before .enum-told5 .given .1) (c .judge-path-update .ensures hashes)
+returns-5 c = λ budget hashes. rw (c .before .enum-told5 .given .1) (c .judge-path-update .ensures hashes)
 
 returns-6 : tie.Need-returns-6
 returns-6 c = let a = c .before .before .before .before .before .before .before .before .before .before in absurd (true≢false (sym (a .pre .0) ∙ bare (a .args .kind) (c .match2 .keys4)))

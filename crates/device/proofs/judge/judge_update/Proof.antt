@@ -1,5 +1,5 @@
 use mathlib.Core.Path.{_≡_, sym, ap, ap₂, _∙_}
-use mathlib.Core.Bool.{Bool, false}
+use mathlib.Core.Bool.{Bool, false, not}
 use mathlib.Core.List.{List, []}
 use Prim.Native.Nat.{ℕ, _+_, _≤_}
 use lib.ListN.{length}
@@ -89,13 +89,13 @@ unfolding ofUpdate ofSuccessor ofManifest behind
 signed c hashes = long (c .before .before .before .before .before) hashes past (sym (verdict (c .before) hashes) ∙ c .if4 .left)
 
 -- the tree over the flash with the new block, as it stands in the message
-rooted : (c : tie.After-lacks-root-with) → let j = c .before .before .before .before .before .before .before .before .before .before .before .before .before .before .before in c .lacks-root-with .result ≡ lacksRoot digest (manifest j) (updated (manifest j) (start-of j .args .flash .now) (message j))
+rooted : (c : tie.After-compare-with) → let j = c .before .before .before .before .before .before .before .before .before .before .before .before .before .before .before in not (c .compare-with .result .same) ≡ lacksRoot digest (manifest j) (updated (manifest j) (start-of j .args .flash .now) (message j))
 unfolding updated
 rooted c =
     let j = c .before .before .before .before .before .before .before .before .before .before .before .before .before .before .before in
     let s = manifest j in
     let written : ℕ → List ℕ = λ i. withBlock (s .«block_len») (start-of j .args .flash .now) i (updateBlock (blockLength (s .«block_len») (s .«image_len») i) (message j)) in
-    c .lacks-root-with .ensures
+    c .compare-with .ensures .0
     ∙ ap (λ b. lacksRoot digest s (withBlock (s .«block_len») (start-of j .args .flash .now) (number j) b)) (c .before .update-block .ensures ∙ ap (λ k. updateBlock k (message j)) (c .before .before .before .before .before .before .own-len .ensures))
     ∙ ap (λ i. lacksRoot digest s (written i)) (j .before .update-number .ensures)
 
@@ -165,19 +165,19 @@ returns-5 c hashes = refused (long (c .before .before .before .before .before) h
 update-block-requires : tie.Need-update-block-requires
 update-block-requires c κs = enough (c .before .before .before .before)
 
-lacks-root-with-requires : tie.Need-lacks-root-with-requires
-lacks-root-with-requires c κs =
+compare-with-requires : tie.Need-compare-with-requires
+compare-with-requires c κs =
     let k = c .before .before .before .before .before in
     let p = known (k .before .before .before .before .before .before .before) in
     (p .0, p .1, within (k .before .before .before), ap length (c .update-block .ensures) ∙ length-update-block _ (message (k .before .before .before .before .before .before .before .before .before)) (enough k) ∙ k .own-len .ensures)
 
 returns-6 : tie.Need-returns-6
 unfolding ofUpdate ofSuccessor ofManifest behind
-returns-6 c hashes = refused (signed (c .before .before .before) hashes) (sym (rooted (c .before)) ∙ c .if5 .taken)
+returns-6 c hashes = refused (signed (c .before .before .before .before) hashes) (sym (rooted (c .before .before)) ∙ c .if5 .taken)
 
 returns-7 : tie.Need-returns-7
 unfolding ofUpdate ofSuccessor ofManifest behind
-returns-7 c hashes = accepted (signed (c .before .before .before) hashes past (sym (rooted (c .before)) ∙ c .if5 .left))
+returns-7 c hashes = accepted (signed (c .before .before .before .before) hashes past (sym (rooted (c .before .before)) ∙ c .if5 .left))
 
 pub judge-update-spec : {M : Type 1} → statement M
 judge-update-spec =
@@ -200,6 +200,6 @@ judge-update-spec =
     unsigned-requires
     returns-5
     update-block-requires
-    lacks-root-with-requires
+    compare-with-requires
     returns-6
     returns-7)

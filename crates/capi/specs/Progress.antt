@@ -1,4 +1,4 @@
--- For the code alone: a state's fields before the hashes, which it writes by themselves.
+-- For the code alone: the fields of a state that a message may change, but for the hashes; it writes them by themselves.
 use mathlib.Core.List.{List, [], _∷_}
 use Prim.Native.Nat.{ℕ}
 use Rattle.octets.specs.Octets.{bytes}
@@ -8,5 +8,5 @@ use Rattle.machine.specs.declared.state.Stage.{Stage}
 use Rattle.machine.specs.Device.{nextOf}
 use Rattle.capi.specs.State.{stageNumber}
 
-abbrev pub headOf : ℕ → List ℕ → Stage → Manifest → List (List ℕ)
-headOf model key stage manifest = bytes 4 model ∷ key ∷ bytes 2 (stageNumber stage) ∷ bytes 2 (nextOf stage) ∷ written manifest ∷ []
+abbrev pub progressOf : Stage → Manifest → List (List ℕ)
+progressOf stage manifest = bytes 2 (stageNumber stage) ∷ bytes 2 (nextOf stage) ∷ written manifest ∷ []

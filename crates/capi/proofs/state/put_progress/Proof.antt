@@ -5,13 +5,10 @@ use lib.ListN.{length}
 use Rattle.octets.proofs.NumberLaws.{length-bytes}
 use Rattle.octets.proofs.JoinedLaws.{copied-over, copy, none}
 use Rattle.wire.specs.Manifest.{manifestLength}
-use Rattle.capi.proofs.StateLaws.{headLengths}
+use Rattle.capi.proofs.StateLaws.{progressLengths}
 use borrow.Author.Needs.{needs}
-use Rattle.capi.proofs.state.put_head.Statement.{statement}
-use Rattle.capi.proofs.state.put_head.Tie as tie
-
-be32-requires : tie.Need-be32-requires
-be32-requires c κs = search needs
+use Rattle.capi.proofs.state.put_progress.Statement.{statement}
+use Rattle.capi.proofs.state.put_progress.Tie as tie
 
 stage-number-requires : tie.Need-stage-number-requires
 stage-number-requires c κs = search needs
@@ -34,53 +31,44 @@ slice-aggregate-copy c = search needs
 copy-requires : tie.Need-copy-requires
 copy-requires c κs = search needs
 
-copy-requires-2 : tie.Need-copy-requires-2
-copy-requires-2 c κs = search needs
+sub-copy : tie.Need-sub-copy
+sub-copy c = search needs
 
 slice-aggregate-copy-2 : tie.Need-slice-aggregate-copy-2
 slice-aggregate-copy-2 c = search needs
 
-copy-requires-3 : tie.Need-copy-requires-3
-copy-requires-3 c κs = search needs
+copy-requires-2 : tie.Need-copy-requires-2
+copy-requires-2 c κs = search needs
+
+sub-copy-2 : tie.Need-sub-copy-2
+sub-copy-2 c = search needs
 
 slice-aggregate-copy-3 : tie.Need-slice-aggregate-copy-3
 slice-aggregate-copy-3 c = search needs
 
-copy-requires-4 : tie.Need-copy-requires-4
-copy-requires-4 c κs = search needs
-
-slice-aggregate-copy-4 : tie.Need-slice-aggregate-copy-4
-slice-aggregate-copy-4 c = search needs
-
-copy-requires-5 : tie.Need-copy-requires-5
-copy-requires-5 c κs = search needs
+copy-requires-3 : tie.Need-copy-requires-3
+copy-requires-3 c κs = search needs
 
 same-length : tie.Need-same-length
 same-length c = search needs
 
 returns : tie.Need-returns
 returns c =
-    let c5 = c .before .before in
-    let c4 = c5 .before .before .before .before .before in
-    let c3 = c4 .before .before .before .before .before in
+    let c3 = c .before .before in
     let c2 = c3 .before .before .before .before .before in
-    let c1 = c2 .before .before .before .before in
+    let c1 = c2 .before .before .before .before .before in
     let w = c1 .before .before .before in
     let n = w .before in
     let s = n .before .before in
-    let m = s .before .before in
-    let a = m .before .before .before in
     let lw : length (w .to-bytes .result) ≡ manifestLength = omega (arith, w .to-bytes .ok) in
-    copied-over headLengths (m .be32 .result ∷ a .args .key .now ∷ s .be16 .result ∷ n .be162 .result ∷ w .to-bytes .result ∷ [])
-    (rw (m .be32 .ensures, s .be16 .ensures, n .be162 .ensures, a .pre .1, lw) (simp length-bytes)) (a .pre .0)
-    (copy (c1 .copy .ensures) (copy (c2 .copy2 .ensures) (copy (c3 .copy3 .ensures) (copy (c4 .copy4 .ensures) (copy (c5 .copy5 .ensures) none)))))
-    ∙ cc (m .be32 .ensures, s .be16 .ensures, s .before .stage-number .ensures, n .be162 .ensures, n .before .next-of .ensures, w .to-bytes .ensures)
+    copied-over progressLengths (s .be16 .result ∷ n .be162 .result ∷ w .to-bytes .result ∷ []) (rw (s .be16 .ensures, n .be162 .ensures, lw) (simp length-bytes))
+    (s .before .before .before .pre) (copy (c1 .copy .ensures) (copy (c2 .copy2 .ensures) (copy (c3 .copy3 .ensures) none)))
+    ∙ cc (s .be16 .ensures, s .before .stage-number .ensures, n .be162 .ensures, n .before .next-of .ensures, w .to-bytes .ensures)
 
-pub put-head-spec : {M : Type 1} → statement M
-put-head-spec =
+pub put-progress-spec : {M : Type 1} → statement M
+put-progress-spec =
     tie.close
     (tie.spec
-    be32-requires
     stage-number-requires
     be16-requires
     next-of-requires
@@ -88,12 +76,11 @@ put-head-spec =
     to-bytes-requires
     slice-aggregate-copy
     copy-requires
-    copy-requires-2
+    sub-copy
     slice-aggregate-copy-2
-    copy-requires-3
+    copy-requires-2
+    sub-copy-2
     slice-aggregate-copy-3
-    copy-requires-4
-    slice-aggregate-copy-4
-    copy-requires-5
+    copy-requires-3
     same-length
     returns)

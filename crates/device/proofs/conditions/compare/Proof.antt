@@ -1,4 +1,5 @@
 use mathlib.Core.Path.{refl}
+use mathlib.Core.List.{[]}
 use native.Mathlib.Omega.{arith}
 use Rattle.sha256.specs.Sha256.{digest}
 use Rattle.wire.specs.Geometry.{countOf}
@@ -6,10 +7,10 @@ use Rattle.wire.proofs.SizeLaws.{sized}
 use Rattle.wire.proofs.MessageLaws.{Due, due}
 use Rattle.machine.specs.declared.state.Stage.the-variants.{Loading}
 use Rattle.device.specs.Fields.{deviceOf}
-use Rattle.device.proofs.ConditionLaws.{measured, rest-long, mismatch-found}
+use Rattle.device.proofs.ConditionLaws.{measured, rest-long, mismatch-found, compared-cost}
 use borrow.Author.Needs.{needs}
-use Rattle.device.proofs.conditions.mismatch.Statement.{statement}
-use Rattle.device.proofs.conditions.mismatch.Tie as tie
+use Rattle.device.proofs.conditions.compare.Statement.{statement}
+use Rattle.device.proofs.conditions.compare.Tie as tie
 
 is-due : (c : tie.Start) → Due (c .args .manifest .«block_len») (c .args .manifest .«image_len») (c .args .next) (c .args .message .now)
 is-due c = due _ _ _ _ (measured _ _ _ (c .pre .4))
@@ -42,12 +43,18 @@ fits-requires c κs =
     )
 
 returns : tie.Need-returns
-returns c model key =
+returns c =
     let s = c .before .before .before .before .before .before .before in
-    mismatch-found digest (deviceOf model key (Loading (s .args .next)) (s .args .manifest) (s .args .hashes .now)) (s .args .next) _ _ (s .args .message .now) _ _ _ refl (s .pre .2) (s .pre .3)
-    (c .before .before .before .count-of .ensures) (c .before .before .before .before .own-len .ensures) (c .before .before .block-in .ensures) (c .before .hashes-after .ensures) (c .fits2 .ensures)
+    let n = c .before .before .before .count-of .ensures in
+    let k = c .before .before .before .before .own-len .ensures in
+    let b = c .before .before .block-in .ensures in
+    let r = c .before .hashes-after .ensures in (
+      λ model key. mismatch-found digest (deviceOf model key (Loading (s .args .next)) (s .args .manifest) (s .args .hashes .now)) (s .args .next) _ _ (s .args .message .now) _ _ _ refl (s .pre .2) (s .pre .3)
+          n k b r (c .fits2 .ensures .0),
+      compared-cost digest (s .args .manifest) (s .args .next) _ [] (s .args .message .now) n _ _ _ _ (s .pre .2) k b r (c .fits2 .ensures .1),
+    )
 
-pub mismatch-spec : {M : Type 1} → statement M
-mismatch-spec =
+pub compare-spec : {M : Type 1} → statement M
+compare-spec =
     tie.close
     (tie.spec own-len-requires count-of-requires sub-fits block-in-requires hashes-after-requires fits-requires returns)
