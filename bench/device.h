@@ -1,4 +1,4 @@
-/* The device that takes the messages: the bytes that its caller keeps. */
+/* The device that takes the messages: the bytes that its caller keeps, and the compressions that its blocks have reported. */
 #ifndef DEVICE_H
 #define DEVICE_H
 #include "accepted.h"
@@ -8,10 +8,18 @@
 typedef struct {
     uint8_t state[LERTXUNO_STATE_LENGTH];
     uint8_t flash[LONGEST_IMAGE];
+    size_t reported;
 } device_memory;
 
+/* With a budget that suffices. A library without budgets takes none, and reports nothing (bench/against). */
 static inline void take(device_memory *d, const message *m) {
+#ifdef WITHOUT_BUDGETS
     accepted(lertxuno_receive(d->state, sizeof d->state, d->flash, sizeof d->flash, m->bytes, m->length));
+#else
+    uint32_t compressions;
+    accepted(lertxuno_receive(d->state, sizeof d->state, d->flash, sizeof d->flash, m->bytes, m->length, UINT32_MAX, &compressions));
+    d->reported += compressions;
+#endif
 }
 
 /* The first so many blocks. */

@@ -18,7 +18,7 @@ static uint8_t out[LERTXUNO_MAX_IHEX_LENGTH];
 static size_t written;
 static char text[IHEX_TEXT_ROOM];
 static size_t text_length, line;
-static uint32_t status[LERTXUNO_STATUS_NUMBERS];
+static uint32_t status[LERTXUNO_STATUS_NUMBERS], compressions;
 
 static void nothing(void) {}
 
@@ -29,6 +29,8 @@ static void take_program(void) { take(&device, &made.program); }
 static void read_status(void) { accepted(lertxuno_status(device.state, sizeof device.state, status)); }
 
 static void read_length(void) { accepted(lertxuno_block_message_length(device.state, sizeof device.state, &written)); }
+
+static void read_cost(void) { accepted(lertxuno_block_cost(device.state, sizeof device.state, &compressions)); }
 
 static void take_most_blocks(void) { take_blocks(&device, &made, made.n - 1); }
 
@@ -105,6 +107,7 @@ int main(void) {
     measure("device, program", take_program, PROGRAM_OR_BLOCK);
     measure("device, status", read_status, NONE);
     measure("device, block_message_length", read_length, NONE);
+    measure("device, block_cost", read_cost, NONE);
     measure("device, all blocks but the last", take_most_blocks, PROGRAM_OR_BLOCK);
     measure("device, last block", take_last_block, PROGRAM_OR_BLOCK);
     measure("device, boot check", boot_check, NONE);

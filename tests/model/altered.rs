@@ -174,15 +174,28 @@ impl<'a> Altered<'a> {
         (image.manifest(MODEL, SERIAL + 1, &image), change)
     }
 
-    fn update(&mut self, kind: u8, i: usize) -> Vec<u8> {
+    pub fn update(&mut self, kind: u8, i: usize) -> Vec<u8> {
         let (manifest, change) = self.parts(kind, i);
         self.case.signed_update(&manifest, &change)
     }
 
-    /// The device after a message; a refused one leaves state and flash as they are.
+    /// The device after a message with the least budget that suffices.
     pub fn after(&mut self, what: &str, pair: &Pair, message: &[u8], due: u32) -> Compared<Pair> {
+        self.within(what, pair, message, pair.least_budget(message), due)
+    }
+
+    /// The device after a message; a refused one leaves state and flash as they are.
+    pub fn within(
+        &mut self,
+        what: &str,
+        pair: &Pair,
+        message: &[u8],
+        budget: u32,
+        due: u32,
+    ) -> Compared<Pair> {
         let mut after = pair.clone();
-        self.case.give(what, &mut after, message, due)?;
+        self.case
+            .give_within(what, &mut after, message, budget, due)?;
         if due != ACCEPTED {
             expect_same(&format!("after {what}"), &after, pair)?;
         }

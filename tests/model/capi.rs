@@ -10,7 +10,7 @@ use crate::sender::Order;
 
 #[link(name = "capi", kind = "static")]
 unsafe extern "C" {
-    fn lertxuno_digest(message: *const u8, length: usize, out: *mut u8);
+    fn lertxuno_digest(message: *const u8, length: usize, out: *mut u8) -> usize;
     fn lertxuno_verify(
         key: *const u8,
         key_length: usize,
@@ -93,6 +93,8 @@ unsafe extern "C" {
         flash_length: usize,
         message: *const u8,
         message_length: usize,
+        budget: u32,
+        compressions: *mut u32,
     ) -> u32;
     fn lertxuno_status(state: *const u8, state_length: usize, out: *mut u32) -> u32;
     fn lertxuno_block_message_length(
@@ -100,6 +102,7 @@ unsafe extern "C" {
         state_length: usize,
         length: *mut usize,
     ) -> u32;
+    fn lertxuno_block_cost(state: *const u8, state_length: usize, compressions: *mut u32) -> u32;
     fn lertxuno_boot_check(
         state: *const u8,
         state_length: usize,
@@ -108,17 +111,18 @@ unsafe extern "C" {
     ) -> u32;
 }
 
-pub fn digest(message: &[u8]) -> Lent {
+/// The digest, and the compressions that it took.
+pub fn digest(message: &[u8]) -> (Lent, usize) {
     let (message, mut out) = (Lent::new(message), Lent::new(&[0; 32]));
     let ((m, ml), (o, ol)) = (message.parts(), out.parts_mut());
     // SAFETY (here and below): the header's terms are kept: no null pointer but for an empty array,
     // lengths as lent, written memory overlaps nothing.
-    during(
+    let compressions = during(
         "lertxuno_digest",
         &[("message", m, ml), ("output", o, ol)],
         || unsafe { lertxuno_digest(m, ml, o) },
     );
-    out
+    (out, compressions)
 }
 
 pub fn verify(key: &[u8], message: &[u8], signature: &[u8]) -> u32 {
@@ -228,7 +232,15 @@ fn lend_device(
     })
 }
 
-pub fn receive(state: &mut Lent, flash: &mut Lent, lending: &Lending) -> u32 {
+/// Compressions, and a guard on each side of them.
+pub type Compressions = [u32; 3];
+
+pub fn receive(
+    state: &mut Lent,
+    flash: &mut Lent,
+    lending: &Lending,
+    compressions: &mut Compressions,
+) -> u32 {
     let message = Lent::new(lending.message);
     let (m, ml) = message.parts();
     let name = format!("lertxuno_receive of {lending},");
@@ -244,7 +256,7 @@ pub fn receive(state: &mut Lent, flash: &mut Lent, lending: &Lending) -> u32 {
             ("message", m, ml),
         ];
         during(name, &arrays, || unsafe {
-            lertxuno_receive(s, sl, f, fl, m, ml)
+            lertxuno_receive(s, sl, f, fl, m, ml, lending.budget, &mut compressions[1])
         })
     })
 }
@@ -266,6 +278,14 @@ pub fn block_message_length(state: &[u8], length: &mut usize) -> u32 {
     let arrays = [("state", s, sl)];
     during("lertxuno_block_message_length", &arrays, || unsafe {
         lertxuno_block_message_length(s, sl, length)
+    })
+}
+
+pub fn block_cost(state: &[u8], compressions: &mut Compressions) -> u32 {
+    let state = Lent::new(state);
+    let (s, sl) = state.parts();
+    during("lertxuno_block_cost", &[("state", s, sl)], || unsafe {
+        lertxuno_block_cost(s, sl, &mut compressions[1])
     })
 }
 

@@ -1,5 +1,7 @@
 //! What the library left in memory against what the model has.
 
+use std::fmt::Debug;
+
 use crate::lent::Lent;
 
 /// The error says what differs.
@@ -18,6 +20,15 @@ pub fn same(what: &str, library: &Lent, model: &[u8]) -> Compared<()> {
         "{what} at byte {at}: library {:02x?}, model {:02x?}",
         theirs[at..].iter().take(8).collect::<Vec<_>>(),
         model[at..].iter().take(8).collect::<Vec<_>>()
+    ))
+}
+
+pub fn same_count<T: PartialEq + Debug>(library: T, model: T) -> Compared<()> {
+    if library == model {
+        return Ok(());
+    }
+    Err(format!(
+        "compressions: library {library:?}, model {model:?}"
     ))
 }
 

@@ -1,8 +1,9 @@
 //! How often each answer was given, by row (a kind of message, or a function), each sort of path
 //! update accepted, each number of hashes held, each case of the limit's edge, of the image's end,
-//! of a flash that others have touched or that is closed in part and of Intel HEX texts; and which
-//! of these must have occurred at least once.
+//! of a flash that others have touched or that is closed in part, of budgets and of Intel HEX texts;
+//! and which of these must have occurred at least once.
 
+use crate::budget::{BUDGETS, CARRIERS, columns_due};
 use crate::edge::{COUNTS, EDGES, Edge};
 use crate::ends::{ENDS, End};
 use crate::hexcases;
@@ -38,18 +39,20 @@ pub struct Coverage {
     broken: [Row; 2],
     /// By row, block length and shape.
     shapes: [[[u64; 16]; 5]; SHAPED.len()],
+    /// By row, block length and budget.
+    budgets: [[[u64; BUDGETS.len()]; 5]; CARRIERS.len()],
     /// The most blocks that a complete device had.
     largest: usize,
 }
 
 /// Those of all functions but the Intel HEX reader; the columns of the tables of answers.
-const COLUMNS: [u32; 17] = [0, 1, 2, 3, 4, 5, 6, 7, 8, 9, 10, 11, 12, 13, 14, 15, 19];
+const COLUMNS: [u32; 18] = [0, 1, 2, 3, 4, 5, 6, 7, 8, 9, 10, 11, 12, 13, 14, 15, 19, 20];
 
 /// Rows 0 to 4 are indexed by the message's kind, 0 being any other and the empty message.
-const ANSWERS: [(&str, &[u32]); 14] = [
+const ANSWERS: [(&str, &[u32]); 15] = [
     ("device, other", &[1, 2]),
     ("device, kind 1", &[0, 1, 3, 4, 5, 6, 7, 8, 9]),
-    ("device, kind 2", &[0, 1, 3, 8, 10, 11, 12, 14, 19]),
+    ("device, kind 2", &[0, 1, 3, 8, 10, 11, 12, 14, 19, 20]),
     (
         "device, kind 3",
         &[0, 1, 3, 4, 5, 6, 7, 8, 9, 10, 11, 12, 13, 14, 19],
@@ -66,6 +69,7 @@ const ANSWERS: [(&str, &[u32]); 14] = [
     ("verify", &[0, 9]),
     ("status", &[0, 1]),
     ("length due", &[0, 1, 10]),
+    ("cost due", &[0, 1, 10]),
     ("boot check", &[0, 1, 8, 10, 19]),
 ];
 
@@ -73,7 +77,8 @@ pub const SENDER: usize = 5;
 pub const VERIFY: usize = 10;
 pub const STATUS: usize = 11;
 pub const DUE: usize = 12;
-pub const BOOT_CHECK: usize = 13;
+pub const COST: usize = 13;
+pub const BOOT_CHECK: usize = 14;
 
 /// Messages that an untouched flash would take, by the one region that others have touched:
 /// refused, and accepted. Kind 1 has all of its image for its block; behind the last block is none.
@@ -110,8 +115,8 @@ const CLOSED: [(&str, &[usize]); 5] = [
 const INSTEAD: [[(&str, &[u32]); 5]; 2] = [
     [
         ("kind 1", &[0, 4, 6, 7, 8, 9]),
-        ("kind 2", &[0, 8, 10, 11, 12, 14]),
-        ("last block", &[0, 8, 10, 11, 12, 14]),
+        ("kind 2", &[0, 8, 10, 11, 12, 14, 20]),
+        ("last block", &[0, 8, 10, 11, 12, 14, 20]),
         ("kind 3", &[4, 6, 7, 8, 10, 13]),
         ("kind 4", &[0, 4, 6, 7, 8, 9, 10, 11, 12, 13]),
     ],
@@ -178,6 +183,21 @@ fn answer_rows(from: &[(&'static str, &[u32])]) -> Vec<Row> {
     from.iter().map(empty).collect()
 }
 
+/// Of an allowed block length.
+fn length_index(block_length: usize) -> Option<usize> {
+    let mut lengths = BLOCK_LENGTHS.iter();
+    lengths.position(|length| *length as usize == block_length)
+}
+
+/// Of each column the count for the block length that had it least.
+fn least<const COLUMNS: usize>(row: Row, lengths: &[[u64; COLUMNS]; 5]) -> Row {
+    let least = |column: usize| lengths.iter().map(|l| l[column]).min().unwrap();
+    Row {
+        counts: (0..COLUMNS).map(least).collect(),
+        ..row
+    }
+}
+
 fn column(answers: &[u32], answer: u32) -> usize {
     let column = answers.iter().position(|some| *some == answer);
     column.expect("an answer of such a function")
@@ -227,6 +247,7 @@ impl Coverage {
             texts: hexcases::CASES.concat().iter().map(text).collect(),
             broken: [row("one fault", 0..BROKEN.len()), row("several", [])],
             shapes: [[[0; 16]; 5]; SHAPED.len()],
+            budgets: [[[0; BUDGETS.len()]; 5]; CARRIERS.len()],
             largest: 0,
         }
     }
@@ -241,7 +262,9 @@ impl Coverage {
         let lists = lists.chain(&mut self.closed);
         let rows = arrays.chain(lists.flatten());
         let shapes = self.shapes.as_flattened_mut().as_flattened_mut();
-        rows.flat_map(|row| &mut row.counts).chain(shapes)
+        let budgets = self.budgets.as_flattened_mut().as_flattened_mut();
+        let counts = rows.flat_map(|row| &mut row.counts);
+        counts.chain(shapes).chain(budgets)
     }
 
     /// What occurred in another thread.
@@ -317,21 +340,31 @@ impl Coverage {
     }
 
     pub fn shape(&mut self, row: usize, image_length: usize, block_length: usize) {
-        let lengths = BLOCK_LENGTHS.iter().zip(&mut self.shapes[row]);
-        for (_, shapes) in lengths.filter(|(length, _)| **length as usize == block_length) {
-            shapes[shape(image_length, block_length)] += 1;
+        if let Some(length) = length_index(block_length) {
+            self.shapes[row][length][shape(image_length, block_length)] += 1;
         }
     }
 
-    /// Of each shape the count for the block length that had it least.
-    fn least(&self) -> Vec<Row> {
-        let least = |(name, lengths): (&&'static str, &[[u64; 16]; 5])| Row {
-            counts: (0..16)
-                .map(|shape| lengths.iter().map(|l| l[shape]).min().unwrap())
-                .collect(),
-            ..row(name, 0..16)
-        };
-        SHAPED.iter().zip(&self.shapes).map(least).collect()
+    /// A message came with such a budget, and got the answer that is due then.
+    pub fn budget(&mut self, row: usize, column: usize, block_length: usize) {
+        if let Some(length) = length_index(block_length) {
+            self.budgets[row][length][column] += 1;
+        }
+    }
+
+    fn least_shapes(&self) -> Vec<Row> {
+        let rows = SHAPED.iter().zip(&self.shapes);
+        rows.map(|(name, counts)| least(row(name, 0..16), counts))
+            .collect()
+    }
+
+    fn least_budgets(&self) -> Vec<Row> {
+        let rows = CARRIERS.iter().zip(&self.budgets).enumerate();
+        rows.map(|(at, (name, counts))| {
+            let due = columns_due(at).iter().copied();
+            least(row(name, due), counts)
+        })
+        .collect()
     }
 
     /// Prints all tables; the number of due cases that never came.
@@ -342,6 +375,8 @@ impl Coverage {
         let text_answers = hexcases::ANSWERS.iter().map(u32::to_string);
         let faults = BROKEN.iter().map(|fault| fault.to_string());
         let shapes = ["1", "2", "3", "n"].map(|n| LASTS.map(|last| format!("{n}:{last}")));
+        let shapes = shapes.concat().into_iter();
+        let budgets = BUDGETS.into_iter().map(str::to_string);
         let missing = table("answers", answers(), &self.answers)
             + table("paths, by depth", numbers(16), &self.paths)
             + table("hashes held", numbers(MOST_HASHES + 1), &self.held)
@@ -355,7 +390,8 @@ impl Coverage {
             + table("closed, accepted", regions(), &self.closed[1])
             + table("texts, by answer", text_answers, &self.texts)
             + table("broken lines", faults, &self.broken)
-            + table("shapes, n:last", shapes.concat().into_iter(), &self.least());
+            + table("shapes, n:last", shapes, &self.least_shapes())
+            + table("budgets", budgets, &self.least_budgets());
         println!("largest complete image: {} blocks", self.largest);
         missing
     }

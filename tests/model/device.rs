@@ -1,9 +1,9 @@
-//! Document 01 and changes 1, 2, 5 and 6, the drive (here: the device): its state, and its refusals
-//! in the order of each kind.
+//! Document 01 and changes 1, 2, 5, 6 and 7, the drive (here: the device): its state, its refusals
+//! in the order of each kind, and what its blocks cost.
 
 use crate::lms::{hashes, number, verify};
 use crate::manifest::*;
-use crate::sha256::{Hash, sha256};
+use crate::sha256::{Hash, counted, sha256};
 use crate::tree::{cover, parent, path, root, root_by_path, siblings};
 
 #[derive(Clone)]
@@ -26,10 +26,12 @@ pub struct Device {
     pub stage: Stage,
 }
 
-/// What an accepted message does: the stage after it, and the block it writes.
+/// What an accepted message does: the stage after it, the block it writes, and the compressions it
+/// reports: "an accepted one", of kind 2, "reports its total".
 pub struct Effect {
     pub stage: Stage,
     pub write: Option<(usize, Vec<u8>)>,
+    pub compressions: u32,
 }
 
 impl Device {
@@ -88,6 +90,27 @@ impl Device {
         }
     }
 
+    /// Whether a block is due, and it is the last. The state makes sense.
+    pub fn is_last_due(&self) -> bool {
+        matches!(&self.stage, Stage::Loading { manifest, next, .. } if *next == manifest.blocks())
+    }
+
+    /// The total of the block message with the next number. The digests are made, of blank bytes.
+    pub fn block_cost(&self) -> Outcome<u32> {
+        self.check_state()?;
+        let Stage::Loading { manifest, next, .. } = &self.stage else {
+            return Err(STAGE);
+        };
+        let block = vec![0; manifest.place(*next).len()];
+        let labels = vec![[0; 32]; siblings(manifest.blocks(), *next).len()];
+        let (_, comparison) = counted(|| compared(&block, &labels));
+        if *next < manifest.blocks() {
+            return Ok(comparison);
+        }
+        let (_, whole) = counted(|| tree(manifest, &vec![0; manifest.image_length as usize]));
+        Ok(comparison + whole)
+    }
+
     /// The boot check: complete, and the flash has the manifest's root. 1, 10, 8, 19.
     pub fn boot_check(&self, flash: &[u8]) -> Outcome<()> {
         self.check_state()?;
@@ -98,7 +121,7 @@ impl Device {
         check_tree(manifest, flash)
     }
 
-    pub fn receive(&self, flash: &[u8], message: &[u8]) -> Outcome<Effect> {
+    pub fn receive(&self, flash: &[u8], message: &[u8], budget: u32) -> Outcome<Effect> {
         self.check_state()?;
         let least = match message.first() {
             Some(1) => 49,
@@ -109,7 +132,7 @@ impl Device {
         refuse_if(message.len() < least, SHORT)?;
         match message[0] {
             1 => self.program(flash, message),
-            2 => self.block(flash, message),
+            2 => self.block(flash, message, budget),
             _ => self.update(flash, message),
         }
     }
@@ -137,11 +160,13 @@ impl Device {
                 held,
             },
             write: None,
+            compressions: 0,
         })
     }
 
-    /// Kind 2: 10, 8, 11, 12, 14, and for the last block 19.
-    fn block(&self, flash: &[u8], message: &[u8]) -> Outcome<Effect> {
+    /// Kind 2: 10, 8, 11, 12, 20, 14, and for the last block 19. "its comparison's, and for the last
+    /// block Change 5's whole tree besides": both are worked out before 20 is decided.
+    fn block(&self, flash: &[u8], message: &[u8], budget: u32) -> Outcome<Effect> {
         let Stage::Loading {
             manifest,
             next,
@@ -157,14 +182,18 @@ impl Device {
         let place = manifest.place(i);
         let (block, labels) = message[3..].split_at(place.len());
         let labels = hashes(labels);
-        let computed = labels
-            .iter()
-            .fold(sha256(block), |hash, l| parent(&hash, l));
+        let (computed, comparison) = counted(|| compared(block, &labels));
+        let (untouched, whole) = counted(|| match i == n {
+            true => check_tree(manifest, &with_block(manifest, flash, i, block)),
+            false => Ok(()),
+        });
+        let compressions = comparison + whole;
+        refuse_if(compressions > budget, SPENT)?;
         // The cover of blocks i to n begins with the largest subtree whose first block is i.
         refuse_if(computed != held[0], MISMATCH)?;
+        untouched?;
         let manifest = manifest.clone();
         let stage = if i == n {
-            check_tree(&manifest, &with_block(&manifest, flash, i, block))?;
             Stage::Complete { manifest }
         } else {
             Stage::Loading {
@@ -173,8 +202,11 @@ impl Device {
                 held: [&labels, &held[1..]].concat(),
             }
         };
-        let write = Some((place.start, block.to_vec()));
-        Ok(Effect { stage, write })
+        Ok(Effect {
+            stage,
+            write: Some((place.start, block.to_vec())),
+            compressions,
+        })
     }
 
     /// Kind 3: 10, 4, 5, 6, 7, 13, 8, 19, 11, 12, 9, 14. Kind 4: the same without 19, and 15 before
@@ -214,6 +246,7 @@ impl Device {
         Ok(Effect {
             stage: Stage::Complete { manifest },
             write: Some((start, block.to_vec())),
+            compressions: 0,
         })
     }
 }
@@ -221,6 +254,13 @@ impl Device {
 /// "the area must have T bytes"
 fn check_flash(manifest: &Manifest, flash: &[u8]) -> Outcome<()> {
     refuse_if(flash.len() < manifest.image_length as usize, AREA)
+}
+
+/// "The label compared for kind 2": worked out from the block and the message's labels.
+fn compared(block: &[u8], labels: &[Hash]) -> Hash {
+    labels
+        .iter()
+        .fold(sha256(block), |hash, label| parent(&hash, label))
 }
 
 /// The root of the tree over the image's part of the flash.

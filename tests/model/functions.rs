@@ -2,7 +2,7 @@
 //! signature.
 
 use crate::capi::{self, Send};
-use crate::compare::{Compared, same, same_answer};
+use crate::compare::{Compared, same, same_answer, same_count};
 use crate::coverage::{Coverage, ROOM, ROOM_BYTE_SHORT, SENDER, VERIFY};
 use crate::craft::wrong_block_length;
 use crate::damage::{damage_byte, signature_fields};
@@ -13,7 +13,7 @@ use crate::lms;
 use crate::manifest::{AREA, BLOCK_LENGTHS, MOST_BLOCKS, Outcome, SIZE, UNSIGNED};
 use crate::rng::Rng;
 use crate::sender::{Order, deliver};
-use crate::sha256::sha256;
+use crate::sha256::{counted, sha256};
 use crate::signer::Signer;
 
 /// An image's length for the block length: mostly up to 20 blocks, at times none; rarely, for it is
@@ -132,7 +132,7 @@ pub fn sent(order: &Order, what: Send) -> Outcome<Vec<u8>> {
     }
 }
 
-/// A digest, at lengths around the ends of blocks more often.
+/// A digest and its compressions, at lengths around the ends of blocks more often.
 pub fn digest_call(rng: &mut Rng) -> Compared<()> {
     let length = match rng.below(20) {
         0 => rng.below(20_000),
@@ -140,7 +140,10 @@ pub fn digest_call(rng: &mut Rng) -> Compared<()> {
         _ => rng.below(600),
     };
     let message = rng.bytes(length);
-    same("digest", &capi::digest(&message), &sha256(&message))
+    let (digest, compressions) = counted(|| sha256(&message));
+    let (library, count) = capi::digest(&message);
+    same("digest", &library, &digest)?;
+    same_count(count, compressions as usize)
 }
 
 /// A verdict: of a valid signature, or of one damaged in key, message, length or one of its parts.

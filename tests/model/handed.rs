@@ -27,18 +27,23 @@ fn stage(pair: &Pair, number: u16, next: u16, manifest: &Manifest) -> Pair {
     with_state(&pair, STATE_LENGTH - 32, &manifest.root)
 }
 
+pub fn loading(pair: &Pair, next: u16, manifest: &Manifest) -> Pair {
+    stage(pair, LOADING, next, manifest)
+}
+
 pub fn complete(pair: &Pair, manifest: &Manifest) -> Pair {
     stage(pair, COMPLETE, 0, manifest)
 }
 
-/// Status, length of the block message that is due, and boot check.
-fn expect_readers(pair: &Pair, due: [u32; 3]) -> Compared<()> {
+/// Status, length of the block message that is due, its cost, and boot check.
+fn expect_readers(pair: &Pair, due: [u32; 4]) -> Compared<()> {
     let answers = [
         readers::status(&pair.state)?,
         readers::due(&pair.state)?,
+        readers::cost(&pair.state)?,
         pair.boot_check()?,
     ];
-    expect("status, length due and boot check", answers, due)
+    expect("status, length due, cost and boot check", answers, due)
 }
 
 /// A message and its answers, by devices that make sense: an idle one, one that loads at block 1,
@@ -82,7 +87,7 @@ fn messages(case: &mut Case, manifest: &Manifest) -> Vec<Message> {
 
 /// Every reader and every message gives 1.
 fn refused(case: &mut Case, mut pair: Pair, messages: &[Message]) -> Compared<()> {
-    expect_readers(&pair, [STATE; 3])?;
+    expect_readers(&pair, [STATE; 4])?;
     for (what, message, _) in messages {
         case.give(what, &mut pair, message, STATE)?;
     }
@@ -96,10 +101,10 @@ pub fn refused_by_all(case: &mut Case, pair: Pair, manifest: &Manifest) -> Compa
 }
 
 /// What the readers give of a device at each stage.
-const READERS: [[u32; 3]; 3] = [
-    [ACCEPTED, STAGE, STAGE],
-    [ACCEPTED, ACCEPTED, STAGE],
-    [ACCEPTED, STAGE, ACCEPTED],
+const READERS: [[u32; 4]; 3] = [
+    [ACCEPTED, STAGE, STAGE, STAGE],
+    [ACCEPTED, ACCEPTED, ACCEPTED, STAGE],
+    [ACCEPTED, STAGE, STAGE, ACCEPTED],
 ];
 
 /// Each has its answer from a device at this stage.
@@ -181,8 +186,8 @@ pub fn next_numbers(rng: &mut Rng, signer: &Signer, block_length: usize) -> Comp
         };
         let due_complete = if n > 1536 { STATE } else { ACCEPTED };
         for (number, due, readers) in [
-            (LOADING, due, [ACCEPTED, ACCEPTED, STAGE]),
-            (COMPLETE, due_complete, [ACCEPTED, STAGE, AREA]),
+            (LOADING, due, [ACCEPTED, ACCEPTED, ACCEPTED, STAGE]),
+            (COMPLETE, due_complete, [ACCEPTED, STAGE, STAGE, AREA]),
         ] {
             let mut pair = stage(&fresh, number, next, &manifest);
             let result = match due {

@@ -84,9 +84,23 @@ impl<'a> Case<'a> {
         Ok(())
     }
 
+    /// With the least budget that suffices.
     pub fn give(&mut self, what: &str, pair: &mut Pair, message: &[u8], due: u32) -> Compared<()> {
-        let answer = pair.call(message, &mut self.coverage);
-        expect(what, answer.map_err(|e| format!("{what}: {e}"))?, due)
+        let budget = pair.least_budget(message);
+        self.give_within(what, pair, message, budget, due)
+    }
+
+    pub fn give_within(
+        &mut self,
+        what: &str,
+        pair: &mut Pair,
+        message: &[u8],
+        budget: u32,
+        due: u32,
+    ) -> Compared<()> {
+        let what = format!("{what}, budget {budget}");
+        let answer = pair.call(message, budget, &mut self.coverage);
+        expect(&what, answer.map_err(|e| format!("{what}: {e}"))?, due)
     }
 
     /// Kind 1 with this manifest.

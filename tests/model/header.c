@@ -18,7 +18,7 @@ static uint8_t large_flash[LERTXUNO_MAX_BLOCKS * BLOCK_LENGTH];
 static uint8_t signature[LERTXUNO_MAX_SIGNATURE_LENGTH];
 /* Ample, so that a length that the header has too short is told and not overrun. */
 static uint8_t state[4096], out[8192];
-static uint32_t status[16];
+static uint32_t status[16], compressions;
 static size_t written;
 static int wrong;
 
@@ -40,7 +40,7 @@ static void expect(const char *what, size_t got, size_t due) {
 static void words(void) {
     static const char *const due[] = {"accepted", "state", "kind", "short", "version", "size", "model", "serial",
                                       "area", "unsigned", "stage", "turn", "length", "unlike", "mismatch", "path", "text", "place", "twice",
-                                      "altered", "unknown"};
+                                      "altered", "spent", "unknown"};
     for (uint32_t answer = 0; answer < sizeof due / sizeof *due; answer++) {
         if (strcmp(lertxuno_refusal_word(answer), due[answer]) != 0) {
             printf("wrong: word of answer %u: %s\n", (unsigned)answer, lertxuno_refusal_word(answer));
@@ -63,6 +63,7 @@ static void numbers(void) {
     expect("longest block message", LERTXUNO_MAX_BLOCK_MESSAGE_LENGTH, 1379);
     expect("longest update", LERTXUNO_MAX_UPDATE_LENGTH, 4063);
     expect("longest path update", LERTXUNO_MAX_PATH_UPDATE_LENGTH, 4415);
+    expect("most compressions of a block", LERTXUNO_MAX_BLOCK_COST, 29199);
     expect("state's hashes", LERTXUNO_STATE_HASHES, 112);
     expect("state's length", LERTXUNO_STATE_LENGTH, 464);
 }
@@ -146,19 +147,35 @@ static void state_length(void) {
     expect("status of a byte more", lertxuno_status(state, LERTXUNO_STATE_LENGTH + 1, status), LERTXUNO_STATE);
 }
 
-/* A device that is loading an image of the most blocks: after block 1 the hashes of that message fill all the room that its state has for them. */
+/* The state of a device that waits for this block of an image, but for the hashes that it holds; the manifest stands in out too. */
+static void loading(size_t image_length, uint32_t block_length, uint32_t number) {
+    lertxuno_fresh(MODEL, sample_key, state);
+    manifest(image_length, block_length);
+    state[LERTXUNO_STATE_STAGE + 1] = LERTXUNO_LOADING;
+    state[LERTXUNO_STATE_NEXT] = (uint8_t)(number >> 8);
+    state[LERTXUNO_STATE_NEXT + 1] = (uint8_t)number;
+    memcpy(state + LERTXUNO_STATE_MANIFEST, out, LERTXUNO_MANIFEST_LENGTH);
+}
+
+/* The block that costs most: the last one of the longest image. */
+static void most_cost(void) {
+    loading(longest, LERTXUNO_MAX_BLOCK_LENGTH, LERTXUNO_MAX_BLOCKS);
+    expect("cost of the last block of the longest image", lertxuno_block_cost(state, LERTXUNO_STATE_LENGTH, &compressions), LERTXUNO_ACCEPTED);
+    expect("cost of the last block of the longest image", compressions, LERTXUNO_MAX_BLOCK_COST);
+}
+
+/* A device that is loading an image of the most blocks: after block 1 the hashes of that message fill all the room that its state has for them. The block
+ * takes two compressions, and two for each of these. */
 static void most_hashes(void) {
     const size_t most = sizeof large_flash, hashes = LERTXUNO_MAX_HASHES * LERTXUNO_HASH_LENGTH, carried = LERTXUNO_BLOCK_HEAD + BLOCK_LENGTH;
-    lertxuno_fresh(MODEL, sample_key, state);
     image[most - 1] = 1; /* else two of the hashes would be equal */
-    manifest(most, BLOCK_LENGTH);
-    state[LERTXUNO_STATE_STAGE + 1] = LERTXUNO_LOADING;
-    state[LERTXUNO_STATE_NEXT + 1] = 1;
-    memcpy(state + LERTXUNO_STATE_MANIFEST, out, LERTXUNO_MANIFEST_LENGTH);
+    loading(most, BLOCK_LENGTH, 1);
     memcpy(state + LERTXUNO_STATE_LENGTH - LERTXUNO_HASH_LENGTH, out + LERTXUNO_MANIFEST_LENGTH - LERTXUNO_HASH_LENGTH, LERTXUNO_HASH_LENGTH);
     lertxuno_block(image, most, BLOCK_LENGTH, 1, out, sizeof out, &written);
     expect("hashes of block 1 of the most", written, carried + hashes);
-    expect("block 1 of the most", lertxuno_receive(state, LERTXUNO_STATE_LENGTH, large_flash, most, out, written), LERTXUNO_ACCEPTED);
+    expect("block 1 of the most", lertxuno_receive(state, LERTXUNO_STATE_LENGTH, large_flash, most, out, written, UINT32_MAX, &compressions),
+           LERTXUNO_ACCEPTED);
+    expect("cost of block 1 of the most", compressions, 2 + 2 * LERTXUNO_MAX_HASHES);
     expect_true("hashes held after it", memcmp(state + LERTXUNO_STATE_HASHES, out + carried, hashes) == 0);
 }
 
@@ -188,7 +205,7 @@ static void null_readers(void) {
     const uint8_t empty[] = {0xe3, 0xb0, 0xc4, 0x42, 0x98, 0xfc, 0x1c, 0x14, 0x9a, 0xfb, 0xf4, 0xc8, 0x99, 0x6f, 0xb9, 0x24,
                              0x27, 0xae, 0x41, 0xe4, 0x64, 0x9b, 0x93, 0x4c, 0xa4, 0x95, 0x99, 0x1b, 0x78, 0x52, 0xb8, 0x55};
     size_t due, line;
-    lertxuno_digest(NULL, 0, out);
+    expect("compressions of null", lertxuno_digest(NULL, 0, out), 1);
     expect_true("digest of null", memcmp(out, empty, sizeof empty) == 0);
     expect("null key", lertxuno_verify(NULL, 0, out, 48, sample_signature, sizeof sample_signature), LERTXUNO_UNSIGNED);
     expect("null message", lertxuno_verify(sample_key, sizeof sample_key, NULL, 0, sample_signature, sizeof sample_signature), LERTXUNO_UNSIGNED);
@@ -198,6 +215,7 @@ static void null_readers(void) {
     expect("text into null", lertxuno_ihex((const uint8_t *)"", 0, 0, 1, NULL, 0, &line), LERTXUNO_AREA);
     expect("status of null", lertxuno_status(NULL, 0, status), LERTXUNO_STATE);
     expect("length due by null", lertxuno_block_message_length(NULL, 0, &due), LERTXUNO_STATE);
+    expect("cost due by null", lertxuno_block_cost(NULL, 0, &compressions), LERTXUNO_STATE);
 }
 
 typedef uint32_t sender_update(const uint8_t *, size_t, uint32_t, uint32_t, uint32_t, uint32_t, const uint8_t *, size_t, uint8_t *, size_t, size_t *);
@@ -224,23 +242,33 @@ static void null_sender(void) {
 
 /* The same for the device, with the message that the sender has just written: no byte of a flash is too few, and no byte is no message. */
 static void null_device(void) {
-    expect("null flash", lertxuno_receive(state, LERTXUNO_STATE_LENGTH, NULL, 0, out, written), LERTXUNO_AREA);
-    expect("null message", lertxuno_receive(state, LERTXUNO_STATE_LENGTH, flash, sizeof flash, NULL, 0), LERTXUNO_KIND);
-    expect("null state", lertxuno_receive(NULL, 0, flash, sizeof flash, out, written), LERTXUNO_STATE);
+    expect("null flash", lertxuno_receive(state, LERTXUNO_STATE_LENGTH, NULL, 0, out, written, UINT32_MAX, &compressions), LERTXUNO_AREA);
+    expect("null message", lertxuno_receive(state, LERTXUNO_STATE_LENGTH, flash, sizeof flash, NULL, 0, UINT32_MAX, &compressions), LERTXUNO_KIND);
+    expect("null state", lertxuno_receive(NULL, 0, flash, sizeof flash, out, written, UINT32_MAX, &compressions), LERTXUNO_STATE);
     expect("boot check, null state", lertxuno_boot_check(NULL, 0, flash, sizeof flash), LERTXUNO_STATE);
 }
 
-static uint32_t receive(size_t flash_length) { return lertxuno_receive(state, LERTXUNO_STATE_LENGTH, flash, flash_length, out, written); }
+static uint32_t receive_within(uint32_t budget, size_t flash_length) {
+    return lertxuno_receive(state, LERTXUNO_STATE_LENGTH, flash, flash_length, out, written, budget, &compressions);
+}
+
+static uint32_t receive(size_t flash_length) { return receive_within(UINT32_MAX, flash_length); }
 
 static uint32_t boot_check(size_t flash_length) {
     return lertxuno_boot_check(state, LERTXUNO_STATE_LENGTH, flash, flash_length);
 }
 
-/* The message that the sender has just written: refused for a flash of a byte less than the image or of none, then taken. */
-static void taken(const char *what, size_t flash_length) {
+/* The message that the sender has just written: refused for a flash of a byte less than the image or of none, and a block for a budget of one less; then
+ * taken. It reports its cost, 0 where it is no block. */
+static void taken(const char *what, uint32_t cost, size_t flash_length) {
+    compressions = UINT32_MAX;
     null_device();
     expect(what, receive(IMAGE_LENGTH - 1), LERTXUNO_AREA);
-    expect(what, receive(flash_length), LERTXUNO_ACCEPTED);
+    if (cost != 0)
+        expect(what, receive_within(cost - 1, flash_length), LERTXUNO_SPENT);
+    expect("compressions of what is refused", compressions, UINT32_MAX);
+    expect(what, receive_within(cost, flash_length), LERTXUNO_ACCEPTED);
+    expect("compressions", compressions, cost);
 }
 
 static void expect_flash(void) {
@@ -268,16 +296,21 @@ static void booted(size_t flash_length) {
     flash[0] ^= 1;
 }
 
+/* A whole block takes two compressions, and so does each hash; the last one, which is shorter, takes one, and one more in the tree. */
+static const uint32_t costs[BLOCKS] = {2 + 3 * 2, 2, 2 + 2, 2, 1 + 4 * 2 + 1 + 4 * 2};
+
 static void block(uint32_t number, size_t flash_length) {
     size_t due = 0;
     lertxuno_block(image, IMAGE_LENGTH, BLOCK_LENGTH, number, out, sizeof out, &written);
     expect_true("block's place in its message", out[LERTXUNO_BLOCK_HEAD] == image[(number - 1) * BLOCK_LENGTH]);
     expect("length due", lertxuno_block_message_length(state, LERTXUNO_STATE_LENGTH, &due), LERTXUNO_ACCEPTED);
     expect("length due", due, written);
+    expect("cost due", lertxuno_block_cost(state, LERTXUNO_STATE_LENGTH, &compressions), LERTXUNO_ACCEPTED);
+    expect("cost due", compressions, costs[number - 1]);
     expect("boot check while loading", boot_check(flash_length), LERTXUNO_STAGE);
     if (number == BLOCKS)
         altered("last block over an altered flash", flash_length);
-    taken("block", flash_length);
+    taken("block", costs[number - 1], flash_length);
 }
 
 /* The sample's program, from a fresh device to a complete one. */
@@ -287,7 +320,8 @@ static void download(size_t flash_length) {
     memset(flash, BEHIND, sizeof flash);
     lertxuno_fresh(MODEL, sample_key, state);
     lertxuno_program(image, IMAGE_LENGTH, BLOCK_LENGTH, MODEL, SERIAL, sample_signature, sizeof sample_signature, out, sizeof out, &written);
-    taken("new program", flash_length);
+    expect("cost due while idle", lertxuno_block_cost(state, LERTXUNO_STATE_LENGTH, &compressions), LERTXUNO_STAGE);
+    taken("new program", 0, flash_length);
     fields(LERTXUNO_LOADING, 1, SERIAL);
     /* The only hash held is the root, the manifest's last field. */
     expect_true("held root", memcmp(state + LERTXUNO_STATE_LENGTH - LERTXUNO_HASH_LENGTH, state + LERTXUNO_STATE_HASHES - LERTXUNO_HASH_LENGTH,
@@ -313,7 +347,7 @@ static void update(sender_update *sender, size_t hashes, size_t flash_length) {
     written = least + sizeof sample_update_signature;
     if (sender == lertxuno_update)
         altered("update of an altered flash", flash_length);
-    taken("update", flash_length);
+    taken("update", 0, flash_length);
     fields(LERTXUNO_COMPLETE, 0, SERIAL + 1);
     expect_flash();
     booted(flash_length);
@@ -327,6 +361,7 @@ int main(void) {
     one_byte();
     intel_hex();
     state_length();
+    most_cost();
     most_hashes();
     null_readers();
     null_sender();

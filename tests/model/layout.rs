@@ -73,21 +73,17 @@ pub fn boot_check(state: &[u8], flash: &[u8]) -> u32 {
     verdict.err().unwrap_or(0)
 }
 
-/// One message to the device: 0, with state and flash those after it, or the refusal, with both as
-/// before.
-pub fn receive(state: &mut [u8], flash: &mut [u8], message: &[u8]) -> u32 {
-    match read(state).and_then(|device| device.receive(flash, message)) {
-        Ok(effect) => {
-            // "a new program zeroes it"
-            if message[0] == 1 {
-                state[HASHES_AT..].fill(0);
-            }
-            write(state, &effect.stage);
-            if let Some((start, block)) = effect.write {
-                flash[start..start + block.len()].copy_from_slice(&block);
-            }
-            0
-        }
-        Err(refusal) => refusal,
+/// One message to the device: the compressions that it reports, with state and flash those after
+/// it, or the refusal, with both as before.
+pub fn receive(state: &mut [u8], flash: &mut [u8], message: &[u8], budget: u32) -> Outcome<u32> {
+    let effect = read(state)?.receive(flash, message, budget)?;
+    // "a new program zeroes it"
+    if message[0] == 1 {
+        state[HASHES_AT..].fill(0);
     }
+    write(state, &effect.stage);
+    if let Some((start, block)) = effect.write {
+        flash[start..start + block.len()].copy_from_slice(&block);
+    }
+    Ok(effect.compressions)
 }

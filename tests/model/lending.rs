@@ -11,21 +11,23 @@ use crate::ends::subject;
 use crate::lent::{Access, Lent};
 use crate::regions::{regions, row};
 
-/// A message, the answer that the model gives, and the part of the flash that may be touched.
+/// A message and its budget, the answer that the model gives, and the part of the flash that may be
+/// touched.
 pub struct Lending<'a> {
     pub message: &'a [u8],
+    pub budget: u32,
     pub answer: u32,
     pub reach: Range<usize>,
 }
 
 impl fmt::Display for Lending<'_> {
     fn fmt(&self, f: &mut fmt::Formatter) -> fmt::Result {
-        let (bytes, answer) = (self.message.len(), self.answer);
+        let (bytes, budget, answer) = (self.message.len(), self.budget, self.answer);
         write!(f, "a message of {bytes} bytes")?;
         if let Some(kind) = self.message.first() {
             write!(f, " and kind {kind}")?;
         }
-        write!(f, ", due answer {answer}")
+        write!(f, ", budget {budget}, due answer {answer}")
     }
 }
 

@@ -1,4 +1,4 @@
-//! Random lists of messages to the library's device and to the model's.
+//! Random lists of messages and budgets to the library's device and to the model's.
 
 use std::collections::HashMap;
 
@@ -91,16 +91,18 @@ impl<'a> List<'a> {
         let (rng, plan) = (&mut self.author.rng, &self.author.plan);
         if !rng.percent(plan.aside) {
             let tight = rng.percent(plan.tight);
+            let budget = plan.budget(rng, &self.pair, message);
             return match subject(&self.pair.device(), message) {
                 Some((manifest, _)) if tight => {
                     let length = manifest.image_length as usize - rng.one_in(4) as usize;
-                    self.pair.call_within(length, message, coverage)
+                    self.pair.call_within(length, message, budget, coverage)
                 }
-                _ => self.pair.call(message, coverage),
+                _ => self.pair.call(message, budget, coverage),
             };
         }
         let mut other = self.pair.changed(rng);
-        let answer = other.call(message, coverage)?;
+        let budget = plan.budget(rng, &other, message);
+        let answer = other.call(message, budget, coverage)?;
         // A device that went on from odd bytes is worth following, if it has its model, key and
         // whole flash.
         if answer == 0

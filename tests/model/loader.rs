@@ -16,7 +16,9 @@ struct Run {
 
 impl Run {
     fn hand_over(&mut self, word: &str, due: usize, message: &[u8]) -> bool {
-        let answer = receive(&mut self.state, &mut self.flash, message);
+        // "The loader's budgets always suffice."
+        let outcome = receive(&mut self.state, &mut self.flash, message, u32::MAX);
+        let answer = outcome.err().unwrap_or(0);
         self.text += &format!("{word} {due} {answer}\n");
         answer == 0
     }

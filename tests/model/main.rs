@@ -1,15 +1,18 @@
 //! The C library and the loader against a model written from the papers alone: the image's end, the
-//! limit of its blocks, stored states of an older form, flashes that others have touched and Intel
-//! HEX by hand, and random lists of messages, between which others touch the flash, what is read
-//! off each state, the boot check, sender calls, digests, verdicts, Intel HEX texts and bundles.
+//! limit of its blocks, stored states of an older form, what blocks cost, flashes that others have
+//! touched and Intel HEX by hand, and random lists of messages and budgets, between which others
+//! touch the flash, what is read off each state, the boot check, sender calls, digests, verdicts,
+//! Intel HEX texts and bundles.
 //!
 //! `model [CALLS [SEED]]`: CALLS messages to devices (200,000 if not given), and of the other calls
 //! a share of it.
 
 mod altered;
+mod budget;
 mod bundles;
 mod capi;
 mod compare;
+mod costs;
 mod coverage;
 mod craft;
 mod damage;
@@ -217,6 +220,23 @@ impl Test<'_> {
         }
     }
 
+    fn costs_by_hand(&mut self) {
+        let signer = &self.signers[0][0];
+        let mut rng = Rng::new(self.seed, u64::MAX - 7);
+        for (index, case) in [costs::numbers, costs::most_blocks].iter().enumerate() {
+            self.at("costs", 0, index);
+            let result = case(&mut rng, signer);
+            self.record(result);
+        }
+        for (index, image) in costs::images(&mut rng).into_iter().enumerate() {
+            let named = named(&image);
+            self.at("budgets by hand", 0, index);
+            let case = Case::new(Rng::new(self.seed, rng.next()), signer, image);
+            let result = Altered::new(case).and_then(|mut altered| altered.budgets());
+            self.record(result.map_err(named));
+        }
+    }
+
     fn texts(&mut self, calls: u64) {
         let mut rng = Rng::new(self.seed, u64::MAX - 4);
         self.counted("Intel HEX by hand", |record| hexhand::run(&mut rng, record));
@@ -349,6 +369,8 @@ fn main() {
     test.by_hand();
     println!("the limit");
     test.limit_by_hand();
+    println!("what blocks cost");
+    test.costs_by_hand();
     println!("flashes that others have touched");
     test.touched_by_hand();
     test.lists(calls);

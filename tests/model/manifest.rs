@@ -30,6 +30,7 @@ pub const TEXT: u32 = 16;
 pub const PLACE: u32 = 17;
 pub const TWICE: u32 = 18;
 pub const ALTERED: u32 = 19;
+pub const SPENT: u32 = 20;
 
 /// The first refusal that applies.
 pub type Outcome<T> = Result<T, u32>;

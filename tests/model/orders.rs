@@ -1,5 +1,5 @@
-//! Where 19 stands among the refusals, by hand: messages that are wrong in one way, over a flash
-//! that others have touched.
+//! Where 19 and 20 stand among the refusals, by hand: messages that are wrong in one way, over a
+//! flash that others have touched, and blocks with a budget that does not suffice.
 
 use crate::altered::{Altered, SERIAL, flipped};
 use crate::compare::Compared;
@@ -48,7 +48,12 @@ impl Altered<'_> {
                     .map_err(|what| format!("kind {kind} of block {i}, {fault:?}: {what}"))?;
             }
         }
-        self.order_of_last_block()
+        self.order_of_last_block()?;
+        for i in 1..=self.n() {
+            self.order_of_spent_block(i)
+                .map_err(|what| format!("block {i}: {what}"))?;
+        }
+        Ok(())
     }
 
     fn faulty_update(&mut self, kind: u8, i: usize, fault: Fault) -> Vec<u8> {
@@ -126,6 +131,39 @@ impl Altered<'_> {
         self.after("wrong last block", &touched, &block, 14)?;
         self.after("last block, short flash", &short, &message, 8)?;
         self.after("last block once more", &complete, &message, 10)?;
+        Ok(())
+    }
+
+    /// A block over its budget, wrong in other ways besides: 20 comes after 12 and before 14 and
+    /// 19.
+    fn order_of_spent_block(&mut self, i: usize) -> Compared<()> {
+        let (pair, message) = (self.stages[i].clone(), self.messages[i].clone());
+        let touched = flipped(&pair, 0);
+        let short = pair.cut(self.case.image.bytes.len() - 1);
+        let ends = message.len();
+        let [mut number, mut block, mut hash] = [(); 3].map(|()| message.clone());
+        number[2] += 1;
+        block[3] ^= 1;
+        hash[ends - 1] ^= 1;
+        let longer = [&message[..], &[0]].concat();
+        for budget in [0, pair.least_budget(&message) - 1] {
+            for (what, pair, message, due) in [
+                ("spent", &pair, &message[..], 20),
+                ("spent, cut within its head", &pair, &message[..2], 3),
+                ("spent, idle", &self.stages[0].clone(), &message, 10),
+                ("spent, complete", &self.complete(), &message, 10),
+                ("spent, short flash", &short, &message, 8),
+                ("spent, wrong number", &pair, &number, 11),
+                ("spent, a byte less", &pair, &message[..ends - 1], 12),
+                ("spent, a byte more", &pair, &longer, 12),
+                ("spent, wrong block", &pair, &block, 20),
+                ("spent, wrong hash", &pair, &hash, 20),
+                ("spent, touched", &touched, &message, 20),
+                ("spent, wrong and touched", &touched, &block, 20),
+            ] {
+                self.within(what, pair, message, budget, due)?;
+            }
+        }
         Ok(())
     }
 }

@@ -1,8 +1,10 @@
-//! A device of the library and one of the model, which get the same messages. After every call
-//! answer, state and flash are compared, what both read off the state, and the boot check.
+//! A device of the library and one of the model, which get the same messages and budgets. After
+//! every call answer, compressions, state and flash are compared, what both read off the state, and
+//! the boot check.
 
+use crate::budget;
 use crate::capi;
-use crate::compare::{Compared, same, same_answer};
+use crate::compare::{Compared, same, same_answer, same_count};
 use crate::coverage::{BOOT_CHECK, Coverage};
 use crate::damage::damage_state;
 use crate::device::Device;
@@ -11,8 +13,8 @@ use crate::ends::{Call, subject};
 use crate::layout::{self, MANIFEST_AT, STATE_LENGTH};
 use crate::lending::{Lending, boot_reach, reach};
 use crate::lent::Lent;
-use crate::manifest::STATE;
-use crate::readers;
+use crate::manifest::{Outcome, STATE};
+use crate::readers::{self, BEFORE};
 use crate::regions::Meeting;
 use crate::rng::Rng;
 
@@ -49,17 +51,19 @@ impl Pair {
         })
     }
 
-    pub fn call(&mut self, message: &[u8], coverage: &mut Coverage) -> Compared<u32> {
+    pub fn call(&mut self, message: &[u8], budget: u32, coverage: &mut Coverage) -> Compared<u32> {
         let before = layout::read(&self.state).ok();
+        let (flash, untouched) = (&self.flash, &self.untouched);
         let meeting = before
             .as_ref()
-            .and_then(|device| Meeting::new(device, &self.flash, &self.untouched, message));
-        let answer = layout::receive(&mut self.state, &mut self.flash, message);
-        self.receive(before.as_ref(), message, answer, coverage)?;
+            .and_then(|device| Meeting::new(device, flash, untouched, message, budget));
+        let outcome = layout::receive(&mut self.state, &mut self.flash, message, budget);
+        let answer = self.receive(before.as_ref(), message, budget, outcome, coverage)?;
         coverage.count(BOOT_CHECK, self.boot_check()?);
         readers::compare(&self.state, coverage)?;
         if let Some(device) = &before {
             edge::count(device, message, answer, coverage);
+            budget::count(device, message, budget, answer, coverage);
         }
         if let (Some(device), true) = (&before, answer != STATE) {
             let call = Call {
@@ -80,25 +84,47 @@ impl Pair {
     }
 
     /// The library's device gets the message, and is lent no more than it may touch where this
-    /// answer is due.
+    /// outcome is due. A block that it takes costs what it said before.
     fn receive(
         &mut self,
         before: Option<&Device>,
         message: &[u8],
-        answer: u32,
+        budget: u32,
+        outcome: Outcome<u32>,
         coverage: &mut Coverage,
-    ) -> Compared<()> {
+    ) -> Compared<u32> {
         let length = self.flash.len();
         let lending = Lending {
             message,
-            answer,
+            budget,
+            answer: outcome.err().unwrap_or(0),
             reach: before.map_or(0..length, |device| reach(device, message, length)),
         };
-        let library = capi::receive(&mut self.library_state, &mut self.library_flash, &lending);
+        let (mut said, mut reported) = ([BEFORE; 3], [BEFORE; 3]);
+        capi::block_cost(self.library_state.bytes(), &mut said);
+        let library = capi::receive(
+            &mut self.library_state,
+            &mut self.library_flash,
+            &lending,
+            &mut reported,
+        );
         if let Some(device) = before {
             lending.count(device, &self.library_flash, coverage);
         }
-        same_answer(library, answer)
+        let answer = readers::compare_compressions(library, reported, outcome)?;
+        if (message.first(), answer) == (Some(&2), 0) {
+            same_count(said, reported).map_err(|what| format!("said before the block: {what}"))?;
+        }
+        Ok(answer)
+    }
+
+    /// The least budget that suffices for a message: what the block costs that is due. Other kinds
+    /// need none.
+    pub fn least_budget(&self, message: &[u8]) -> u32 {
+        match message.first() {
+            Some(2) => budget::due(layout::read(&self.state).ok().as_ref()),
+            _ => 0,
+        }
     }
 
     /// The block of an accepted message goes to the untouched flash as well.
@@ -149,12 +175,13 @@ impl Pair {
         &mut self,
         length: usize,
         message: &[u8],
+        budget: u32,
         coverage: &mut Coverage,
     ) -> Compared<u32> {
         let mut lent = self.flash.clone();
         let rest = lent.split_off(length.min(lent.len()));
         self.put_flash(lent);
-        let answer = self.call(message, coverage);
+        let answer = self.call(message, budget, coverage);
         self.put_flash([&self.flash[..], &rest].concat());
         answer
     }

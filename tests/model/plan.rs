@@ -1,7 +1,9 @@
 //! How a random list is made up: the flash, the images, and how often things go wrong.
 
+use crate::budget;
 use crate::lengths::{blocks, image_length};
 use crate::manifest::{BLOCK_LENGTHS, MOST_BLOCKS};
+use crate::pair::Pair;
 use crate::rng::Rng;
 
 pub struct Plan {
@@ -22,6 +24,9 @@ pub struct Plan {
     pub updates: usize,
     /// Percent of calls that are lent the image's part of the flash alone, or a byte less.
     pub tight: usize,
+    /// Percent of calls whose budget does not suffice for the block that is due, and for the last
+    /// one, which is due more rarely.
+    pub spent: [usize; 2],
     /// Percent of calls before which somebody else writes to the flash.
     pub touched: usize,
     /// Percent of calls before which the flash gets back what the device had left there: over a
@@ -52,6 +57,7 @@ impl Plan {
             restarts: 2,
             updates: 80,
             tight: rng.pick(&[0, 50]),
+            spent: rng.pick(&[[0, 0], [5, 15], [20, 60]]),
             touched: rng.pick(&[0, 0, 10, 30]),
             put_back: 25,
             aside: rng.pick(&[0, 20, 50]),
@@ -78,10 +84,19 @@ impl Plan {
             restarts: 0,
             updates: 90,
             tight: 0,
+            spent: [1, 30],
             touched: rng.pick(&[0, 1]),
             put_back: 10,
             aside: 1,
             followed: 0,
         }
+    }
+
+    /// A budget for a message to this device.
+    pub fn budget(&self, rng: &mut Rng, pair: &Pair, message: &[u8]) -> u32 {
+        let cost = pair.least_budget(message);
+        // A block that costs something is due, so the state makes sense.
+        let last = cost > 0 && pair.device().is_last_due();
+        budget::draw(rng, self.spent[last as usize], cost)
     }
 }

@@ -1,22 +1,24 @@
-//! What the library reads off a state against the model: the status, and the length of the block
-//! message that is due.
+//! What the library reads off a state against the model: the status, and length and cost of the
+//! block message that is due.
 
-use crate::capi;
-use crate::compare::{Compared, same_answer};
-use crate::coverage::{Coverage, DUE, STATUS};
+use crate::capi::{self, Compressions};
+use crate::compare::{Compared, same_answer, same_count};
+use crate::coverage::{COST, Coverage, DUE, STATUS};
 use crate::device::Device;
 use crate::layout;
 use crate::manifest::Outcome;
 
 /// What stands in the memory that is lent, before a call and where it writes nothing.
-const BEFORE: u32 = 0xa5a5_a5a5;
+pub const BEFORE: u32 = 0xa5a5_a5a5;
 
-/// Both readers, on one state.
+/// All readers, on one state.
 pub fn compare(state: &[u8], coverage: &mut Coverage) -> Compared<()> {
     let answer = status(state).map_err(|what| format!("status: {what}"))?;
     coverage.count(STATUS, answer);
     let answer = due(state).map_err(|what| format!("length due: {what}"))?;
     coverage.count(DUE, answer);
+    let answer = cost(state).map_err(|what| format!("cost: {what}"))?;
+    coverage.count(COST, answer);
     Ok(())
 }
 
@@ -56,5 +58,28 @@ pub fn due(state: &[u8]) -> Compared<u32> {
     if library_length != length {
         return Err(format!("library {library_length}, model {length}"));
     }
+    Ok(answer)
+}
+
+pub fn cost(state: &[u8]) -> Compared<u32> {
+    let mut library_compressions = [BEFORE; 3];
+    let answer = capi::block_cost(state, &mut library_compressions);
+    compare_compressions(
+        answer,
+        library_compressions,
+        model(state, Device::block_cost),
+    )
+}
+
+/// An answer, and the compressions where there is no refusal; else what stood there stays.
+pub fn compare_compressions(
+    library: u32,
+    library_compressions: Compressions,
+    model: Outcome<u32>,
+) -> Compared<u32> {
+    let answer = model.err().unwrap_or(0);
+    same_answer(library, answer)?;
+    let compressions = [BEFORE, model.unwrap_or(BEFORE), BEFORE];
+    same_count(library_compressions, compressions)?;
     Ok(answer)
 }

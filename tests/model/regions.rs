@@ -37,7 +37,13 @@ pub struct Meeting {
 
 impl Meeting {
     /// None for a flash that is as the device left it.
-    pub fn new(device: &Device, flash: &[u8], untouched: &[u8], message: &[u8]) -> Option<Meeting> {
+    pub fn new(
+        device: &Device,
+        flash: &[u8],
+        untouched: &[u8],
+        message: &[u8],
+        budget: u32,
+    ) -> Option<Meeting> {
         let untouched = &untouched[..flash.len()];
         if flash == untouched {
             return None;
@@ -50,7 +56,7 @@ impl Meeting {
         let (first, second) = (touched.next(), touched.next());
         let length = device.manifest().map_or(0, |m| m.image_length as usize);
         let length = length.min(flash.len());
-        let without = device.receive(untouched, message);
+        let without = device.receive(untouched, message, budget);
         Some(Meeting {
             row: row(device, message)?,
             region: if second.is_none() { first } else { None },

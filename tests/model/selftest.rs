@@ -1,14 +1,16 @@
 //! The model against values known from outside, before it judges anything: FIPS 180-4's examples,
-//! two signatures of RFC 8554's appendix F, a well-known Intel HEX text, and the counts and lengths
-//! that documents 01 and 02 work out by hand. And paths and the last block, against the tree.
+//! two signatures of RFC 8554's appendix F, a well-known Intel HEX text, and the counts, lengths and
+//! costs that documents 01 and 02 work out by hand or give a formula for. And paths and the last
+//! block, against the tree.
 
+use crate::device::{Device, Stage};
 use crate::ihex::Reading;
 use crate::layout::MOST_HASHES;
 use crate::lms::verify;
-use crate::manifest::{MOST_BLOCKS, check_size};
+use crate::manifest::{MOST_BLOCKS, Manifest, check_size};
 use crate::rfc8554::CASES;
 use crate::sender::block_message;
-use crate::sha256::sha256;
+use crate::sha256::{counted, sha256};
 use crate::tree::{block, cover, parent, path, root, root_by_path, siblings};
 
 pub fn unhex(text: &str) -> Vec<u8> {
@@ -90,6 +92,45 @@ fn lengths() -> bool {
         && check_size(393_217, 256).is_err()
 }
 
+/// "its length plus 9, over 64, rounded up"
+fn compressions() -> bool {
+    (0..300).all(|length: usize| {
+        let (_, count) = counted(|| sha256(&vec![0; length]));
+        count as usize == (length + 9).div_ceil(64)
+    })
+}
+
+/// "With L = 256 and n = 8, message 1 costs 11": 5 for the block, and 2 for each of three labels.
+/// Message 2 has none. The last one takes 5, and for the tree 8 × 5 + 7 × 2. One byte takes a
+/// compression twice.
+fn costs() -> bool {
+    let cost = |block_length, image_length, next| {
+        let device = Device {
+            model: 0,
+            key: Vec::new(),
+            stage: Stage::Loading {
+                manifest: Manifest {
+                    version: 1,
+                    block_length,
+                    model: 0,
+                    serial: 1,
+                    image_length,
+                    root: [0; 32],
+                },
+                next,
+                held: Vec::new(),
+            },
+        };
+        device.block_cost()
+    };
+    cost(256, 2048, 1) == Ok(11)
+        && cost(256, 2048, 2) == Ok(5)
+        && cost(256, 2048, 8) == Ok(59)
+        && [64, 128, 256, 512, 1024]
+            .iter()
+            .all(|length| cost(*length, 1, 1) == Ok(2))
+}
+
 /// It has the bytes that are left, and its label is over those.
 fn last_block() -> bool {
     let image = [7; 129];
@@ -135,13 +176,15 @@ fn hex_text() -> bool {
     reading.fault.is_none() && named == Some(unhex(image))
 }
 
-pub fn run() -> [(&'static str, bool); 8] {
+pub fn run() -> [(&'static str, bool); 10] {
     [
         ("digests", digests()),
         ("signatures", signatures()),
         ("counts", counts()),
         ("most hashes held", most_held()),
         ("lengths", lengths()),
+        ("compressions", compressions()),
+        ("costs", costs()),
         ("last block", last_block()),
         ("paths", paths()),
         ("Intel HEX", hex_text()),

@@ -1,7 +1,21 @@
 //! SHA-256 (FIPS 180-4, sections 4 to 6). The constants are worked out from the primes, as the
-//! standard defines them, and not copied.
+//! standard defines them, and not copied. Compressions are counted as they are made, for change 7.
+
+use std::cell::Cell;
 
 pub type Hash = [u8; 32];
+
+thread_local! {
+    /// Those of this thread so far.
+    static COMPRESSIONS: Cell<u32> = const { Cell::new(0) };
+}
+
+/// A result, and how many compressions it took.
+pub fn counted<T>(work: impl FnOnce() -> T) -> (T, u32) {
+    let before = COMPRESSIONS.get();
+    let result = work();
+    (result, COMPRESSIONS.get().wrapping_sub(before))
+}
 
 /// The first 32 fractional bits of the `degree`-th root of each of the first N primes.
 const fn prime_roots<const N: usize>(degree: u32) -> [u32; N] {
@@ -39,6 +53,7 @@ static START: [u32; 8] = prime_roots(2);
 
 /// Section 6.2.2: one block of 64 bytes.
 fn compress(hash: &mut [u32; 8], block: &[u8]) {
+    COMPRESSIONS.set(COMPRESSIONS.get().wrapping_add(1));
     let mut w = [0u32; 64];
     for (word, bytes) in w.iter_mut().zip(block.chunks(4)) {
         *word = u32::from_be_bytes([bytes[0], bytes[1], bytes[2], bytes[3]]);
