@@ -1,4 +1,6 @@
 // What bench/digest.c measures, for C to call.
+#![tactic(auto)]
+
 ghost use Rattle.std.specs.Prelude.{◌≡◌, ◌≤◌, ◌<◌, length};
 ghost use Rattle.sha256.specs.Sha256.{digest};
 

@@ -1,4 +1,6 @@
 // Bundles on slices (01, 'Bundle and loader'): everything that the program `loader` decides and prints, and the bundle that the program `pack` writes.
+#![tactic(auto)]
+
 mod packing;
 mod parts;
 mod run;

@@ -1,4 +1,6 @@
 // The device (01: drive): a fresh one, what it answers to a message, and the boot check.
+#![tactic(auto)]
+
 mod accept;
 mod boot;
 mod conditions;

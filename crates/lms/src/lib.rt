@@ -1,4 +1,6 @@
 // RFC 8554: the verdict on one LMS signature, with no HSS layer. Outsiders call verify alone; what the other functions require, this crate keeps.
+#![tactic(auto)]
+
 mod hash;
 mod ots;
 mod parameters;

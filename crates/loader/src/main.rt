@@ -1,4 +1,6 @@
 // The loader: reads key.bin and bundle.bin, and writes what `bundle::load` makes of them. A missing file counts as an empty one.
+#![tactic(auto)]
+
 ghost use Rattle.io.specs.Counts.{IsPrefixLen};
 
 use libc::STDOUT_FILENO;

@@ -1,4 +1,6 @@
 // The Merkle tree over the blocks of an image or of the flash. Only our own crates call this one, and meet its `requires`.
+#![tactic(auto)]
+
 mod cost;
 mod counting;
 mod frontier;

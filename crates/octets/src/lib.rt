@@ -1,4 +1,6 @@
 // Bytes in slices: copying, comparing, and big-endian numbers. Only our own crates call this one.
+#![tactic(auto)]
+
 mod number;
 
 ghost use Rattle.std.specs.Prelude.{◌≡◌, ◌+◌, ◌≤◌, length};

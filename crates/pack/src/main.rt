@@ -1,6 +1,8 @@
 // The showroom's tool. In a folder with image.bin, `pack BLOCK MODEL SERIAL` writes slip.bin, the manifest for signing, and, where signature.bin is there
 // too, bundle.bin: both or neither, unless the last renaming alone fails. `pack BLOCK MODEL SERIAL BASE LENGTH` does so with the image in image.hex, LENGTH
 // bytes from address BASE on. What was written is told on standard output, what went wrong on standard error.
+#![tactic(auto)]
+
 mod files;
 mod hex;
 mod make;

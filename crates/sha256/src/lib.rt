@@ -1,5 +1,7 @@
 // SHA-256 (FIPS 180-4) of a message in one call, in pieces through a `Context`, or of one padded block. The files are the standard's sections: functions
 // (4.1.2), padding (5.1.1), and of 6.2.2 schedule (step 1), rounds (steps 2 and 3) and compress (all four).
+#![tactic(auto)]
+
 mod compress;
 mod context;
 mod functions;

@@ -1,4 +1,6 @@
 // Outside test data, run through the proved functions. What is printed is compared with the file `stdout`.
+#![tactic(auto)]
+
 mod digests;
 mod messages;
 mod signatures;

@@ -1,5 +1,7 @@
 // The planner's program: reads the block length and the number of compressions of a wake-up from standard input, a line each, and prints the largest number of
 // blocks whose messages before the last all fit.
+#![tactic(auto)]
+
 mod answer;
 mod fitting;
 

@@ -1,5 +1,7 @@
 // What goes over the radio (01, 'Slip, messages, state'): the manifest and the messages, with the place and length of each part, which sizes are allowed, and the
 // refusals with their numbers. Only our own crates call this one, and meet its `requires`.
+#![tactic(auto)]
+
 mod blocks;
 mod kind;
 mod manifest;

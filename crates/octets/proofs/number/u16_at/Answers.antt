@@ -1,0 +1,9 @@
+use native.Mathlib.Omega.{arith}
+use Rattle.octets.proofs.NumberLaws.{number-two}
+use borrow.Author.Rules.{rules}
+use Rattle.octets.proofs.number.u16_at.Goals as goal
+
+pub returns : goal.returns
+returns c =
+    let a = c.args in
+    cc (number-two a.s.now a.at (omega arith))

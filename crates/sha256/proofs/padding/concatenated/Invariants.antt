@@ -1,0 +1,13 @@
+use Rattle.std.proofs.Common.{◌≡◌, ◌-◌, ◌*◌, ◌≤◌, length, get_or, take, refl, ap, ◌∙◌, arith, rules}
+use lib.Seq.{length-paste}
+use Rattle.octets.specs.Octets.{joined}
+use Rattle.octets.proofs.NumberLaws.{length-bytes}
+use Rattle.sha256.specs.Sha256.{concatenated}
+use Rattle.sha256.proofs.DigestLaws.{concatenated-more, concatenated-all}
+use Rattle.sha256.proofs.padding.concatenated.Given as goal
+
+abbrev pub invariant-loop-i : goal.invariant-loop-i
+invariant-loop-i l = (l.i ≤ 8) × (length l.out ≡ 32) × (take (4 * l.i) l.out ≡ concatenated (take l.i l.H))
+
+abbrev pub decreases-loop-i : goal.decreases-loop-i
+decreases-loop-i l = 8 - l.i
