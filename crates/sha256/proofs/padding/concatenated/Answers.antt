@@ -13,7 +13,7 @@ loop-i-init c = (search rules, refl, refl)
 pub loop-i-preserved : goal.loop-i-preserved
 loop-i-preserved c =
     let l = c.loop-i in
-    let h = c.args.t1 in
+    let h = c.args.H in
     let b = c.be32-b in
     let n : length b.result ≡ 4 = ap length b.ensures ∙ length-bytes 4 (get_or h l.i 0) in
     let e = c.copy.ensures in (
@@ -23,4 +23,4 @@ loop-i-preserved c =
     )
 
 pub returns : goal.returns
-returns c = let l = c.loop-i in concatenated-all _ _ l.i l.invariant.2 c.?well-formed.0.1.0.1 l.invariant.1 c.loop-i-test.false
+returns c = let l = c.loop-i in concatenated-all _ _ l.i l.invariant.2 (search rules) l.invariant.1 c.loop-i-test.false

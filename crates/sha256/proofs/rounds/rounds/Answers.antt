@@ -16,7 +16,7 @@ loop-j-preserved c =
     let l = c.loop-j in
     let i = c.loop-i.i in
     let t = 8 * i + l.j in
-    let W = c.args.t2 in (
+    let W = c.args.W in (
       search rules,
       λ s x.
           rw (sym (add_assoc (8 * i) l.j 1))
