@@ -3,7 +3,6 @@ use native.Mathlib.Omega.{arith}
 use lib.ListN.{replicate}
 use Rattle.octets.specs.Octets.{part}
 use Rattle.octets.proofs.CopyLaws.{length_part, paste-whole, part-between}
-use borrow.Author.Rules.{rules}
 use Rattle.octets.proofs.bytes32_at.Goals as goal
 
 pub returns : goal.returns

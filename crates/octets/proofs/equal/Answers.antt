@@ -1,9 +1,6 @@
-use mathlib.Core.Path.{◌≡◌, refl, sym, ◌∙◌}
-use Prim.Native.Nat.{◌-◌, ◌≤◌}
+use mathlib.Core.Path.{refl, sym, ◌∙◌}
 use native.Mathlib.Omega.{arith}
 use native.Mathlib.Numerals.{add-one}
-use lib.ListN.{length, drop}
-use Rattle.octets.specs.Octets.{equal}
 use Rattle.octets.proofs.EqualLaws.{equal-lengths, equal-same, equal-differ, equal-past}
 use Rattle.octets.proofs.equal.Goals as goal
 

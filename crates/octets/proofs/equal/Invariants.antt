@@ -1,10 +1,7 @@
-use mathlib.Core.Path.{◌≡◌, refl, sym, ◌∙◌}
+use mathlib.Core.Path.{◌≡◌}
 use Prim.Native.Nat.{◌-◌, ◌≤◌}
-use native.Mathlib.Omega.{arith}
-use native.Mathlib.Numerals.{add-one}
 use lib.ListN.{length, drop}
 use Rattle.octets.specs.Octets.{equal}
-use Rattle.octets.proofs.EqualLaws.{equal-lengths, equal-same, equal-differ, equal-past}
 use Rattle.octets.proofs.equal.Given as goal
 
 abbrev pub invariant-loop-i : goal.invariant-loop-i

@@ -1,4 +1,4 @@
-use Rattle.std.proofs.Common.{ap, ◌∙◌, rules}
+use Rattle.std.proofs.Common.{ap, ◌∙◌}
 use Rattle.sha256.specs.Sha256.{H0, concatenated}
 use Rattle.sha256.proofs.digest_padded.Goals as goal
 

@@ -1,8 +1,5 @@
-use Prim.Native.Nat.{◌-◌}
 use native.Mathlib.Omega.{arith}
-use lib.ListN.{length}
-use borrow.Author.Rules.{rules}
-use Rattle.decimal.proofs.ReadingLaws.{Reading, parsed-empty, reading-start, parsed-all, below-digits, above-digits, too_large, reading-next}
+use Rattle.decimal.proofs.ReadingLaws.{parsed-empty, reading-start, parsed-all, below-digits, above-digits, too_large, reading-next}
 use Rattle.decimal.proofs.reading.parse.Goals as goal
 
 pub returns-then-text-eq0 : goal.returns-then-text-eq0

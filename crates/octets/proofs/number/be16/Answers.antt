@@ -1,5 +1,4 @@
 use Rattle.octets.specs.Octets.{bytes}
-use borrow.Author.Rules.{rules}
 use Rattle.octets.proofs.number.be16.Goals as goal
 
 pub returns : goal.returns

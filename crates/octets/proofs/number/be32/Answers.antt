@@ -1,6 +1,5 @@
 use native.Mathlib.Nat.{div-div-eq-div-mul}
 use Rattle.octets.specs.Octets.{bytes}
-use borrow.Author.Rules.{rules}
 use Rattle.octets.proofs.number.be32.Goals as goal
 
 pub returns : goal.returns

@@ -1,6 +1,5 @@
 use native.Mathlib.Omega.{arith}
 use Rattle.octets.proofs.NumberLaws.{number-two}
-use borrow.Author.Rules.{rules}
 use Rattle.octets.proofs.number.u16_at.Goals as goal
 
 pub returns : goal.returns

@@ -1,5 +1,4 @@
 use Rattle.sha256.proofs.RoundLaws.{summed}
-use Rattle.std.proofs.Common.{rules}
 use Rattle.sha256.proofs.compress.compress.Goals as goal
 
 pub returns : goal.returns

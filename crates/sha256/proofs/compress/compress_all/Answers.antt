@@ -1,4 +1,4 @@
-use Rattle.std.proofs.Common.{◌≡◌, ◌-◌, ◌/◌, ◌%◌, ◌≤◌, length, refl, arith, rules}
+use Rattle.std.proofs.Common.{◌≡◌, ◌/◌, length, refl, arith, rules}
 use Rattle.sha256.specs.Sha256.{hash_value}
 use Rattle.sha256.proofs.HashLaws.{hash-more}
 use Rattle.sha256.proofs.compress.compress_all.Goals as goal

@@ -1,6 +1,5 @@
-use Rattle.std.proofs.Common.{◌≡◌, ◌-◌, ◌/◌, ◌%◌, ◌≤◌, length, refl, arith, rules}
+use Rattle.std.proofs.Common.{◌≡◌, ◌-◌, ◌/◌, ◌%◌, ◌≤◌, length}
 use Rattle.sha256.specs.Sha256.{hash_value}
-use Rattle.sha256.proofs.HashLaws.{hash-more}
 use Rattle.sha256.proofs.compress.compress_all.Given as goal
 
 abbrev pub invariant-loop-from : goal.invariant-loop-from

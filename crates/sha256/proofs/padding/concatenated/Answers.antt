@@ -1,4 +1,4 @@
-use Rattle.std.proofs.Common.{◌≡◌, ◌-◌, ◌*◌, ◌≤◌, length, get_or, take, refl, ap, ◌∙◌, arith, rules}
+use Rattle.std.proofs.Common.{◌≡◌, ◌*◌, length, get_or, refl, ap, ◌∙◌, arith, rules}
 use lib.Seq.{length-paste}
 use Rattle.octets.specs.Octets.{joined}
 use Rattle.octets.proofs.NumberLaws.{length-bytes}

@@ -1,9 +1,5 @@
-use Rattle.std.proofs.Common.{◌≡◌, ◌-◌, ◌*◌, ◌≤◌, length, get_or, take, refl, ap, ◌∙◌, arith, rules}
-use lib.Seq.{length-paste}
-use Rattle.octets.specs.Octets.{joined}
-use Rattle.octets.proofs.NumberLaws.{length-bytes}
+use Rattle.std.proofs.Common.{◌≡◌, ◌-◌, ◌*◌, ◌≤◌, length, take}
 use Rattle.sha256.specs.Sha256.{concatenated}
-use Rattle.sha256.proofs.DigestLaws.{concatenated-more, concatenated-all}
 use Rattle.sha256.proofs.padding.concatenated.Given as goal
 
 abbrev pub invariant-loop-i : goal.invariant-loop-i

@@ -1,4 +1,4 @@
-use Rattle.std.proofs.Common.{arith, rules}
+use Rattle.std.proofs.Common.{arith}
 use Rattle.sha256.proofs.PaddingLaws.{length-padding, written}
 use Rattle.sha256.proofs.padding.padding.Goals as goal
 

@@ -1,6 +1,6 @@
-use Rattle.std.proofs.Common.{◌≡◌, ◌+◌, ◌-◌, ◌*◌, ◌≤◌, get_or, sym, refl, add-zero, add_assoc, arith, rules}
-use Rattle.sha256.specs.Sha256.{K, Variables, rounds, initialize}
-use Rattle.sha256.proofs.RoundLaws.{vars, round-made, round-more}
+use Rattle.std.proofs.Common.{◌≡◌, ◌+◌, ◌*◌, get_or, sym, refl, add-zero, add_assoc, arith, rules}
+use Rattle.sha256.specs.Sha256.{K, rounds, initialize}
+use Rattle.sha256.proofs.RoundLaws.{round-made, round-more}
 use Rattle.sha256.proofs.rounds.rounds.Goals as goal
 
 pub loop-i-init : goal.loop-i-init

@@ -1,6 +1,6 @@
-use Rattle.std.proofs.Common.{◌≡◌, ◌+◌, ◌-◌, ◌*◌, ◌≤◌, get_or, sym, refl, add-zero, add_assoc, arith, rules}
-use Rattle.sha256.specs.Sha256.{K, Variables, rounds, initialize}
-use Rattle.sha256.proofs.RoundLaws.{vars, round-made, round-more}
+use Rattle.std.proofs.Common.{◌≡◌, ◌+◌, ◌-◌, ◌*◌, ◌≤◌}
+use Rattle.sha256.specs.Sha256.{Variables, rounds}
+use Rattle.sha256.proofs.RoundLaws.{vars}
 use Rattle.sha256.proofs.rounds.rounds.Given as goal
 
 abbrev pub invariant-loop-j : goal.invariant-loop-j

@@ -1,7 +1,5 @@
-use Rattle.std.proofs.Common.{◌≡◌, ℕ, ◌+◌, ◌-◌, ◌*◌, ◌≤◌, List, length, get_or, take, sym, add-zero, add_assoc, arith, length-set, rules}
-use Rattle.sha256.specs.Sha256.{words, σ0, σ1}
-use Rattle.sha256.proofs.ScheduleLaws.{word-of-words, schedule-all}
-use Rattle.sha256.proofs.WordLaws.{sum-four}
+use Rattle.std.proofs.Common.{◌≡◌, ℕ, ◌+◌, ◌-◌, ◌*◌, ◌≤◌, List, length, take}
+use Rattle.sha256.specs.Sha256.{words}
 use Rattle.sha256.proofs.schedule.extended.Given as goal
 
 abbrev pub invariant-loop-j : goal.invariant-loop-j

@@ -1,4 +1,4 @@
-use Rattle.std.proofs.Common.{◌≡◌, ◌-◌, ◌≤◌, length, take, refl, arith, length-set, rules}
+use Rattle.std.proofs.Common.{◌≡◌, refl, arith, length-set, rules}
 use Rattle.sha256.specs.Sha256.{words, M}
 use Rattle.sha256.proofs.ScheduleLaws.{word-of-block}
 use Rattle.sha256.proofs.schedule.schedule.Goals as goal

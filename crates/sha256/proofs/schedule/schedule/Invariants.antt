@@ -1,6 +1,5 @@
-use Rattle.std.proofs.Common.{◌≡◌, ◌-◌, ◌≤◌, length, take, refl, arith, length-set, rules}
-use Rattle.sha256.specs.Sha256.{words, M}
-use Rattle.sha256.proofs.ScheduleLaws.{word-of-block}
+use Rattle.std.proofs.Common.{◌≡◌, ◌-◌, ◌≤◌, length, take}
+use Rattle.sha256.specs.Sha256.{words}
 use Rattle.sha256.proofs.schedule.schedule.Given as goal
 
 abbrev pub invariant-loop-t : goal.invariant-loop-t

@@ -1,4 +1,4 @@
-use Rattle.std.proofs.Common.{◌+◌, ◌/◌, sym, ap, ◌∙◌, arith, length-take, rules}
+use Rattle.std.proofs.Common.{◌+◌, ◌/◌, sym, ap, ◌∙◌, arith, length-take}
 use Rattle.sha256.proofs.HashLaws.{finished}
 use Rattle.sha256.proofs.PaddingLaws.{length-padding, padding-mod, compressions-is}
 use Rattle.sha256.proofs.context.Context.finish.Goals as goal

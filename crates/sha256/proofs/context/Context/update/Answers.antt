@@ -1,4 +1,4 @@
-use Rattle.std.proofs.Common.{◌≡◌, ℕ, ◌+◌, ◌-◌, ◌%◌, ◌^◌, ◌≤◌, List, [], ◌++◌, length, take, sym, refl, ap, ◌∙◌, arith, length-take-le, rules}
+use Rattle.std.proofs.Common.{◌≡◌, ℕ, ◌+◌, ◌-◌, ◌%◌, ◌^◌, ◌≤◌, List, [], ◌++◌, length, take, refl, ap, ◌∙◌, arith, length-take-le, rules}
 use Rattle.sha256.specs.Sha256.{compress}
 use Rattle.sha256.specs.Context.{Pending, Absorbed}
 use Rattle.sha256.specs.declared.context.Context.{Context}
