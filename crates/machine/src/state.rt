@@ -2,7 +2,7 @@
 use wire::{Manifest, Refusal};
 
 // 01: the stage.
-#[derive(Drop)]
+#[derive(Clone, Copy)]
 pub enum Stage {
     Idle,
     // The number of the next block, from 1.
@@ -23,7 +23,7 @@ pub struct Device {
 }
 
 // The answer to a message.
-#[derive(Drop)]
+#[derive(Clone, Copy)]
 pub enum Answer {
     Accepted,
     Refused(Refusal),

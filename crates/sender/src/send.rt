@@ -12,7 +12,7 @@ use wire::{
     too_short, wrong_size,
 };
 
-#[derive(Drop)]
+#[derive(Clone, Copy)]
 pub enum Sent {
     // How many bytes were written.
     Written(usize),

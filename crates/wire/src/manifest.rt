@@ -7,7 +7,7 @@ ghost use Rattle.wire.specs.Manifest.{manifest_length, written};
 pub const MANIFEST_LEN: usize = 48;
 
 // 01: the slip.
-#[derive(Drop)]
+#[derive(Clone, Copy)]
 pub struct Manifest {
     pub version: u16,
     // 01: L, the bytes of a block.

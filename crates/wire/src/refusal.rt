@@ -2,7 +2,7 @@
 ghost use Rattle.std.specs.Prelude.{◌≡◌};
 ghost use Rattle.wire.specs.Refusal as spec;
 
-#[derive(Drop)]
+#[derive(Clone, Copy)]
 pub enum Refusal {
     State,
     Kind,
