@@ -105,9 +105,9 @@ module _ (H : List ℕ → List ℕ) (hash-long : (x : List ℕ) → length (H x
       }
 
 module _ (H : List ℕ → List ℕ) (valid : (key message signature : List ℕ) → Bool) {D F C : Type 0} (part : Part D F C) (any : D → F → C → OutcomeOf D F) where
-  shortened : (d : D) (flash : F) (job : Job) (before : Trace C) (c : C) {j : ℕ} {cs fewer : Trace C} → Honest H valid part any d flash job before c j cs
+  shortened : (d : D) (flash : F) (job : Job) (before : Trace C) (c : C) {fewer cs : Trace C} {j : ℕ} → Honest H valid part any d flash job before c j cs
       → Beginning fewer cs → Beginning fewer before ⊎ ((i : ℕ) × (i ≤ j) × Honest H valid part any d flash job before c i fewer)
-  shortened d flash job before c {j} h all = inr (j, omega arith, h)
+  shortened d flash job before c {j = j} h all = inr (j, omega arith, h)
   shortened d flash job before c begin (shorter b) = inl b
   shortened d flash job before c (next lt n e enough h) (shorter b) = ⊎_elim (λ e. inl e) (λ e. inr (e.0, omega arith, e.2)) (shortened d flash job before c h b)
   shortened d flash job before c (other n h) (shorter b) = shortened d flash job before c h b

@@ -16,7 +16,7 @@ use Rattle.sha256.proofs.DigestLaws.{length-digest}
 use Rattle.sha256.proofs.PaddingLaws.{compressions-is}
 use Rattle.lms.specs.Notation.{u8str, u16str, u32str, coef, D_PBLC, D_MESG, D_LEAF, D_INTR}
 use Rattle.lms.specs.Ots.{Row, steps, checked, chain, z, zs, Kc}
-use Rattle.lms.specs.Tree.{leaf_hash, parent, climb}
+use Rattle.lms.specs.Tree.{leaf_hash, climb}
 use Rattle.lms.specs.Lms.{key_length, signature_length, ots_bytes}
 use Rattle.lms.specs.Cost.{identifier, leaf_number, ots_signature, path_of, message_input, step_input, key_input, leaf_input, parent_input, chain_steps, chain_inputs, zs_inputs, z_inputs, climb_inputs, message_digest, inputs_at, cost_of}
 use Rattle.lms.proofs.ChainLaws.{start-length}

@@ -9,8 +9,9 @@ use Rattle.octets.specs.Octets.{part}
 use Rattle.lms.specs.Notation.{coef, H, u16str, u32str, D_INTR}
 use Rattle.lms.specs.Ots.{Row, checked, chain, z, Kc}
 use Rattle.lms.specs.Tree.{leaf_hash, parent, climb, Tc}
-use Rattle.lms.specs.Cost.{identifier, leaf_number, ots_signature, path_of, randomizer, chain_hashes, message_input, step_input, key_input, leaf_input, parent_input, chain_inputs, z_inputs, zs_inputs, climb_inputs, message_digest, inputs_at}
-use Rattle.lms.specs.Claims.{OneMore, Listed}
+use Rattle.lms.specs.Lms.{valid_at}
+use Rattle.lms.specs.Cost.{identifier, leaf_number, ots_signature, path_of, randomizer, chain_hashes, well_formed, message_input, step_input, key_input, leaf_input, parent_input, chain_inputs, z_inputs, zs_inputs, climb_inputs, message_digest, inputs_at}
+use Rattle.lms.specs.Claims.{TestsFirst, OneMore, Listed}
 
 start : (I : List ℕ) (q i a : ℕ) (y : List ℕ) → chain_inputs I q i a y 0 ≡ []
 unfolding chain_inputs
@@ -93,3 +94,8 @@ top t h key message signature =
 
 pub listed : Listed
 listed = record { start = start; step = step; end = end; none = none; leaf = first; turn = turn; top = top }
+
+-- the tests are the same, word for word
+pub tests-first : TestsFirst
+unfolding valid_at well_formed
+tests-first t h key message signature = refl

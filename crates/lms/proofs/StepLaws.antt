@@ -1,6 +1,6 @@
 -- How many steps the chains of a signature take: whatever the digit width, a hash value of zero bytes takes the most.
 use mathlib.Core.Path.{◌≡◌, refl, sym, ap, ap₂, ◌∙◌}
-use mathlib.Core.List.{List, [], ◌++◌}
+use mathlib.Core.List.{List, ◌++◌}
 use mathlib.Core.Option.{some-injective}
 use Prim.Native.Nat.{ℕ, zero, suc, ◌+◌, ◌-◌, ◌*◌, ◌/◌, ◌%◌, ◌^◌, ◌≤◌, ◌<◌}
 use native.Mathlib.Nat.{add-zero, add_assoc, add-mul, mul_assoc, mul_comm, mul-suc, suc-mul, mul-sub, zero-mul, mul-zero, pow-zero, mul-le-mul_right, mul-add-mod_self_right, mod-eq_of_lt, mod-eq-sub-mod, div-eq_of_eq-mul_left, div-add-mod', mod-lt, div-one, zero-div, le-div_iff_mul-le, div-mul-le_self}

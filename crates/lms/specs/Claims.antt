@@ -1,12 +1,12 @@
 -- What is shown of the definitions (in proofs/).
-use Rattle.std.specs.Prelude.{◌≡◌, true, List, [], ◌∷◌, ◌++◌, ℕ, suc, ◌+◌, ◌-◌, ◌*◌, ◌/◌, ◌^◌, ◌≤◌, ◌<◌, length, replicate}
+use Rattle.std.specs.Prelude.{◌≡◌, true, ◌&&◌, List, [], ◌∷◌, ◌++◌, ℕ, suc, ◌+◌, ◌-◌, ◌*◌, ◌/◌, ◌^◌, ◌≤◌, ◌<◌, length, replicate}
 use Rattle.std.proofs.Math.Option.{some}
-use Rattle.octets.specs.Octets.{part}
+use Rattle.octets.specs.Octets.{part, equal}
 use Rattle.sha256.specs.Sha256.{compressions_for}
 use Rattle.lms.specs.Notation.{strTou32, coef, H}
 use Rattle.lms.specs.Ots.{Row, table1, checked, chain, z, Kc}
 use Rattle.lms.specs.Tree.{table2, climb, Tc}
-use Rattle.lms.specs.Lms.{key_length}
+use Rattle.lms.specs.Lms.{key_length, valid_at}
 use Rattle.lms.specs.Types.{Sound}
 use Rattle.lms.specs.Cost.{identifier, leaf_number, ots_signature, path_of, well_formed, chain_steps, chain_inputs, z_inputs, zs_inputs, climb_inputs, message_digest, inputs_at, verdict_inputs, cost_of}
 
@@ -21,6 +21,13 @@ Turns = (h q : ℕ) → q < 2 ^ h → (i : ℕ) → i ≤ h → (let node = (2 ^
 -- Every row of table 1 has what the functions for a general digit width ask.
 abbrev pub Rows : Type 0
 Rows = (type : ℕ) (t : Row) → table1 type ≡ some t → Sound t
+
+-- A verdict is these tests, then the top hash.
+abbrev pub TestsFirst : Type 0
+TestsFirst = (t : Row) (h : ℕ) (key message signature : List ℕ) → (let I = identifier key in
+    let q = leaf_number signature in
+    let K = Kc t I q message (ots_signature t signature) in
+    valid_at t h key message signature ≡ (well_formed t h key signature && equal (Tc h I q K (path_of t h signature)) (part 24 32 key)))
 
 -- 02, change 8. Hash inputs with one more behind those before, of which the value is the hash.
 pub record OneMore (before inputs : List (List ℕ)) (value : List ℕ) : Type 0 where

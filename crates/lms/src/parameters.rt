@@ -6,20 +6,20 @@ ghost use Rattle.lms.specs.Types.{row_of, height_of};
 ghost use Rattle.lms.specs.Lengths.{possible_length};
 
 // A row of RFC 8554's table 1: the digit width w, the number p of chains, the checksum's shift ls.
-#[derive(Drop)]
+#[derive(Clone, Copy)]
 pub struct Chains {
     pub w: usize,
     pub p: usize,
     pub ls: usize,
 }
 
-#[derive(Drop)]
+#[derive(Clone, Copy)]
 pub enum OtsType {
     Known(Chains),
     Unsigned,
 }
 
-#[derive(Drop)]
+#[derive(Clone, Copy)]
 pub enum TreeType {
     Height(usize),
     Unsigned,

@@ -78,7 +78,7 @@ unfolding cost
 cost-same H {f} {o} {g} {u} leaf e = ap (λ x. compressions (leaf_input H x)) (ap f (sym (add-zero o)) ∙ e.block 0 (size-pos leaf) ∙ ap g (add-zero u))
 cost-same H {f} {o} {g} {u} (node l r) e =
     let a = cost-same H l (same_left e) in
-    let b = cost-same H r (same-right e) in
+    let b = cost-same H {f = f} {o = o + size l} {g = g} {u = u + size l} r (same-right e) in
     let t = ap₂ (λ x y. compressions (node_input H x y)) (hash-same H l (same_left e)) (hash-same H r (same-right e)) in
     omega arith
 

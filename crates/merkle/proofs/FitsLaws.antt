@@ -4,7 +4,7 @@ use mathlib.Core.List.{head-eq_of_cons-eq, tail-eq_of_cons-eq}
 use Rattle.octets.proofs.EqualLaws.{equal-self, equal-true}
 use Rattle.octets.specs.Octets.{joined}
 use Rattle.merkle.specs.Limits.{hash_length, max_blocks, held_bytes}
-use Rattle.merkle.specs.Shape.{Place, shape, size}
+use Rattle.merkle.specs.Shape.{Place, shape}
 use Rattle.merkle.specs.Hash.{Hashing, hashes, climb}
 use Rattle.merkle.specs.Frontier.{siblings, frontier, carried_count}
 use Rattle.merkle.specs.Held.{hashes_in, held_in, next_held, advanced, fits, sent}

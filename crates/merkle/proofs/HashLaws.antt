@@ -56,7 +56,8 @@ module _ (H : Hashing) where
   pub hash-same : {f : ℕ → List ℕ} {o : ℕ} {g : ℕ → List ℕ} {u : ℕ} (s : Shape) → Same f o g u s → hash H f o s ≡ hash H g u s
   unfolding hash
   hash-same {f} {o} {g} {u} leaf e = ap (λ x. leaf_hash H x) (ap f (sym (add-zero o)) ∙ e.block 0 (size-pos leaf) ∙ ap g (add-zero u))
-  hash-same (node l r) e = ap₂ (λ x y. node_hash H x y) (hash-same l (same_left e)) (hash-same r (same-right e))
+  hash-same {f} {o} {g} {u} (node l r) e =
+      ap₂ (λ x y. node_hash H x y) (hash-same l (same_left e)) (hash-same {f = f} {o = o + size l} {g = g} {u = u + size l} r (same-right e))
 
   right_siblings-same : {f : ℕ → List ℕ} {o : ℕ} {g : ℕ → List ℕ} {u : ℕ} (s : Shape) → Same f o g u s
       → hashes H f (right_siblings o s) ≡ hashes H g (right_siblings u s)

@@ -3,7 +3,7 @@ use Rattle.std.proofs.Common.{◌≡◌, ℕ, ◌+◌, ◌-◌, ◌*◌, ◌<◌
 use lib.Seq.{paste}
 use Rattle.octets.specs.Octets.{joined}
 use Rattle.merkle.specs.Limits.{hash_length}
-use Rattle.merkle.specs.Shape.{leaf, split, shape, Place}
+use Rattle.merkle.specs.Shape.{split, shape, Place}
 use Rattle.merkle.specs.Hash.{Hashing, hash, hashes, root_over}
 use Rattle.merkle.specs.Path.{path_siblings, leaf_depth, sent_path, path_hash}
 use Rattle.merkle.specs.Held.{hashes_in}
