@@ -49,9 +49,21 @@ def declared_with_dash():
     return names
 
 
-def rust_pieces(text):
-    """The pieces of a source file that are antt: ghost imports, clauses and comments."""
-    return re.compile(r"ghost use [^;]*;|^\s*(?:requires|ensures)\b.*$|//.*$", re.M)
+def antt_of(text, turned):
+    """A source file with its pieces of antt turned: ghost imports, clauses up to their closing brace, and comments."""
+    out, at = [], 0
+    for m in re.finditer(r"ghost use [^;]*;|^\s*(?:requires|ensures)\b[^{\n]*\{|//.*$", text, re.M):
+        if m.start() < at:
+            continue
+        end = m.end()
+        if m.group(0).endswith("{") and not m.group(0).lstrip().startswith("//"):
+            deep = 1
+            while deep:
+                deep += (text[end] == "{") - (text[end] == "}")
+                end += 1
+        out += [text[at:m.start()], turned(text[m.start():end])]
+        at = end
+    return "".join(out) + text[at:]
 
 
 def turn(text, dashed, said):
@@ -73,7 +85,7 @@ def main():
         before = set(TOKEN.findall(text))
         here = {}
         if path.endswith(".rt"):
-            new = rust_pieces(text).sub(lambda m: turn(m.group(0), dashed, here), text)
+            new = antt_of(text, lambda piece: turn(piece, dashed, here))
         else:
             new = turn(text, dashed, here)
         for old, to in here.items():

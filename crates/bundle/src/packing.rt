@@ -34,9 +34,9 @@ fn unsigned_len(block: usize, image: usize) -> usize
 // The n block messages, from the start of `out`, and the index behind them. Only `pack` calls this, and nothing is left to refuse.
 fn put_blocks(image: &[u8], len: u32, n: u32, out: &mut [u8]) -> usize
     requires { (wrong_size len (length image.now) ≡ false) × (n ≡ count (in_blocks image.now len))
-        × (length (blockMessages digest (inBlocks image.now len) n) ≤ length out.old) }
+        × (length (block_messages digest (in_blocks image.now len) n) ≤ length out.old) }
     ensures { (result ≡ length (block_messages digest (in_blocks image.now len) n))
-        × (out.new ≡ at_start (blockMessages digest (inBlocks image.now len) n) out.old) }
+        × (out.new ≡ at_start (block_messages digest (in_blocks image.now len) n) out.old) }
 {
     let mut at: usize = 0;
     let mut number: u32 = 0;

@@ -24,7 +24,7 @@ pub struct Printed {
 fn blocks(start: Device, flash: &mut [u8], bytes: &[u8], out: &mut [u8], from: usize) -> Printed
     requires { (wrong_size start.manifest.block_len start.manifest.image_len ≡ false) × (from + 15 * max_blocks ≤ length out.old) }
     ensures { Ran (spec.blocks start flash.old bytes.now) out.old from out.new result.at result.device flash.new
-        × (result.at ≤ from + 15 * maxBlocks) }
+        × (result.at ≤ from + 15 * max_blocks) }
 {
     let manifest = start.manifest;
     let block_len = manifest.block_len as usize;
@@ -60,7 +60,7 @@ pub fn messages(
 ) -> Printed
     requires { (fresh.stage ≡ Idle) × (from + 14 + 15 * max_blocks ≤ length out.old) }
     ensures { Ran (spec.messages fresh flash.old bundle.now) out.old from out.new result.at result.device flash.new
-        × (result.at ≤ from + 14 + 15 * maxBlocks) }
+        × (result.at ≤ from + 14 + 15 * max_blocks) }
 {
     let place = start_of(bundle);
     let Start::At(start) = place else {

@@ -200,7 +200,7 @@ pub fn spent(manifest: Manifest, next: u16, budget: u32) -> bool
 pub fn compare(manifest: Manifest, hashes: &[u8], next: u16, message: &[u8]) -> Comparison
     requires { (wrong_size manifest.block_len manifest.image_len ≡ false) × (length hashes.now ≡ held_bytes) × (0 < next) × (next ≤ count_of manifest) × (wrong_length manifest next message.now ≡ false) }
     ensures { ((model : ℕ) (key : List ℕ) → not result.same ≡ spec.mismatch digest (device_of model key (Loading next) manifest hashes.now) next message.now)
-        × (result.compressions ≡ comparisonCost digest manifest next message.now) }
+        × (result.compressions ≡ comparison_cost digest manifest next message.now) }
 {
     let len = wire::own_len(manifest, next);
     merkle::fits(
@@ -233,7 +233,7 @@ pub fn lacks_root(manifest: Manifest, flash: &[u8]) -> bool
 pub fn compare_with(manifest: Manifest, flash: &[u8], number: u16, block: &[u8]) -> Comparison
     requires { (wrong_size manifest.block_len manifest.image_len ≡ false) × (too_small manifest flash.now ≡ false) × (size.outside (count_of manifest) number ≡ false) × (length block.now ≡ block_length manifest.block_len manifest.image_len number) }
     ensures { (not result.same ≡ spec.lacks_root digest manifest (with_block manifest.block_len flash.now number block.now))
-        × (result.compressions ≡ treeCost digest manifest (withBlock manifest.block_len flash.now number block.now)) }
+        × (result.compressions ≡ tree_cost digest manifest (with_block manifest.block_len flash.now number block.now)) }
 {
     let root = manifest.root;
     let end = manifest.image_len as usize;
@@ -256,7 +256,7 @@ pub fn compare_with(manifest: Manifest, flash: &[u8], number: u16, block: &[u8])
 pub fn compare_last(manifest: Manifest, next: u16, flash: &[u8], message: &[u8]) -> Comparison
     requires { (wrong_size manifest.block_len manifest.image_len ≡ false) × (too_small manifest flash.now ≡ false) × (0 < next) × (next ≤ count_of manifest) × (wrong_length manifest next message.now ≡ false) }
     ensures { (not result.same ≡ spec.last_altered digest manifest next flash.now message.now)
-        × (result.compressions ≡ lastCost digest manifest next flash.now message.now) }
+        × (result.compressions ≡ last_cost digest manifest next flash.now message.now) }
 {
     if next as usize != wire::count_of(manifest) {
         return Comparison {

@@ -197,7 +197,7 @@ fn judge_block(
 ) -> Judgement
     requires { Sensible stage current × (length hashes.now ≡ held_bytes) × (least_length kinds.Block ≤ length message.now) }
     ensures { ((model : ℕ) (key : List ℕ) → result.answer ≡ answer_of (first_that_applies (of_block digest budget (device_of model key stage current hashes.now) flash.now message.now (next_of stage))))
-        × (result.answer ≡ Accepted → result.compressions ≡ blockCost digest current (nextOf stage) flash.now message.now) }
+        × (result.answer ≡ Accepted → result.compressions ≡ block_cost digest current (next_of stage) flash.now message.now) }
 {
     let first = judge_unhashed(stage, current, flash, message, budget);
     let Answer::Accepted = first else {

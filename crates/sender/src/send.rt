@@ -66,7 +66,7 @@ enum Numbered {
 // Refusals 5 and 11.
 fn count_for(block_len: usize, image_len: usize, number: usize) -> Numbered
     ensures { result ≡ cond (spec.wrong_size block_len image_len) (Numbered.Refused Refusal.Size)
-        (cond (spec.outside (blockCount block_len image_len) number) (Numbered.Refused Refusal.Turn) (Numbered.Blocks (blockCount block_len image_len))) }
+        (cond (spec.outside (block_count block_len image_len) number) (Numbered.Refused Refusal.Turn) (Numbered.Blocks (block_count block_len image_len))) }
 {
     if wrong_size(block_len, image_len) {
         return Numbered::Refused(Refusal::Size);

@@ -32,7 +32,7 @@ pub fn put_program(manifest: Manifest, signature: &[u8], out: &mut [u8])
 pub fn put_block(number: u16, block: &[u8], out: &mut [u8]) -> usize
     requires { least_length Block + length block.now ≤ length out.old }
     ensures { (result ≡ least_length Block + length block.now)
-        × (out.new ≡ at_start (blockMessage number block.now []) out.old) }
+        × (out.new ≡ at_start (block_message number block.now []) out.old) }
 {
     let digits = be16(number);
     out[0] = 2;
@@ -51,7 +51,7 @@ pub fn put_successor(
 ) -> usize
     requires { least_length Update + length block.now ≤ length out.old }
     ensures { (result ≡ least_length Update + length block.now)
-        × (out.new ≡ at_start (successorHead kind manifest number block.now) out.old) }
+        × (out.new ≡ at_start (successor_head kind manifest number block.now) out.old) }
 {
     let bytes = to_bytes(manifest);
     let digits = be16(number);
