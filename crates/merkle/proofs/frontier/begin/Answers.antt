@@ -1,0 +1,15 @@
+-- `merkle::frontier::begin` meets its contract: zeros, and the root at the end.
+use Rattle.std.proofs.Common.{ℕ, ◌-◌, List, [], ◌∷◌, ◌++◌, replicate, refl, ap, ◌∙◌, append-nil}
+use Rattle.octets.specs.Octets.{joined}
+use Rattle.octets.proofs.JoinedLaws.{copied-over, copy, none}
+use Rattle.merkle.specs.Limits.{hash_length, held_bytes}
+use Rattle.merkle.specs.Held.{begun}
+use Rattle.merkle.proofs.frontier.begin.Goals as goal
+
+pub returns : goal.returns
+unfolding begun joined
+returns c =
+    let root = c.args.root.now in
+    let zeros = replicate {A = ℕ} (held_bytes - hash_length) 0 in
+    copied-over ((held_bytes - hash_length) ∷ hash_length ∷ []) (zeros ∷ root ∷ []) (rw c.requires.1 refl) {d = c.args.hashes.now} c.requires.0 (copy c.copy.ensures (copy c.copy-2.ensures none))
+    ∙ ap (λ (x : List ℕ). zeros ++ x) (append-nil root)
