@@ -59,13 +59,11 @@ bare PathUpdate e = absurd (⊎_elim (λ (z : ◌≡◌ {A = ℕ} 3 1). omega ar
 bare Unknown e = refl
 
 -- the arm of those that bring a block, and the updates among them
-pub bringing : (k : Kind) → (tag_of the_type k ≡ 1) ⊎ ((tag_of the_type k ≡ 2) ⊎ (tag_of the_type k ≡ 3)) → updates k ≡ false → k ≡ Block
+pub bringing : (k : Kind) → (k ≡ Block) ⊎ ((k ≡ Update) ⊎ (k ≡ PathUpdate)) → updates k ≡ false → k ≡ Block
 unfolding updates
-bringing Program e q = absurd (⊎_elim (λ (z : ◌≡◌ {A = ℕ} 0 1). omega arith) (⊎_elim (λ (z : ◌≡◌ {A = ℕ} 0 2). omega arith) (λ (z : ◌≡◌ {A = ℕ} 0 3). omega arith)) e)
-bringing Block e q = refl
-bringing Update e q = absurd (true≢false q)
-bringing PathUpdate e q = absurd (true≢false q)
-bringing Unknown e q = absurd (⊎_elim (λ (z : ◌≡◌ {A = ℕ} 4 1). omega arith) (⊎_elim (λ (z : ◌≡◌ {A = ℕ} 4 2). omega arith) (λ (z : ◌≡◌ {A = ℕ} 4 3). omega arith)) e)
+bringing k (inl e) q = e
+bringing k (inr (inl e)) q = absurd (true≢false (rw e at q))
+bringing k (inr (inr e)) q = absurd (true≢false (rw e at q))
 
 pub updating : (k : Kind) → updates k ≡ true → (k ≡ Update) ⊎ (k ≡ PathUpdate)
 unfolding updates

@@ -1,0 +1,22 @@
+use mathlib.Core.Path.{refl, sym, ◌∙◌}
+use Rattle.sha256.specs.Sha256.{digest}
+use Rattle.lms.specs.Lms.{valid}
+use Rattle.machine.specs.Step.{accept}
+use Rattle.machine.proofs.RefusalLaws.{program-passed}
+use Rattle.device.proofs.KindLaws.{bringing}
+use borrow.Author.Rules.{rules}
+use Rattle.device.proofs.accept.accept.Goals as goal
+
+pub accept_program-requires : goal.accept_program-requires
+accept_program-requires c = (c.requires.0, (program-passed digest valid _ _ _ _ (sym c.requires.1 ∙ c.in-Program.is) c.requires.2.unrefused).long)
+
+pub accept_block-requires : goal.accept_block-requires
+accept_block-requires c = (c.requires.0, c.requires.1, bringing c.args.kind c.in-Block.is, c.requires.2)
+
+pub returns-in-Program : goal.returns-in-Program
+unfolding accept
+returns-in-Program c model key = rw c.in-Program.is (c.accept_program.ensures _ _)
+
+pub returns-in-Unknown : goal.returns-in-Unknown
+unfolding accept
+returns-in-Unknown c model key = rw c.in-Unknown.is refl

@@ -1,0 +1,5 @@
+use borrow.Author.Rules.{rules}
+use Rattle.device.proofs.conditions.wrong_size.Goals as goal
+
+pub returns : goal.returns
+returns c = c.wrong_size.ensures
