@@ -169,12 +169,15 @@ module _ (base k : ℕ) where
       let g = f b (Memᴰ.head refl) in
       rw (le-ltb b.address base g.0, lt-leb (base + k) b.address g.1) (inside-tested bs (λ c m. f c (Memᴰ.tail m)))
 
-  pub tested-inside : (bs : List Byte) → any_outside base k bs ≡ false → Inside base k bs
+  inside_at : (b : Byte) (bs : List Byte) → any_outside base k bs ≡ false → Memᴰ b bs → (base ≤ b.address) × (b.address < base + k)
   unfolding any_outside outside
-  tested-inside bs e b (Memᴰ.head {x} q) =
+  inside_at b bs e (Memᴰ.head {x} q) =
       let p = or-false (ltb x.address base) _ (or-false (outside base k x.address) _ e).0 in
       rw q (ltb-false x.address base p.0, leb-false (base + k) x.address p.1)
-  tested-inside bs e b (Memᴰ.tail {x} {xs} m) = tested-inside xs (or-false (outside base k x.address) _ e).1 b m
+  inside_at b bs e (Memᴰ.tail {x} {xs} m) = inside_at b xs (or-false (outside base k x.address) _ e).1 m
+
+  pub tested-inside : (bs : List Byte) → any_outside base k bs ≡ false → Inside base k bs
+  tested-inside bs e b m = inside_at b bs e m
 
   -- a record that runs over the last address is outside too: its bytes go on at 0, and the image does not
   pub placed-outside : (x : ℕ) (vs : List ℕ) → base + k ≤ 2 ^ 32 → x < 2 ^ 32 → 0 < length vs → k ≤ 32768
