@@ -1,34 +1,33 @@
 // The loader: reads key.bin and bundle.bin, and writes what `bundle::load` makes of them. A missing file counts as an empty one.
 #![tactic(auto)]
 
-ghost use Rattle.io.specs.Counts.{IsPrefixLen};
+ghost use Rattle.streams.specs.Counts.{IsPrefixLen};
 
-use libc::STDOUT_FILENO;
+use std::rt::Files;
+use std::{fs, io};
+use streams::read_full;
 
 // The flash that the loader lends to a fresh device.
 const FLASH_LEN: usize = 65536;
 
 // Puts the file at the start of `buffer`, and answers how many bytes: of a longer file, as many as fit.
-fn read_file(path: &[u8], buffer: &mut [u8]) -> usize
+fn read_file(rt: &impl Files, path: &str, buffer: &mut [u8]) -> usize
     ensures { IsPrefixLen result buffer.new }
 {
-    let file = os::open_read(path);
-    if file < 0 {
-        return 0;
+    match fs::open(rt, path) {
+        Ok(mut file) => read_full(&mut file, buffer),
+        Err(_) => 0,
     }
-    let n = io::read_full(file, buffer);
-    libc::close(file);
-    n
 }
 
-fn main() {
+fn main(rt: HostRuntime) -> io::Result<()> {
     // One byte more than a file may have shows that it is too long.
     let mut key = [0u8; bundle::KEY_FILE_LEN + 1];
     let mut bundle = [0u8; bundle::BUNDLE_LEN + 1];
     let mut flash = [0u8; FLASH_LEN];
     let mut out = [0u8; bundle::OUT_LEN];
-    let key_len = read_file(b"key.bin", &mut key);
-    let bundle_len = read_file(b"bundle.bin", &mut bundle);
+    let key_len = read_file(&rt, "key.bin", &mut key);
+    let bundle_len = read_file(&rt, "bundle.bin", &mut bundle);
     let answer = bundle::load(&key[..key_len], &bundle[..bundle_len], &mut flash, &mut out);
-    io::write_all(STDOUT_FILENO, &out[..bundle::sent_len(answer)]);
+    rt.write_all(&out[..bundle::sent_len(answer)])
 }

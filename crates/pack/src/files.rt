@@ -1,7 +1,15 @@
 // Files of the folder, by name. What goes wrong with one is told on standard error.
-ghost use Rattle.io.specs.Counts.{IsPrefixLen};
+ghost use Rattle.streams.specs.Counts.{IsPrefixLen};
 
-use libc::STDERR_FILENO;
+use std::fs::{File, OpenOptions, Permissions};
+use std::io::{ErrorKind, Read, Write};
+use std::os::unix::fs::{OpenOptionsExt, PermissionsExt};
+use std::random::RandomSource;
+use std::{fs, io};
+use streams::read_full;
+
+// How many names are tried for a temporary file.
+const MOST_NAMES: u32 = 1000;
 
 #[derive(Drop)]
 pub enum FileRead {
@@ -17,126 +25,162 @@ pub struct Input {
     pub found: FileRead,
 }
 
-// Why a file was not opened, right after the call.
-fn unopened(path: &[u8]) -> FileRead {
-    if os::errno() == libc::ENOENT {
+// To standard error: the file, and in the system's words why a call failed.
+fn tell(rt: &HostRuntime, path: &str, error: io::Error) {
+    let _ = match format!(in rt.alloc(); "{error}") {
+        Ok(text) => {
+            // The words, without the number of the error behind them.
+            let text = text.as_str();
+            let words = text
+                .rsplit_once(" (os error ")
+                .map_or(text, |parts| parts.0);
+            eprintln!(rt; "{path}: {words}")
+        }
+        Err(_) => eprintln!(rt; "{path}: {error}"),
+    };
+}
+
+// Why a file was not opened.
+fn unopened(rt: &HostRuntime, path: &str, error: io::Error) -> FileRead {
+    if error.kind() == ErrorKind::NotFound {
         return FileRead::Missing;
     }
-    os::fail(path);
+    tell(rt, path, error);
     FileRead::Unusable
 }
 
 // Whether a file that was read into a buffer of `most` bytes ends there.
-fn ended(file: i32, path: &[u8], most: usize) -> FileRead {
+fn ended(rt: &HostRuntime, file: &mut File, path: &str, most: usize) -> FileRead {
     let mut next = [0u8; 1];
-    let got = libc::read(file, &mut next);
-    if got < 0 {
-        os::fail(path);
-        return FileRead::Unusable;
+    match file.read(&mut next) {
+        Ok(0) => FileRead::Whole,
+        Ok(_) => {
+            let _ = eprintln!(rt; "{path}: over {most} bytes");
+            FileRead::Unusable
+        }
+        Err(error) => {
+            tell(rt, path, error);
+            FileRead::Unusable
+        }
     }
-    if got == 0 {
-        return FileRead::Whole;
-    }
-    io::write_all(STDERR_FILENO, path);
-    io::write_all(STDERR_FILENO, b": over ");
-    io::print_decimal(STDERR_FILENO, most as u64);
-    io::write_all(STDERR_FILENO, b" bytes\n");
-    FileRead::Unusable
 }
 
 // Puts the file at the start of `buffer`.
-pub fn read(path: &[u8], buffer: &mut [u8]) -> Input
+pub fn read(rt: &HostRuntime, path: &str, buffer: &mut [u8]) -> Input
     ensures { IsPrefixLen result.len buffer.new }
 {
-    let file = os::open_read(path);
-    if file < 0 {
-        return Input {
+    match fs::open(rt, path) {
+        Ok(mut file) => {
+            let len = read_full(&mut file, buffer);
+            let found = ended(rt, &mut file, path, buffer.len());
+            Input { len, found }
+        }
+        Err(error) => Input {
             len: 0,
-            found: unopened(path),
-        };
+            found: unopened(rt, path, error),
+        },
     }
-    let len = io::read_full(file, buffer);
-    let found = ended(file, path, buffer.len());
-    libc::close(file);
-    Input { len, found }
 }
 
 // Whether the name is free, or that of a file that may be written.
-fn replaceable(path: &[u8]) -> bool {
-    let file = os::open_update(path);
-    if 0 <= file {
-        libc::close(file);
-        return true;
-    }
-    match unopened(path) {
-        FileRead::Missing => true,
-        _ => false,
+fn replaceable(rt: &HostRuntime, path: &str) -> bool {
+    match OpenOptions::new().read(true).write(true).open(rt, path) {
+        Ok(_) => true,
+        Err(error) => matches!(unopened(rt, path, error), FileRead::Missing),
     }
 }
 
-fn fill(file: i32, bytes: &[u8]) -> bool {
-    if !io::write_all(file, bytes) {
-        return false;
+// A name beside `path` that nobody foresees.
+fn temporary_name(rt: &HostRuntime, path: &str) -> io::Result<String> {
+    let mut random = [0u8; 4];
+    rt.fill_bytes(&mut random)?;
+    let number = u32::from_le_bytes(random);
+    Ok(format!(in rt.alloc(); "{path}.{number:08x}")?)
+}
+
+// A new file under such a name, its owner's alone.
+fn create_temporary(rt: &HostRuntime, path: &str) -> io::Result<(File, String)> {
+    for _ in 0..MOST_NAMES {
+        let name = temporary_name(rt, path)?;
+        let created = OpenOptions::new()
+            .read(true)
+            .write(true)
+            .create_new(true)
+            .mode(0o600)
+            .open(rt, name.as_str());
+        match created {
+            Ok(file) => return Ok((file, name)),
+            Err(error) if error.kind() == ErrorKind::AlreadyExists => {}
+            Err(error) => return Err(error),
+        }
     }
+    Err(io::Error::from(ErrorKind::AlreadyExists))
+}
+
+fn fill(file: &mut File, bytes: &[u8]) -> io::Result<()> {
+    file.write_all(bytes)?;
     // A temporary file is its owner's alone.
-    if libc::fchmod(file, 0o644) < 0 {
-        return false;
-    }
-    libc::fsync(file) == 0
+    file.set_permissions(Permissions::from_mode(0o644))?;
+    file.sync_all()
 }
 
-// Puts what is to become the file `path` into a temporary one, whose name takes the place of `name`.
-fn stage(path: &[u8], bytes: &[u8], name: &mut [u8]) -> bool {
-    if !replaceable(path) {
-        return false;
+fn remove(rt: &HostRuntime, name: &str) {
+    let _ = fs::remove_file(rt, name);
+}
+
+// Puts what is to become the file `path` into a temporary one, and answers the name of that.
+fn stage(rt: &HostRuntime, path: &str, bytes: &[u8]) -> Option<String> {
+    if !replaceable(rt, path) {
+        return None;
     }
-    let file = os::create_temp(name);
-    if file < 0 {
-        os::fail(path);
-        return false;
+    match create_temporary(rt, path) {
+        Ok((mut file, name)) => match fill(&mut file, bytes) {
+            Ok(()) => Some(name),
+            Err(error) => {
+                tell(rt, path, error);
+                remove(rt, name.as_str());
+                None
+            }
+        },
+        Err(error) => {
+            tell(rt, path, error);
+            None
+        }
     }
-    let filled = fill(file, bytes);
-    if !filled {
-        os::fail(path);
-        os::unlink(name);
-    }
-    libc::close(file);
-    filled
 }
 
 // Gives the temporary file its name.
-fn commit(name: &[u8], path: &[u8]) -> bool {
-    if os::rename(name, path) < 0 {
-        os::fail(path);
-        os::unlink(name);
-        return false;
+fn commit(rt: &HostRuntime, name: &str, path: &str) -> bool {
+    match fs::rename(rt, name, path) {
+        Ok(()) => true,
+        Err(error) => {
+            tell(rt, path, error);
+            remove(rt, name);
+            false
+        }
     }
-    true
 }
 
 // The manifest alone, as slip.bin.
-pub fn save_manifest(manifest: &[u8]) -> bool {
-    let mut name = *b"slip.bin.XXXXXX";
-    if !stage(b"slip.bin", manifest, &mut name) {
-        return false;
+pub fn save_manifest(rt: &HostRuntime, manifest: &[u8]) -> bool {
+    match stage(rt, "slip.bin", manifest) {
+        Some(name) => commit(rt, name.as_str(), "slip.bin"),
+        None => false,
     }
-    commit(&name, b"slip.bin")
 }
 
 // Both or neither: all that may fail but the renaming is done before either gets its name.
-pub fn save_both(manifest: &[u8], bundle: &[u8]) -> bool {
-    let mut manifest_name = *b"slip.bin.XXXXXX";
-    let mut bundle_name = *b"bundle.bin.XXXXXX";
-    if !stage(b"slip.bin", manifest, &mut manifest_name) {
+pub fn save_both(rt: &HostRuntime, manifest: &[u8], bundle: &[u8]) -> bool {
+    let Some(manifest_name) = stage(rt, "slip.bin", manifest) else {
+        return false;
+    };
+    let Some(bundle_name) = stage(rt, "bundle.bin", bundle) else {
+        remove(rt, manifest_name.as_str());
+        return false;
+    };
+    if !commit(rt, bundle_name.as_str(), "bundle.bin") {
+        remove(rt, manifest_name.as_str());
         return false;
     }
-    if !stage(b"bundle.bin", bundle, &mut bundle_name) {
-        os::unlink(&manifest_name);
-        return false;
-    }
-    if !commit(&bundle_name, b"bundle.bin") {
-        os::unlink(&manifest_name);
-        return false;
-    }
-    commit(&manifest_name, b"slip.bin")
+    commit(rt, manifest_name.as_str(), "slip.bin")
 }

@@ -1,13 +1,12 @@
 // The image in image.hex. A refusal is told on standard error by its word, with the number of its line.
 ghost use Rattle.std.specs.Prelude.{◌≡◌, ◌<◌, length};
-ghost use Rattle.io.specs.Counts.{IsPrefixLen};
+ghost use Rattle.streams.specs.Counts.{IsPrefixLen};
 ghost use Rattle.ihex.specs.Read as spec;
 ghost use Rattle.ihex.specs.Write as writing;
 ghost use Rattle.pack.specs.Make.{ImageRead};
 
 use crate::make::{Made, print_error};
 use ihex::{RecordRead, TextAnswer};
-use libc::STDERR_FILENO;
 use wire::Refusal;
 
 // Zeros for the longest image. The contract says all that a caller needs, so that no proof counts them one by one.
@@ -29,54 +28,58 @@ fn hex_digit(number: u8) -> u8
     }
 }
 
-fn print_type(kind: u8) {
-    let digits = [hex_digit(kind / 16), hex_digit(kind % 16)];
-    io::write_all(STDERR_FILENO, b"record type ");
-    io::write_all(STDERR_FILENO, &digits);
-    io::write_all(STDERR_FILENO, b"; only types 00, 01 and 04 are read\n");
+fn print_type(rt: &impl Eprint, kind: u8) {
+    let first = char::from(hex_digit(kind / 16));
+    let second = char::from(hex_digit(kind % 16));
+    let _ = eprintln!(rt; "record type {first}{second}; only types 00, 01 and 04 are read");
 }
 
 // What is wrong with a line that is refused 16, or that the text lacks.
-fn broken(text: &[u8], line: usize) {
-    print_error(b"text: image.hex, line ", line, b": ");
+fn broken(rt: &impl Eprint, text: &[u8], line: usize) {
+    print_error(rt, "text: image.hex, line ", line, ": ");
     let RecordRead::Sound(record) = ihex::record_at(text, line) else {
-        io::write_all(
-            STDERR_FILENO,
-            b"no whole record (colon, digits, count, checksum, line end), or bytes behind the end record, or no end record\n",
+        let _ = eprintln!(rt;
+            "no whole record (colon, digits, count, checksum, line end), or bytes behind the end record, or no end record"
         );
         return;
     };
     let kind = record.kind;
     match kind {
         0 | 1 | 4 => {
-            io::write_all(
-                STDERR_FILENO,
-                b"a record behind the end record, or 01 with data, or 04 without two bytes\n",
+            let _ = eprintln!(rt;
+                "a record behind the end record, or 01 with data, or 04 without two bytes"
             );
         }
-        _ => print_type(kind),
+        _ => print_type(rt, kind),
     }
 }
 
-fn refuse(text: &[u8], refusal: Refusal, line: usize) {
+fn refuse(rt: &impl Eprint, text: &[u8], refusal: Refusal, line: usize) {
     match refusal {
-        Refusal::Text => broken(text, line),
+        Refusal::Text => broken(rt, text, line),
         Refusal::Place => print_error(
-            b"place: image.hex, line ",
+            rt,
+            "place: image.hex, line ",
             line,
-            b": a byte outside the LENGTH bytes from address BASE on\n",
+            ": a byte outside the LENGTH bytes from address BASE on\n",
         ),
-        Refusal::Twice => print_error(b"twice: image.hex, line ", line, b": a byte named before\n"),
+        Refusal::Twice => print_error(
+            rt,
+            "twice: image.hex, line ",
+            line,
+            ": a byte named before\n",
+        ),
         _ => print_error(
-            b"size: LENGTH must be 1 to ",
+            rt,
+            "size: LENGTH must be 1 to ",
             ihex::MAX_LEN,
-            b", and BASE + LENGTH at most 4294967296\n",
+            ", and BASE + LENGTH at most 4294967296\n",
         ),
     }
 }
 
 // Puts the image at the start of `out`.
-pub fn image(text: &[u8], base: u32, len: u32, out: &mut [u8]) -> Made
+pub fn image(rt: &impl Eprint, text: &[u8], base: u32, len: u32, out: &mut [u8]) -> Made
     ensures image_read { ImageRead len (spec.read text.now base len out.old) result out.new }
     ensures prefix_len { IsPrefixLen result.len out.new }
 {
@@ -84,7 +87,7 @@ pub fn image(text: &[u8], base: u32, len: u32, out: &mut [u8]) -> Made
     match ihex::read(text, base, len, out) {
         TextAnswer::Read => Made { len, done: true },
         TextAnswer::Refused(refusal, line) => {
-            refuse(text, refusal, line);
+            refuse(rt, text, refusal, line);
             Made {
                 len: 0,
                 done: false,

@@ -1,12 +1,11 @@
 // The bytes of slip.bin and bundle.bin. A refusal is told on standard error by its word.
 ghost use Rattle.std.specs.Prelude.{◌≡◌};
-ghost use Rattle.io.specs.Counts.{IsPrefixLen};
+ghost use Rattle.streams.specs.Counts.{IsPrefixLen};
 ghost use Rattle.sender.specs.Job.{in_blocks, job};
 ghost use Rattle.sender.specs.Send.{Does, send_manifest};
 ghost use Rattle.bundle.specs.Bundle.{send_bundle};
 ghost use Rattle.pack.specs.Make.{made};
 
-use libc::STDERR_FILENO;
 use sender::Sent;
 use wire::Refusal;
 
@@ -17,36 +16,36 @@ pub struct Made {
     pub done: bool,
 }
 
-// To standard error: a line with a number.
-pub fn print_error(before: &[u8], number: usize, after: &[u8]) {
-    io::write_all(STDERR_FILENO, before);
-    io::print_decimal(STDERR_FILENO, number as u64);
-    io::write_all(STDERR_FILENO, after);
+// To standard error: a line with a number. That it cannot be told changes nothing.
+pub fn print_error(rt: &impl Eprint, before: &str, number: usize, after: &str) {
+    let _ = eprint!(rt; "{before}{number}{after}");
 }
 
-fn refuse(refusal: Refusal) {
+fn refuse(rt: &impl Eprint, refusal: Refusal) {
     if let Refusal::Size = refusal {
         print_error(
-            b"size: BLOCK must be 64, 128, 256, 512 or 1024, and the image 1 to ",
+            rt,
+            "size: BLOCK must be 64, 128, 256, 512 or 1024, and the image 1 to ",
             merkle::MAX_BLOCKS,
-            b" blocks long\n",
+            " blocks long\n",
         );
     } else {
         print_error(
-            b"area: the bundle would have over ",
+            rt,
+            "area: the bundle would have over ",
             bundle::BUNDLE_LEN,
-            b" bytes\n",
+            " bytes\n",
         );
     }
 }
 
-fn made_of(sent: Sent) -> Made
+fn made_of(rt: &impl Eprint, sent: Sent) -> Made
     ensures { result ≡ made sent }
 {
     match sent {
         Sent::Written(len) => Made { len, done: true },
         Sent::Refused(refusal) => {
-            refuse(refusal);
+            refuse(rt, refusal);
             Made {
                 len: 0,
                 done: false,
@@ -56,14 +55,22 @@ fn made_of(sent: Sent) -> Made
 }
 
 // The manifest, for signing.
-pub fn manifest(image: &[u8], len: u32, model: u32, serial: u32, out: &mut [u8]) -> Made
+pub fn manifest(
+    rt: &impl Eprint,
+    image: &[u8],
+    len: u32,
+    model: u32,
+    serial: u32,
+    out: &mut [u8],
+) -> Made
     ensures { Does made (send_manifest (job (in_blocks image.now len) model serial) out.old) result out.new }
 {
-    made_of(sender::manifest(image, len, model, serial, out))
+    made_of(rt, sender::manifest(image, len, model, serial, out))
 }
 
 // The bundle, without filler.
 pub fn bundle(
+    rt: &impl Eprint,
     image: &[u8],
     len: u32,
     model: u32,
@@ -74,5 +81,5 @@ pub fn bundle(
     ensures does { Does made (send_bundle (job (in_blocks image.now len) model serial) signature.now out.old) result out.new }
     ensures prefix_len { IsPrefixLen result.len out.new }
 {
-    made_of(bundle::pack(image, len, model, serial, signature, out))
+    made_of(rt, bundle::pack(image, len, model, serial, signature, out))
 }

@@ -2,24 +2,25 @@
 // The expected digests in `stdout` were made with Python's hashlib (OpenSSL).
 ghost use Rattle.std.specs.Prelude.{◌≡◌, ◌≤◌, length};
 
-use libc::STDOUT_FILENO;
+use std::io;
 
 // Every line on digests.
-pub fn run() {
-    show(b"empty", b"");
-    show(b"abc", b"abc");
+pub fn run(rt: &impl Print) -> io::Result<()> {
+    show(rt, "empty", b"")?;
+    show(rt, "abc", b"abc")?;
     show(
-        b"448 bits",
+        rt,
+        "448 bits",
         b"abcdbcdecdefdefgefghfghighijhijkijkljklmklmnlmnomnopnopq",
-    );
-    prefix(b"55 bytes", 55);
-    prefix(b"56 bytes", 56);
-    prefix(b"63 bytes", 63);
-    prefix(b"64 bytes", 64);
-    prefix(b"65 bytes", 65);
-    prefix(b"119 bytes", 119);
-    prefix(b"120 bytes", 120);
-    million();
+    )?;
+    prefix(rt, "55 bytes", 55)?;
+    prefix(rt, "56 bytes", 56)?;
+    prefix(rt, "63 bytes", 63)?;
+    prefix(rt, "64 bytes", 64)?;
+    prefix(rt, "65 bytes", 65)?;
+    prefix(rt, "119 bytes", 119)?;
+    prefix(rt, "120 bytes", 120)?;
+    million(rt)
 }
 
 // The bytes 0, 1, 2, up to 119.
@@ -36,22 +37,21 @@ fn counted() -> [u8; 120]
 }
 
 // The line on the first n bytes of `counted`.
-fn prefix(name: &[u8], n: usize)
+fn prefix(rt: &impl Print, name: &str, n: usize) -> io::Result<()>
     requires { n ≤ 120 }
 {
     let bytes = counted();
-    show(name, &bytes[..n]);
+    show(rt, name, &bytes[..n])
 }
 
 // A line: name, digest in one call, and how many of the cuts into two pieces give the same.
-fn show(name: &[u8], message: &[u8]) {
-    io::write_all(STDOUT_FILENO, name);
+fn show(rt: &impl Print, name: &str, message: &[u8]) -> io::Result<()> {
+    print!(rt; "{name}")?;
     let mut whole = [0u8; 32];
     sha256::digest(message, &mut whole);
-    hex(whole);
-    io::write_all(STDOUT_FILENO, b" same in two pieces: ");
-    io::print_decimal(STDOUT_FILENO, cuts(message, whole));
-    io::write_all(STDOUT_FILENO, b"\n");
+    hex(rt, whole)?;
+    let same = cuts(message, whole);
+    println!(rt; " same in two pieces: {same}")
 }
 
 fn cuts(message: &[u8], whole: [u8; 32]) -> u64 {
@@ -78,11 +78,11 @@ fn cut(message: &[u8], at: usize, whole: [u8; 32]) -> u64
 }
 
 // One million 'a', in one call and in pieces of 1,000.
-fn million() {
-    io::write_all(STDOUT_FILENO, b"a million a");
+fn million(rt: &impl Print) -> io::Result<()> {
+    print!(rt; "a million a")?;
     let mut digest = [0u8; 32];
     sha256::digest(&[b'a'; 1000000], &mut digest);
-    hex(digest);
+    hex(rt, digest)?;
     let piece = [b'a'; 1000];
     let mut context = sha256::Context::new();
     let mut i: u32 = 0;
@@ -91,18 +91,19 @@ fn million() {
         context = next;
         i += 1;
     }
-    io::write_all(STDOUT_FILENO, b"\na thousand times a thousand");
+    print!(rt; "\na thousand times a thousand")?;
     context.finish(&mut digest);
-    hex(digest);
-    io::write_all(STDOUT_FILENO, b"\n");
+    hex(rt, digest)?;
+    println!(rt)
 }
 
 // A space and the digest's eight words.
-fn hex(digest: [u8; 32]) {
-    io::write_all(STDOUT_FILENO, b" ");
+fn hex(rt: &impl Print, digest: [u8; 32]) -> io::Result<()> {
+    print!(rt; " ")?;
     let mut at: usize = 0;
     while at < 32 {
-        io::print_hex(STDOUT_FILENO, octets::u32_at(&digest, at) as u64, 8);
+        print!(rt; "{:08x}", octets::u32_at(&digest, at))?;
         at += 4;
     }
+    Ok(())
 }

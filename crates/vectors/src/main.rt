@@ -5,8 +5,10 @@ mod digests;
 mod messages;
 mod signatures;
 
-fn main() {
-    digests::run();
-    signatures::run();
-    messages::run();
+use std::io;
+
+fn main(rt: HostRuntime) -> io::Result<()> {
+    digests::run(&rt)?;
+    signatures::run(&rt)?;
+    messages::run(&rt)
 }

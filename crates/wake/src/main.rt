@@ -9,7 +9,8 @@ ghost use Rattle.std.specs.Prelude.{◌≡◌, length};
 ghost use Rattle.wake.specs.Wake.{input_length};
 
 use answer::answer_line;
-use libc::{STDIN_FILENO, STDOUT_FILENO};
+use std::io;
+use streams::read_full;
 
 // The longest right input has two lines of nine digits; a byte more shows that one is too long.
 const INPUT_LEN: usize = 2 * (9 + 1) + 1;
@@ -21,11 +22,11 @@ fn input_buffer() -> [u8; INPUT_LEN]
     [0u8; INPUT_LEN]
 }
 
-fn main() {
+fn main(rt: HostRuntime) -> io::Result<()> {
     let mut input = input_buffer();
-    let n = io::read_full(STDIN_FILENO, &mut input);
+    let n = read_full(&mut rt.stdin(), &mut input);
     let line = answer_line(&input[..n]);
     let bytes = line.bytes;
     let len = line.len;
-    io::write_all(STDOUT_FILENO, &bytes[..len]);
+    rt.write_all(&bytes[..len])
 }
