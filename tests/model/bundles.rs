@@ -30,7 +30,7 @@ impl Bundles {
     pub fn new() -> Bundles {
         let folder = std::env::temp_dir().join(format!("lertxuno-model-{}", std::process::id()));
         fs::create_dir_all(&folder).expect("a temporary folder");
-        let program = fs::canonicalize("target/bin/loader").expect("the loader program");
+        let program = fs::canonicalize("crates/loader/out/loader").expect("the loader program");
         Bundles { folder, program }
     }
 

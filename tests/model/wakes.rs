@@ -183,7 +183,7 @@ pub fn compare(form: usize, input: &str, coverage: &mut Coverage) -> Compared<()
 /// What the program prints, its characters being bytes too.
 fn run(input: &[u8]) -> Compared<String> {
     let broken = |error| format!("wake does not run: {error}");
-    let mut program = Command::new("target/bin/wake");
+    let mut program = Command::new("crates/wake/out/wake");
     let program = program.stdin(Stdio::piped()).stdout(Stdio::piped());
     let mut running = program.spawn().map_err(broken)?;
     let mut stdin = running.stdin.take().expect("a pipe");
