@@ -5,7 +5,7 @@ ghost use Rattle.std.specs.Prelude.{◌≡◌, ◌≤◌, length};
 use std::io;
 
 // Every line on digests.
-pub fn run(rt: &impl Print) -> io::Result<()> {
+pub fn run(rt: &(impl Print + Alloc)) -> io::Result<()> {
     show(rt, "empty", b"")?;
     show(rt, "abc", b"abc")?;
     show(
@@ -78,10 +78,11 @@ fn cut(message: &[u8], at: usize, whole: [u8; 32]) -> u64
 }
 
 // One million 'a', in one call and in pieces of 1,000.
-fn million(rt: &impl Print) -> io::Result<()> {
+fn million(rt: &(impl Print + Alloc)) -> io::Result<()> {
     print!(rt; "a million a")?;
     let mut digest = [0u8; 32];
-    sha256::digest(&[b'a'; 1000000], &mut digest);
+    let whole = vec![in rt.alloc(); b'a'; 1000000]?;
+    sha256::digest(&whole, &mut digest);
     hex(rt, digest)?;
     let piece = [b'a'; 1000];
     let mut context = sha256::Context::new();
