@@ -42,13 +42,11 @@ carried-free H PathUpdate e d flash m = refl
 carried-free H Unknown e d flash m = refl
 
 -- the arm of those that carry a manifest, and that of the others
-pub carrying : (k : Kind) → (tag_of the_type k ≡ 0) ⊎ ((tag_of the_type k ≡ 2) ⊎ (tag_of the_type k ≡ 3)) → carries k ≡ true
+pub carrying : (k : Kind) → (k ≡ Program) ⊎ ((k ≡ Update) ⊎ (k ≡ PathUpdate)) → carries k ≡ true
 unfolding carries
-carrying Program e = refl
-carrying Block e = absurd (⊎_elim (λ (z : ◌≡◌ {A = ℕ} 1 0). omega arith) (⊎_elim (λ (z : ◌≡◌ {A = ℕ} 1 2). omega arith) (λ (z : ◌≡◌ {A = ℕ} 1 3). omega arith)) e)
-carrying Update e = refl
-carrying PathUpdate e = refl
-carrying Unknown e = absurd (⊎_elim (λ (z : ◌≡◌ {A = ℕ} 4 0). omega arith) (⊎_elim (λ (z : ◌≡◌ {A = ℕ} 4 2). omega arith) (λ (z : ◌≡◌ {A = ℕ} 4 3). omega arith)) e)
+carrying k (inl e) = rw e
+carrying k (inr (inl e)) = rw e
+carrying k (inr (inr e)) = rw e
 
 pub bare : (k : Kind) → (tag_of the_type k ≡ 1) ⊎ (tag_of the_type k ≡ 4) → carries k ≡ false
 unfolding carries
