@@ -1,4 +1,4 @@
-use Rattle.std.proofs.Common.{◌≡◌, List, ℕ, ◌+◌, ◌*◌, ◌≤◌, pred, length, sym, ap, ◌∙◌, false}
+use Rattle.std.proofs.Common.{◌≡◌, List, ℕ, ◌+◌, ◌*◌, ◌≤◌, pred, length, sym, ap, ◌∙◌}
 use borrow.Author.Tests.{ltb-false}
 use Rattle.merkle.specs.Limits.{hash_length}
 use Rattle.merkle.specs.Path.{leaf_depth}

@@ -1,6 +1,4 @@
-use Rattle.std.proofs.Common.{◌≡◌, List, [], ℕ, refl, sym, false}
-use Rattle.wire.specs.Size.{outside}
-use Rattle.wire.specs.Geometry.{count_of}
+use Rattle.std.proofs.Common.{[], refl, sym}
 use Rattle.wire.proofs.SizeLaws.{inside}
 use Rattle.machine.proofs.RefusalLaws.{◌past◌}
 use Rattle.device.specs.Fields.{device_of}

@@ -1,6 +1,5 @@
-use Rattle.std.proofs.Common.{◌≡◌, Bool, List, ◌∷◌, [], ℕ, sym, false}
+use Rattle.std.proofs.Common.{◌≡◌, List, ◌∷◌, [], ℕ, sym, false}
 use Rattle.wire.specs.declared.manifest.Manifest.{Manifest}
-use Rattle.wire.specs.declared.refusal.Refusal.{Refusal}
 use Rattle.wire.specs.declared.refusal.Refusal.TheVariants as refusal
 use Rattle.machine.specs.declared.state.Stage.{Stage}
 use Rattle.machine.specs.Refusals.{not_complete, unlike, too_small, of_manifest, of_successor}

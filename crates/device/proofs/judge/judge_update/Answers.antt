@@ -1,6 +1,4 @@
-use Rattle.std.proofs.Common.{◌≡◌, List, [], ℕ, length, refl, sym, ap, ◌∙◌, false}
-use Rattle.wire.specs.Size.{outside}
-use Rattle.wire.specs.Geometry.{count_of}
+use Rattle.std.proofs.Common.{[], length, refl, sym, ap, ◌∙◌}
 use Rattle.wire.proofs.SizeLaws.{inside}
 use Rattle.wire.proofs.MessageLaws.{length-update-block}
 use Rattle.device.specs.Fields.{device_of}
