@@ -1,13 +1,11 @@
--- The kinds that carry a manifest, and which kinds an arm of several has, by their tags.
+-- The kinds that carry a manifest, and which kinds an arm of several has.
 use mathlib.Core.Path.{◌≡◌, refl, sym}
-use mathlib.Core.Logic.{◌⊎◌, inl, inr, ⊎_elim}
+use mathlib.Core.Logic.{◌⊎◌, inl, inr}
 use mathlib.Core.Bool.{true, false, true≢false}
 use mathlib.Core.List.{List}
-use Prim.Native.Nat.{ℕ, ◌≤◌}
+use Prim.Native.Nat.{◌≤◌}
 use native.Mathlib.Omega.{arith}
-use denote.Enum.Declared.{tag_of}
 use Rattle.wire.specs.declared.kind.Kind.{Kind}
-use Rattle.wire.specs.contracts.kind.Kind.{the_type}
 use Rattle.wire.specs.declared.kind.Kind.TheVariants.{Program, Block, Update, PathUpdate, Unknown}
 use Rattle.wire.specs.Message.{carries, least_length}
 use Rattle.machine.specs.declared.state.Device.{Device}
@@ -48,13 +46,10 @@ carrying k (inl e) = rw e
 carrying k (inr (inl e)) = rw e
 carrying k (inr (inr e)) = rw e
 
-pub bare : (k : Kind) → (tag_of the_type k ≡ 1) ⊎ (tag_of the_type k ≡ 4) → carries k ≡ false
+pub bare : (k : Kind) → (k ≡ Block) ⊎ (k ≡ Unknown) → carries k ≡ false
 unfolding carries
-bare Program e = absurd (⊎_elim (λ (z : ◌≡◌ {A = ℕ} 0 1). omega arith) (λ (z : ◌≡◌ {A = ℕ} 0 4). omega arith) e)
-bare Block e = refl
-bare Update e = absurd (⊎_elim (λ (z : ◌≡◌ {A = ℕ} 2 1). omega arith) (λ (z : ◌≡◌ {A = ℕ} 2 4). omega arith) e)
-bare PathUpdate e = absurd (⊎_elim (λ (z : ◌≡◌ {A = ℕ} 3 1). omega arith) (λ (z : ◌≡◌ {A = ℕ} 3 4). omega arith) e)
-bare Unknown e = refl
+bare k (inl e) = rw e
+bare k (inr e) = rw e
 
 -- the arm of those that bring a block, and the updates among them
 pub bringing : (k : Kind) → (k ≡ Block) ⊎ ((k ≡ Update) ⊎ (k ≡ PathUpdate)) → updates k ≡ false → k ≡ Block

@@ -9,15 +9,9 @@ use Rattle.machine.specs.Refusals.{of_kind}
 use Rattle.machine.proofs.RefusalLaws.{answer-none}
 use Rattle.device.specs.Fields.{device_of}
 use Rattle.device.specs.Inner.{updates, early}
-use Rattle.device.proofs.KindLaws.{carried-long}
+use Rattle.device.proofs.KindLaws.{carried-long, bare}
 use Rattle.device.proofs.JudgeLaws.{early-refused, manifest-refused}
 use Rattle.device.proofs.judge.judge_carrier.Goals as goal
-
--- the last arm's kinds carry no manifest
-bare : (k : Kind) → (k ≡ Block) ⊎ (k ≡ Unknown) → carries k ≡ false
-unfolding carries
-bare k (inl e) = rw e
-bare k (inr e) = rw e
 
 pub returns-then-early : goal.returns-then-early
 returns-then-early c budget hashes =
