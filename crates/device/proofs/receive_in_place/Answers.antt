@@ -1,6 +1,5 @@
 use mathlib.Core.Path.{◌∙◌}
 use Rattle.device.proofs.AcceptLaws.{unrefused, step-refused, step-accepted, held-step, no_step}
-use borrow.Author.Rules.{rules}
 use Rattle.device.proofs.receive_in_place.Goals as goal
 
 pub returns-then-hashes-ne-HELD_LEN : goal.returns-then-hashes-ne-HELD_LEN

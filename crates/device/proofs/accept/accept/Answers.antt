@@ -4,7 +4,6 @@ use Rattle.lms.specs.Lms.{valid}
 use Rattle.machine.specs.Step.{accept}
 use Rattle.machine.proofs.RefusalLaws.{program-passed}
 use Rattle.device.proofs.KindLaws.{bringing}
-use borrow.Author.Rules.{rules}
 use Rattle.device.proofs.accept.accept.Goals as goal
 
 pub accept_program-requires : goal.accept_program-requires

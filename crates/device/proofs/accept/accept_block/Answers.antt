@@ -1,5 +1,4 @@
 use Rattle.std.proofs.Common.{◌≡◌, ℕ, ◌+◌, ◌*◌, ◌≤◌, List, Bool, false, length, sym, ap, ◌∙◌, subst, arith}
-use Rattle.sha256.specs.Sha256.{digest}
 use Rattle.wire.specs.declared.kind.Kind.{Kind}
 use Rattle.wire.specs.declared.kind.Kind.TheVariants.{Block}
 use Rattle.wire.specs.declared.manifest.Manifest.{Manifest}
@@ -8,7 +7,6 @@ use Rattle.merkle.specs.Frontier.{carried_count}
 use Rattle.wire.specs.Size.{wrong_size}
 use Rattle.wire.specs.Geometry.{count_of, block_length}
 use Rattle.wire.specs.Message.{kind, hashes_after}
-use Rattle.machine.specs.declared.state.Device.{Device}
 use Rattle.machine.specs.declared.state.Stage.{Stage}
 use Rattle.device.specs.Fields.{device_of, Unrefused}
 use Rattle.device.specs.Inner.{updates, program_of, block_number_of, head_of}

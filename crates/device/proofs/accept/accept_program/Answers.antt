@@ -1,5 +1,4 @@
 use Rattle.machine.specs.Step.{accept_program}
-use borrow.Author.Rules.{rules}
 use Rattle.device.proofs.accept.accept_program.Goals as goal
 
 pub returns : goal.returns

@@ -5,7 +5,6 @@ use Rattle.wire.specs.Geometry.{count_of}
 use Rattle.wire.proofs.SizeLaws.{sized}
 use Rattle.wire.proofs.GeometryLaws.{before-is}
 use Rattle.machine.specs.Step.{stage_after}
-use borrow.Author.Rules.{rules}
 use Rattle.device.proofs.accept.advance.Goals as goal
 
 pub advance-requires : goal.advance-requires

@@ -1,5 +1,4 @@
 use Rattle.device.specs.Inner.{block_number_of, head_of}
-use borrow.Author.Rules.{rules}
 use Rattle.device.proofs.accept.number_of.Goals as goal
 
 pub update_number-requires : goal.update_number-requires

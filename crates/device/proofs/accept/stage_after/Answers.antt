@@ -1,5 +1,4 @@
 use Rattle.device.proofs.AcceptLaws.{goes_on, ends}
-use borrow.Author.Rules.{rules}
 use Rattle.device.proofs.accept.stage_after.Goals as goal
 
 pub returns-then-number-n : goal.returns-then-number-n

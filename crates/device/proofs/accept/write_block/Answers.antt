@@ -1,6 +1,5 @@
 use mathlib.Core.Path.{◌∙◌}
 use Rattle.wire.proofs.GeometryLaws.{before-is, with-copied}
-use borrow.Author.Rules.{rules}
 use Rattle.device.proofs.accept.write_block.Goals as goal
 
 pub returns : goal.returns

@@ -1,11 +1,9 @@
-use Rattle.std.proofs.Common.{◌≡◌, ℕ, List, [], Bool, false, sym, ◌∙◌}
+use Rattle.std.proofs.Common.{◌≡◌, ℕ, List, [], false, sym, ◌∙◌}
 use Rattle.sha256.specs.Sha256.{digest}
 use Rattle.wire.specs.declared.refusal.Refusal.{Refusal}
 use Rattle.wire.specs.declared.refusal.Refusal.TheVariants as refusal
-use Rattle.wire.specs.declared.manifest.Manifest.{Manifest}
 use Rattle.machine.specs.declared.state.Device.{Device}
-use Rattle.machine.specs.declared.state.Stage.{Stage}
-use Rattle.machine.specs.Refusals.{senseless, not_complete, too_small, lacks_root}
+use Rattle.machine.specs.Refusals.{senseless, not_complete, too_small}
 use Rattle.machine.specs.BootCheck.{of_boot, boot_check}
 use Rattle.machine.proofs.RefusalLaws.{behind, Passes, start, ◌past◌}
 use Rattle.machine.proofs.SenseLaws.{not-complete, complete-size}

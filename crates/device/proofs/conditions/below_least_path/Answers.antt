@@ -3,7 +3,6 @@ use lib.Dec.{ltb}
 use lib.ListN.{length}
 use Rattle.wire.specs.Geometry.{count_of}
 use Rattle.wire.proofs.SizeLaws.{inside}
-use borrow.Author.Rules.{rules}
 use Rattle.device.proofs.conditions.below_least_path.Goals as goal
 
 pub least_path-requires : goal.least_path-requires

@@ -3,7 +3,6 @@ use lib.Dec.{ltb}
 use lib.ListN.{length}
 use Rattle.wire.specs.Geometry.{count_of}
 use Rattle.wire.proofs.SizeLaws.{inside}
-use borrow.Author.Rules.{rules}
 use Rattle.device.proofs.conditions.below_least_update.Goals as goal
 
 pub least_update-requires : goal.least_update-requires

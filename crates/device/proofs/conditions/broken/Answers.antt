@@ -1,5 +1,4 @@
 use mathlib.Core.Path.{sym, ◌∙◌}
-use borrow.Author.Rules.{rules}
 use Rattle.device.proofs.conditions.broken.Goals as goal
 
 pub returns-then-wrong_version : goal.returns-then-wrong_version

@@ -12,7 +12,6 @@ use Rattle.wire.proofs.SizeLaws.{sized, inside}
 use Rattle.wire.proofs.GeometryLaws.{block-length-few}
 use Rattle.machine.specs.Refusals.{too_small}
 use Rattle.device.proofs.ConditionLaws.{rest-fits, lacks-is, whole-cost}
-use borrow.Author.Rules.{rules}
 use Rattle.device.proofs.conditions.compare_with.Goals as goal
 
 pub slice_bounds-root_with-end : goal.slice_bounds-root_with-end

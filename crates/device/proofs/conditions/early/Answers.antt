@@ -1,6 +1,5 @@
 use mathlib.Core.Path.{sym, ◌∙◌}
 use Rattle.device.specs.Inner.{early}
-use borrow.Author.Rules.{rules}
 use Rattle.device.proofs.conditions.early.Goals as goal
 
 pub returns-then-updates : goal.returns-then-updates

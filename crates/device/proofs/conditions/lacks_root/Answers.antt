@@ -14,7 +14,6 @@ use Rattle.wire.specs.Geometry.{blocks_of, tree_over}
 use Rattle.wire.proofs.SizeLaws.{sized}
 use Rattle.machine.specs.Refusals.{too_small, lacks_root}
 use Rattle.device.proofs.ConditionLaws.{rest-fits}
-use borrow.Author.Rules.{rules}
 use Rattle.device.proofs.conditions.lacks_root.Goals as goal
 
 pub slice_bounds-root-end : goal.slice_bounds-root-end

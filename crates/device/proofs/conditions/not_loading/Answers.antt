@@ -1,5 +1,4 @@
 use Rattle.machine.specs.Refusals.{not_loading}
-use borrow.Author.Rules.{rules}
 use Rattle.device.proofs.conditions.not_loading.Goals as goal
 
 pub returns-in-Idle : goal.returns-in-Idle

@@ -1,6 +1,5 @@
 use Rattle.machine.specs.Refusals.{not_newer}
 use Rattle.device.proofs.ConditionLaws.{not-above}
-use borrow.Author.Rules.{rules}
 use Rattle.device.proofs.conditions.not_newer.Goals as goal
 
 pub returns : goal.returns

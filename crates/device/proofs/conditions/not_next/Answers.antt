@@ -1,5 +1,4 @@
 use Rattle.machine.specs.Refusals.{not_next}
-use borrow.Author.Rules.{rules}
 use Rattle.device.proofs.conditions.not_next.Goals as goal
 
 pub returns : goal.returns

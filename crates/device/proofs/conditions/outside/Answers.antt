@@ -1,6 +1,5 @@
 use mathlib.Core.Path.{ap, ◌∙◌}
 use Rattle.wire.specs.Size.{outside}
-use borrow.Author.Rules.{rules}
 use Rattle.device.proofs.conditions.outside.Goals as goal
 
 pub returns : goal.returns

@@ -1,7 +1,6 @@
 use mathlib.Core.Path.{sym, ◌∙◌}
 use Rattle.wire.proofs.SizeLaws.{or-false}
 use Rattle.machine.specs.Refusals.{wrong_version, senseless}
-use borrow.Author.Rules.{rules}
 use Rattle.device.proofs.conditions.senseless.Goals as goal
 
 pub returns-then-broken : goal.returns-then-broken

@@ -1,5 +1,4 @@
 use Rattle.device.proofs.ConditionLaws.{spent-known}
-use borrow.Author.Rules.{rules}
 use Rattle.device.proofs.conditions.spent.Goals as goal
 
 pub returns : goal.returns

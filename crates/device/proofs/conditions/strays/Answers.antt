@@ -16,7 +16,6 @@ use Rattle.merkle.specs.Held.{hashes_in}
 use Rattle.wire.proofs.SizeLaws.{inside}
 use Rattle.wire.proofs.GeometryLaws.{before-is}
 use Rattle.machine.specs.Refusals.{strays}
-use borrow.Author.Rules.{rules}
 use Rattle.device.proofs.conditions.strays.Goals as goal
 
 pub overflow_sub-number : goal.overflow_sub-number

@@ -1,6 +1,5 @@
 use mathlib.Core.Path.{refl}
 use Rattle.machine.specs.Refusals.{too_small}
-use borrow.Author.Rules.{rules}
 use Rattle.device.proofs.conditions.too_small.Goals as goal
 
 pub returns : goal.returns

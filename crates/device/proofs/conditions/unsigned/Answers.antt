@@ -1,7 +1,6 @@
 use mathlib.Core.Path.{ap}
 use mathlib.Core.Bool.{not}
 use Rattle.machine.specs.Refusals.{unsigned}
-use borrow.Author.Rules.{rules}
 use Rattle.device.proofs.conditions.unsigned.Goals as goal
 
 pub returns : goal.returns

@@ -4,7 +4,6 @@ use lib.Dec.{eqb}
 use lib.ListN.{length}
 use Rattle.wire.specs.Geometry.{count_of}
 use Rattle.machine.specs.Refusals.{wrong_length}
-use borrow.Author.Rules.{rules}
 use Rattle.device.proofs.conditions.wrong_length.Goals as goal
 
 pub due_len-requires : goal.due_len-requires

@@ -1,10 +1,6 @@
-use Rattle.std.proofs.Common.{◌≡◌, false, true≢false, arith, sym, ◌∙◌}
-use mathlib.Core.Logic.{◌⊎◌, inl, inr}
+use Rattle.std.proofs.Common.{true≢false, arith, sym, ◌∙◌}
 use Rattle.sha256.specs.Sha256.{digest}
 use Rattle.lms.specs.Lms.{valid}
-use Rattle.wire.specs.declared.kind.Kind.{Kind}
-use Rattle.wire.specs.declared.kind.Kind.TheVariants.{Block, Unknown}
-use Rattle.wire.specs.Message.{carries}
 use Rattle.machine.specs.Refusals.{of_kind}
 use Rattle.machine.proofs.RefusalLaws.{answer-none}
 use Rattle.device.specs.Fields.{device_of}

@@ -6,7 +6,6 @@ use Rattle.merkle.specs.Blocks.{block_count}
 use Rattle.wire.specs.Geometry.{count_of}
 use Rattle.wire.proofs.GeometryLaws.{before-is}
 use Rattle.machine.specs.Readers.{accepted_blocks}
-use borrow.Author.Rules.{rules}
 use Rattle.device.proofs.readers.accepted_blocks.Goals as goal
 
 no_length : (L T : ℕ) → L ≡ 0 → 0 ≡ block_count L T

@@ -1,6 +1,5 @@
 use mathlib.Core.Path.{sym, ap, ◌∙◌}
 use Rattle.machine.specs.Readers.{number_of}
-use borrow.Author.Rules.{rules}
 use Rattle.device.proofs.readers.answer_number.Goals as goal
 
 pub returns-in-Refused : goal.returns-in-Refused

@@ -1,5 +1,4 @@
 use Rattle.machine.specs.Device.{next_of}
-use borrow.Author.Rules.{rules}
 use Rattle.device.proofs.readers.next_of.Goals as goal
 
 pub returns-in-Idle : goal.returns-in-Idle

@@ -1,5 +1,4 @@
 use Rattle.machine.specs.Device.{serial_of}
-use borrow.Author.Rules.{rules}
 use Rattle.device.proofs.readers.serial_of.Goals as goal
 
 pub returns-in-Idle : goal.returns-in-Idle

@@ -1,5 +1,4 @@
 use Rattle.device.specs.Inner.{updates}
-use borrow.Author.Rules.{rules}
 use Rattle.device.proofs.readers.updates.Goals as goal
 
 pub returns-in-Program : goal.returns-in-Program
