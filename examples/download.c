@@ -2,8 +2,8 @@
  * by block, each with a budget of SHA-256 compressions, then a new last one. Before the last block of the download somebody swaps the board (19), and after it
  * a byte changes: the boot check tells.
  *
- *     rt staticlib capi
- *     gcc -Wall -Wextra -Werror -Iinclude -o target/download examples/download.c target/staticlib/libcapi.a
+ *     (cd crates/capi && rt lib) && mkdir -p target
+ *     gcc -Wall -Wextra -Werror -Iinclude -o target/download examples/download.c crates/capi/out/libcapi.a
  *
  * The key and the signatures are samples. In the field a manifest is signed by whoever holds the key's secret part. */
 #include "lertxuno.h"
