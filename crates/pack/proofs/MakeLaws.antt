@@ -8,7 +8,7 @@ use lib.Dec.{ltb}
 use lib.ListN.{length}
 use lib.Seq.{length-take-le}
 use borrow.Author.Tests.{ltb-false}
-use Rattle.io.specs.Counts.{IsPrefixLen}
+use Rattle.streams.specs.Counts.{IsPrefixLen}
 use Rattle.sha256.specs.Sha256.{digest}
 use Rattle.wire.specs.Refusal.{first_that_applies}
 use Rattle.wire.specs.Size.{wrong_size}
