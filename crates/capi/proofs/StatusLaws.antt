@@ -1,6 +1,6 @@
 -- What is read off a state's bytes, from what the code finds in them.
 use mathlib.Core.Path.{◌≡◌, refl, sym, ap, ◌∙◌}
-use mathlib.Core.Logic.{◌⊎◌, ⊎_elim}
+use mathlib.Core.Logic.{◌⊎◌, inl, inr, ⊎_elim}
 use mathlib.Core.Bool.{Bool, true, false, cond}
 use mathlib.Core.List.{List}
 use mathlib.Core.Option.{Option, none, some}
@@ -88,6 +88,12 @@ module _ (b : List ℕ) where
       go : (y : Bool) → cond y Nothing (At t) ≡ stage_read_of (cond y none (some (device_in b t)))
       go true = refl
       go false = refl
+
+-- a stage that is not Loading is one of the other two
+pub other : (t : Stage) → ((i : ℕ) → t ≡ Loading i → ⊥) → (tag_of the_type t ≡ 0) ⊎ (tag_of the_type t ≡ 2)
+other Idle h = inl refl
+other (Loading i) h = absurd (h i refl)
+other Complete h = inr refl
 
 -- What the functions for C leave.
 module _ (b out : List ℕ) where

@@ -1,0 +1,7 @@
+use mathlib.Core.Path.{ap, ◌∙◌}
+use Rattle.capi.specs.State.{encode}
+use borrow.Author.Rules.{rules}
+use Rattle.capi.proofs.lertxuno_fresh.Goals as goal
+
+pub returns : goal.returns
+returns c = c.to_bytes-bytes.ensures ∙ ap encode c.fresh.ensures

@@ -1,0 +1,6 @@
+use Rattle.sender.proofs.SendLaws.{told}
+use borrow.Author.Rules.{rules}
+use Rattle.capi.proofs.lertxuno_manifest.Goals as goal
+
+pub returns : goal.returns
+returns c = told c.manifest-sent.ensures c.report.ensures

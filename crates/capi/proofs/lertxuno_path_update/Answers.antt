@@ -1,0 +1,6 @@
+use Rattle.sender.proofs.SendLaws.{told}
+use borrow.Author.Rules.{rules}
+use Rattle.capi.proofs.lertxuno_path_update.Goals as goal
+
+pub returns : goal.returns
+returns c = told c.path_update-sent.ensures c.report.ensures
