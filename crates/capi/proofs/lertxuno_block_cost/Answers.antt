@@ -12,7 +12,6 @@ use Rattle.capi.specs.declared.state.StageRead.TheVariants.{At}
 use Rattle.capi.specs.StageRead.{stage_read_of}
 use Rattle.capi.specs.Status.{sensible}
 use Rattle.capi.proofs.StatusLaws.{Sense, no-sense, makes-sense, awaited, due-refused, none-due, due-written, other}
-use borrow.Author.Rules.{rules}
 use Rattle.capi.proofs.lertxuno_block_cost.Goals as goal
 
 -- a block is due

@@ -1,7 +1,6 @@
 use mathlib.Core.Path.{refl, ◌∙◌}
 use Rattle.capi.proofs.StateLaws.{device-is}
 use Rattle.capi.proofs.CallLaws.{none-boot-check, length-stage-read, checked}
-use borrow.Author.Rules.{rules}
 use Rattle.capi.proofs.lertxuno_boot_check.Goals as goal
 
 pub returns-in_default : goal.returns-in_default

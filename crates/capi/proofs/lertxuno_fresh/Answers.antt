@@ -1,6 +1,5 @@
 use mathlib.Core.Path.{ap, ◌∙◌}
 use Rattle.capi.specs.State.{encode}
-use borrow.Author.Rules.{rules}
 use Rattle.capi.proofs.lertxuno_fresh.Goals as goal
 
 pub returns : goal.returns

@@ -2,7 +2,6 @@ use mathlib.Core.Path.{sym, ap, ◌∙◌}
 use Prim.Native.Nat.{ℕ}
 use Rattle.ihex.specs.declared.reading.TextAnswer.{TextAnswer}
 use Rattle.capi.specs.Call.{IhexOutcome, ihex_outcome, read_text}
-use borrow.Author.Rules.{rules}
 use Rattle.capi.proofs.lertxuno_ihex.Goals as goal
 
 pub returns-in-Read : goal.returns-in-Read

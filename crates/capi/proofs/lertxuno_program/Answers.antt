@@ -1,5 +1,4 @@
 use Rattle.sender.proofs.SendLaws.{told}
-use borrow.Author.Rules.{rules}
 use Rattle.capi.proofs.lertxuno_program.Goals as goal
 
 pub returns : goal.returns

@@ -4,7 +4,6 @@ use Rattle.machine.specs.Refusals.{senseless}
 use Rattle.capi.specs.Status.{status_of}
 use Rattle.capi.proofs.StateLaws.{device-is}
 use Rattle.capi.proofs.StatusLaws.{no-sense, makes-sense, status-refused, status-is}
-use borrow.Author.Rules.{rules}
 use Rattle.capi.proofs.lertxuno_status.Goals as goal
 
 pub returns-in_default : goal.returns-in_default

@@ -1,6 +1,5 @@
 use mathlib.Core.Path.{sym}
 use Rattle.capi.specs.Call.{verdict}
-use borrow.Author.Rules.{rules}
 use Rattle.capi.proofs.lertxuno_verify.Goals as goal
 
 pub returns-then-verify : goal.returns-then-verify

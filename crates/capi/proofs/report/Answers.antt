@@ -1,7 +1,6 @@
 use mathlib.Core.Path.{sym, ap, ◌∙◌}
 use Prim.Native.Nat.{ℕ}
 use Rattle.capi.specs.Call.{LengthOutcome, length_outcome}
-use borrow.Author.Rules.{rules}
 use Rattle.capi.proofs.report.Goals as goal
 
 pub returns-in-Refused : goal.returns-in-Refused

@@ -5,7 +5,6 @@ use Rattle.octets.specs.Octets.{part}
 use Rattle.octets.proofs.CopyLaws.{length_part, paste-whole}
 use Rattle.lms.specs.Lms.{key_length}
 use Rattle.capi.specs.State.{key_at}
-use borrow.Author.Rules.{rules}
 use Rattle.capi.proofs.state.key_in.Goals as goal
 
 pub returns : goal.returns

@@ -6,7 +6,6 @@ use Rattle.octets.proofs.NumberLaws.{length-bytes}
 use Rattle.octets.proofs.JoinedLaws.{copied-over, copy, none}
 use Rattle.wire.specs.Manifest.{manifest_length}
 use Rattle.capi.proofs.StateLaws.{progress_lengths}
-use borrow.Author.Rules.{rules}
 use Rattle.capi.proofs.state.put_progress.Goals as goal
 
 pub returns : goal.returns

@@ -2,7 +2,6 @@ use mathlib.Core.Path.{sym, ◌∙◌}
 use Rattle.capi.specs.StageRead.{stage_read_of}
 use Rattle.capi.proofs.CallLaws.{stage-read-none, length-stage-read}
 use Rattle.capi.proofs.StatusLaws.{sensible-none, tested}
-use borrow.Author.Rules.{rules}
 use Rattle.capi.proofs.state.sensible_in.Goals as goal
 
 pub returns-in_default : goal.returns-in_default

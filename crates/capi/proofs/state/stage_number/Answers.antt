@@ -1,5 +1,4 @@
 use Rattle.capi.specs.State.{stage_number}
-use borrow.Author.Rules.{rules}
 use Rattle.capi.proofs.state.stage_number.Goals as goal
 
 pub returns-in-Idle : goal.returns-in-Idle

@@ -5,7 +5,6 @@ use Rattle.capi.specs.State.{stage_number}
 use Rattle.capi.specs.Status.{unless_idle, status_of}
 use Rattle.machine.proofs.RefusalLaws.{loading}
 use Rattle.machine.proofs.SenseLaws.{complete-size}
-use borrow.Author.Rules.{rules}
 use Rattle.capi.proofs.status.status_of.Goals as goal
 
 pub with_manifest-requires : goal.with_manifest-requires

@@ -1,7 +1,6 @@
 use native.Mathlib.Omega.{arith}
 use Rattle.wire.specs.Geometry.{count_of}
 use Rattle.wire.proofs.SizeLaws.{sized}
-use borrow.Author.Rules.{rules}
 use Rattle.capi.proofs.status.with_manifest.Goals as goal
 
 pub block_count-count-requires : goal.block_count-count-requires
