@@ -177,7 +177,8 @@ pub extern "C" fn lertxuno_fresh(model: u32, key: &[u8; lms::KEY_LEN], state: &m
 }
 
 // The device takes a message, with a budget of compressions; what an accepted one reports is written to `compressions`. The hashes stay in the state's bytes: by
-// value they would be copied on the stack.
+// value they would be copied on the stack. Out of line of the wrapper that C calls: its code has some 700 bytes more within that.
+#[inline(never)]
 #[unsafe(no_mangle)]
 pub extern "C" fn lertxuno_receive(
     state: &mut [u8],

@@ -57,3 +57,6 @@ table2-outside type n =
       ne_eqb type 8 (λ e. n (omega arith) (omega arith)),
       ne_eqb type 9 (λ e. n (omega arith) (omega arith)),
     )
+
+-- what is known within the table, for the search
+pub ruleset inside = (table2-inside)

@@ -37,6 +37,7 @@ pub fn ots_type(number: u32) -> OtsType
 }
 
 // The height of a tree type, by table 2.
+#[tactic(auto, using(crate::proofs::TableLaws::inside))]
 pub fn tree_type(number: u32) -> TreeType
     ensures { height_of result ≡ table2 number }
 {

@@ -18,7 +18,9 @@ pub use padding::compressions;
 use padding::concatenated;
 
 // The digest of a message, put to a place that the caller has: a result by value would stand on the stack twice. The answer is the number of compressions that it
-// took. The whole blocks are compressed where they lie, and one block is the place for what follows them, with its padding.
+// took. The whole blocks are compressed where they lie, and one block is the place for what follows them, with its padding. Out of line: written out in the
+// recursion of a tree its arrays would stand on the stack once for each level.
+#[inline(never)]
 pub fn digest(message: &[u8], out: &mut [u8; 32]) -> usize
     ensures { (out.new ≡ spec.digest message.now) × (result ≡ spec.compressions message.now) }
 {
