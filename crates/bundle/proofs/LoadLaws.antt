@@ -14,9 +14,8 @@ use Rattle.decimal.proofs.AppendedLaws.{length-kept, retold, joined}
 use Rattle.lms.specs.Lms.{key_length}
 use Rattle.wire.specs.declared.refusal.Refusal.TheVariants.{Area}
 use Rattle.wire.specs.Message.{at_start}
-use Rattle.sender.specs.declared.send.Sent.{Sent}
-use Rattle.sender.specs.declared.send.Sent.TheVariants as sent
-use Rattle.sender.specs.Send.{length_of}
+use Rattle.sender.specs.Send as sent
+use Rattle.sender.specs.Send.{Sent}
 use Rattle.machine.specs.declared.state.Device.{Device}
 use Rattle.machine.specs.Device.{fresh_with}
 use Rattle.bundle.specs.Text.{bundle_line, state_line}
@@ -48,33 +47,30 @@ module _ (key bundle flash : List ℕ) where
 module _ (key bundle flash out : List ℕ) where
   -- what the contract of `load` says
   abbrev Loads : Sent → (flash' out' : List ℕ) → Type 0
-  Loads r flash' out' = (load key bundle flash out ≡ record { answer = r; flash = flash'; out = out' }) × (length_of r ≤ length out')
+  Loads r flash' out' = load key bundle flash out ≡ record { answer = r; flash = flash'; out = out' }
 
   pub load-short : length out < output_room → Loads (sent.Refused Area) flash out
   unfolding load
-  load-short h = (rw (lt-ltb (length out) output_room h, load), omega arith)
+  load-short h = rw (lt-ltb (length out) output_room h, load)
 
   -- a text that is all written
-  told : output_room ≤ length out → {p : Printed} {out' : List ℕ} {r : ℕ} → printed_for key bundle flash ≡ p → Appended out 0 out' r p.text → r ≤ length out
-      → Loads (sent.Written r) p.flash out'
+  told : output_room ≤ length out → {p : Printed} {out' : List ℕ} {r : ℕ} → printed_for key bundle flash ≡ p → Appended out 0 out' r p.text → Loads (sent.Written r) p.flash out'
   unfolding load
-  told h {p} {out'} {r} e w small =
+  told h {p} {out'} {r} e w =
       let whole : load key bundle flash out
       ≡ (let q = printed_for key bundle flash in record { answer = sent.Written (length q.text); flash = q.flash; out = at_start q.text out }) =
       rw (le-ltb (length out) output_room h, load) in
-      let n : length p.text ≡ r = omega (arith, w.end) in (
-        whole
-            ∙ ap (λ (q : Printed). record { answer = sent.Written (length q.text); flash = q.flash; out = at_start q.text out }) e
-            ∙ ap₂ {C = LoadOutcome} (λ (x : ℕ) (y : List ℕ). record { answer = sent.Written x; flash = p.flash; out = y }) n (sym (w.bytes ∙ paste-front out p.text (length p.text) refl)),
-        omega (arith, length-kept w (omega arith)),
-      )
+      let n : length p.text ≡ r = omega (arith, w.end) in
+      whole
+      ∙ ap (λ (q : Printed). record { answer = sent.Written (length q.text); flash = q.flash; out = at_start q.text out }) e
+      ∙ ap₂ {C = LoadOutcome} (λ (x : ℕ) (y : List ℕ). record { answer = sent.Written x; flash = p.flash; out = y }) n (sym (w.bytes ∙ paste-front out p.text (length p.text) refl))
 
   module _ (room : output_room ≤ length out) {out' : List ℕ} {r : ℕ} where
     pub load-key : (length key ≡ key_file_length → ⊥) → Appended out 0 out' r (ascii "key\n") → Loads (sent.Written r) flash out'
-    load-key h w = told room (key-alone key bundle flash h ∙ before-stop (ascii "key\n") (device_for key) flash) w (omega (arith, w.end))
+    load-key h w = told room (key-alone key bundle flash h ∙ before-stop (ascii "key\n") (device_for key) flash) w
 
     pub load-over : length key ≡ key_file_length → max_bundle < length bundle → Appended out 0 out' r (ascii "bundle over\n") → Loads (sent.Written r) flash out'
-    load-over e h w = told room (over key bundle flash e h ∙ before-stop (ascii "bundle over\n") (device_for key) flash) w (omega (arith, w.end))
+    load-over e h w = told room (over key bundle flash e h ∙ before-stop (ascii "bundle over\n") (device_for key) flash) w
 
   pub load-all : output_room ≤ length out → length key ≡ key_file_length → length bundle ≤ max_bundle
       → {d d' : Device} {out₁ out₂ out₃ f : List ℕ} {a b r : ℕ} → d ≡ device_for key → Appended out 0 out₁ a (bundle_line (length bundle)) → length out₁ ≡ length out
@@ -88,4 +84,7 @@ module _ (key bundle flash out : List ℕ) where
       let rest : Appended out₁ a out₃ r (p.text ++ state_line p.device) = joined m.appended last (omega (arith, m.appended.end, last.end)) in
       let all : Appended out 0 out₃ r (t ++ (p.text ++ state_line p.device)) = joined w rest (omega (arith, w.end, rest.end)) in
       let is : printed_for key bundle flash ≡ t before with_state p = all-printed key bundle flash e h ∙ ap (λ (x : Device). t before with_state (messages x flash bundle)) (sym same) in
-      subst (λ (x : List ℕ). Loads (sent.Written r) x out₃) (sym m.flash) (told room is all small)
+      subst (λ (x : List ℕ). Loads (sent.Written r) x out₃) (sym m.flash) (told room is all)
+
+-- what `load` needs
+pub ruleset loading = (load-short, line-short)

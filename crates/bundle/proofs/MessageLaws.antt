@@ -2,7 +2,7 @@
 use mathlib.Core.Path.{◌≡◌, refl, sym, ap, ap₂, ◌∙◌}
 use mathlib.Core.Bool.{Bool, true, false, true≢false}
 use mathlib.Core.List.{List, ◌++◌}
-use mathlib.Core.Option.{Option, none, some}
+use Rattle.std.specs.Prelude.{Option, None, Some, is_err}
 use Prim.Native.Nat.{ℕ, ◌+◌, ◌-◌, ◌≤◌}
 use native.Mathlib.Omega.{arith}
 use lib.ListN.{length, take, drop}
@@ -21,7 +21,7 @@ use Rattle.wire.specs.Size.{wrong_size}
 use Rattle.wire.proofs.SizeLaws.{Sized, wrong-count}
 use Rattle.machine.specs.declared.state.Stage.TheVariants.{Idle}
 use Rattle.machine.specs.declared.state.Device.{Device}
-use Rattle.machine.specs.declared.state.Answer.TheVariants.{Accepted, Refused}
+use Rattle.machine.specs.Answer.{Accepted, Refused}
 use Rattle.machine.specs.Device.{Outcome}
 use Rattle.machine.specs.Refusals.{not_loading, not_complete}
 use Rattle.machine.specs.Step.{accept_program, accept, total, outcome, refusal_of, step}
@@ -42,7 +42,7 @@ abbrev size_of : Device → Bool
 size_of d = wrong_size d.manifest.block_len d.manifest.image_len
 
 module _ (d : Device) (flash m : List ℕ) (idle : d.stage ≡ Idle) where
-  by_kind : (k : Kind) → kind m ≡ k → refusal_of digest valid loader_budget d flash m ≡ none → size_of (accept k d flash m).device ≡ false
+  by_kind : (k : Kind) → kind m ≡ k → refusal_of digest valid loader_budget d flash m ≡ None → size_of (accept k d flash m).device ≡ false
   unfolding accept accept_program not_loading not_complete
   by_kind Program e q = size-right _ _ (program-passed digest valid d flash m loader_budget e q).size
   by_kind Block e q = absurd (true≢false (rw (idle, not_loading) at (block-passed digest valid d flash m loader_budget e q).loading))
@@ -59,9 +59,9 @@ module _ (d : Device) (flash m : List ℕ) (idle : d.stage ≡ Idle) where
       by-refusal r = outcome r loader_budget (total digest (kind m) d flash m) d flash (accept (kind m) d flash m)
 
       go : (r : Option Refusal) → refusal_of digest valid loader_budget d flash m ≡ r → size_of o.device ≡ false
-      go none q = let same : by-refusal none ≡ o = ap by-refusal (sym q) ∙ e in ap (λ (x : Outcome). size_of x.device) (sym same) ∙ by_kind (kind m) refl q
-      go (some x) q =
-          let same : by-refusal (some x) ≡ o = ap by-refusal (sym q) ∙ e in
+      go None q = let same : by-refusal None ≡ o = ap by-refusal (sym q) ∙ e in ap (λ (x : Outcome). size_of x.device) (sym same) ∙ by_kind (kind m) refl q
+      go (Some x) q =
+          let same : by-refusal (Some x) ≡ o = ap by-refusal (sym q) ∙ e in
           let other : Refused x ≡ o.answer = ap (λ (x : Outcome). x.answer) same in
           absurd (let z : ◌≡◌ {A = ℕ} 0 1 = cc in omega arith)
 
@@ -89,10 +89,10 @@ module _ (d : Device) (flash b : List ℕ) where
         ∙ ap₂ {C = Printed} (λ (x : Outcome) (f : List ℕ). after x (number_of x.answer) f) (sym q) z.front
         ∙ sym (with-program z.there)
 
-    pub ran-refused : {out out' : List ℕ} {at next : ℕ} → Appended out at out' next (slip_line answer) → (r : Refusal) → o.answer ≡ Refused r
+    pub ran-refused : {out out' : List ℕ} {at next : ℕ} → Appended out at out' next (slip_line answer) → is_err o.answer ≡ true
         → Ran (messages d flash b) out at out' next o.device o.flash
-    ran-refused w r e =
-        ran (sym (before-stop _ o.device o.flash) ∙ ap (λ (p : Printed). slip_line answer before p) (sym (if-refused o _ r e)) ∙ follows) w
+    ran-refused w e =
+        ran (sym (before-stop _ o.device o.flash) ∙ ap (λ (p : Printed). slip_line answer before p) (sym (if-refused o _ e)) ∙ follows) w
 
     pub ran_on : {out out' out'' f : List ℕ} {at next last : ℕ} {d' : Device} → Appended out at out' next (slip_line answer) → o.answer ≡ Accepted
         → Ran (blocks o.device o.flash (take start b)) out' next out'' last d' f

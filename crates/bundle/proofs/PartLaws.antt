@@ -2,40 +2,23 @@
 use mathlib.Core.Path.{◌≡◌, refl, sym, ap, ap₂, ◌∙◌}
 use mathlib.Core.Bool.{Bool, true, false, ◌||◌}
 use mathlib.Core.List.{List}
-use Prim.Native.Nat.{ℕ, ◌+◌, ◌-◌, ◌≤◌, ◌<◌}
+use Prim.Native.Nat.{ℕ, ◌-◌, ◌≤◌, ◌<◌}
 use native.Mathlib.Omega.{arith}
+use Rattle.std.specs.Prelude.{Option, None, Some, SomeIff}
 use lib.Dec.{ltb}
-use lib.ListN.{length, take, drop, length-drop, drop_of_length-le}
-use lib.Seq.{take_all, drop-drop}
+use lib.ListN.{length, take, drop}
 use borrow.Author.Tests.{lt-ltb, le-ltb, ltb-false}
 use Rattle.wire.proofs.SizeLaws.{or-false}
 use Rattle.octets.specs.Octets.{number, part}
-use Rattle.bundle.specs.declared.parts.Start.TheVariants.{At, Nowhere}
 use Rattle.bundle.specs.Parts.{trailer_length, trailer_at, distance, nowhere, program_at, program_in, before_program}
-use Rattle.bundle.specs.Steps.{start_of, MessageEnd}
-
--- the whole message is there, or the bytes end before it does
-pub end_whole : (b : List ℕ) (from len : ℕ) → from + len ≤ length b → MessageEnd b from len (from + len)
-end_whole b from len h =
-    let e : from + len - from ≡ len = omega arith in
-    record { after = omega arith; within = h; message = ap (λ (n : ℕ). take n (drop from b)) e; rest = sym (drop-drop len from b) }
-
-pub end_short : (b : List ℕ) (from len : ℕ) → from ≤ length b → length b ≤ from + len → MessageEnd b from len (length b)
-end_short b from len h g =
-    let l : length (drop from b) ≡ length b - from = length-drop from b in
-    record {
-      after = h;
-      within = omega arith;
-      message = take_all (length b - from) (drop from b) (omega arith) ∙ sym (take_all len (drop from b) (omega arith));
-      rest = drop_of_length-le b {i = length b} (omega arith) ∙ sym (drop_of_length-le (drop from b) {i = len} (omega arith));
-    }
+use Rattle.bundle.specs.Steps.{start_of}
 
 module _ (b : List ℕ) where
-  pub starts-nowhere : nowhere b ≡ true → Nowhere ≡ start_of b
+  pub starts-nowhere : nowhere b ≡ true → None ≡ start_of b
   unfolding start_of
   starts-nowhere e = rw (e, start_of)
 
-  pub starts-at : nowhere b ≡ false → At (program_at b) ≡ start_of b
+  pub starts-at : nowhere b ≡ false → Some (program_at b) ≡ start_of b
   unfolding start_of
   starts-at e = rw (e, start_of)
 
@@ -59,6 +42,15 @@ module _ (b : List ℕ) where
     unfolding program_at trailer_at distance
     program-at = ap (λ (x : ℕ). length b - trailer_length - x) e
 
+  -- the start, as the code works it out from the trailer's place t
+  pub starts : (t d : ℕ) (r : Option ℕ) → trailer_length ≤ length b → t ≡ length b - trailer_length → d ≡ number (part t trailer_length b) → SomeIff r (d ≤ t) (t - d) → r ≡ start_of b
+  starts t d (Some x) l e f s =
+      let k : d ≡ number (part (length b - trailer_length) trailer_length b) = rw e at f in
+      ap Some (s.1 ∙ rw e (program-at d l k)) ∙ starts-at (somewhere d l k (omega (arith, s.0)))
+  starts t d None l e f s =
+      let k : d ≡ number (part (length b - trailer_length) trailer_length b) = rw e at f in
+      starts-nowhere (nowhere-beyond d l k (omega (arith, s)))
+
   -- what the answer of `start_of` says
   pub record Somewhere (at : ℕ) : Type 0 where
     pub there : nowhere b ≡ false
@@ -68,7 +60,7 @@ module _ (b : List ℕ) where
     pub program : take (length b - trailer_length - at) (drop at b) ≡ program_in b
     pub front : take at b ≡ before_program b
 
-  pub nothing : start_of b ≡ Nowhere → nowhere b ≡ true
+  pub nothing : start_of b ≡ None → nowhere b ≡ true
   unfolding start_of
   nothing e = go (nowhere b) refl
     where
@@ -76,7 +68,7 @@ module _ (b : List ℕ) where
       go true q = q
       go false q = absurd (let x = starts-at q in let z : ◌≡◌ {A = ℕ} 0 1 = cc in omega arith)
 
-  pub found : (at : ℕ) → start_of b ≡ At at → Somewhere at
+  pub found : (at : ℕ) → start_of b ≡ Some at → Somewhere at
   unfolding nowhere trailer_at program_at program_in before_program
   found at e = go (nowhere b) refl
     where

@@ -1,10 +1,13 @@
 -- The loop over the block messages.
 use mathlib.Core.Path.{◌≡◌, refl, sym, ap, ap₂, ◌∙◌}
-use mathlib.Core.Bool.{false}
+use mathlib.Core.Bool.{false, true≢false}
 use mathlib.Core.List.{List, [], ◌++◌, append_assoc, append-nil}
-use Prim.Native.Nat.{ℕ, suc, ◌+◌, ◌-◌, ◌*◌, ◌≤◌, ◌<◌}
+use Prim.Native.Nat.{ℕ, suc, ◌+◌, ◌-◌, ◌*◌, min, ◌≤◌, ◌<◌}
 use native.Mathlib.Omega.{arith}
+use Rattle.std.specs.Prelude.{Ok, Err, true, is_err}
+use Rattle.std.proofs.lemmas.List.{take_min, drop_min}
 use lib.ListN.{length, take, drop, length-append}
+use Rattle.octets.proofs.CopyLaws.{part-from}
 use Rattle.decimal.specs.Decimal.{ascii}
 use Rattle.decimal.specs.Buffer.{Appended}
 use Rattle.decimal.proofs.AppendedLaws.{appended-none, length-kept, retold, joined}
@@ -16,15 +19,14 @@ use Rattle.wire.specs.Size.{wrong_size}
 use Rattle.wire.specs.Geometry.{count_of}
 use Rattle.wire.specs.Message.{due_length}
 use Rattle.wire.proofs.SizeLaws.{sized}
-use Rattle.wire.specs.declared.refusal.Refusal.{Refusal}
 use Rattle.machine.specs.declared.state.Device.{Device}
-use Rattle.machine.specs.declared.state.Answer.TheVariants.{Accepted, Refused}
+use Rattle.machine.specs.Answer.{Answer, Accepted}
 use Rattle.machine.specs.Device.{Outcome}
 use Rattle.machine.specs.Step.{step}
 use Rattle.machine.specs.Readers.{number_of}
 use Rattle.bundle.specs.Text.{block_line}
 use Rattle.bundle.specs.Load.{loader_budget, Printed, ◌before◌, stop, if_accepted, blocks_from, blocks}
-use Rattle.bundle.specs.Steps.{MessageEnd, Ran}
+use Rattle.bundle.specs.Steps.{Ran}
 use Rattle.bundle.proofs.TextLaws.{message-short}
 
 pub before-none : (p : Printed) → [] before p ≡ p
@@ -43,9 +45,18 @@ pub if-accepted : (o : Outcome) (p : Printed) → o.answer ≡ Accepted → if_a
 unfolding if_accepted
 if-accepted o p e = rw (e, if_accepted)
 
-pub if-refused : (o : Outcome) (p : Printed) (r : Refusal) → o.answer ≡ Refused r → if_accepted o p ≡ stop o.device o.flash
+pub if-refused : (o : Outcome) (p : Printed) → is_err o.answer ≡ true → if_accepted o p ≡ stop o.device o.flash
 unfolding if_accepted
-if-refused o p r e = rw (e, if_accepted)
+if-refused o p e = go o.answer refl e
+  where
+    go : (a : Answer) → o.answer ≡ a → is_err a ≡ true → if_accepted o p ≡ stop o.device o.flash
+    go (Ok t) q e = absurd (true≢false (sym e))
+    go (Err r) q e = rw (q, if_accepted)
+
+-- what the test of an answer says
+pub accepted : (a : Answer) → is_err a ≡ false → a ≡ Accepted
+accepted (Ok t) e = refl
+accepted (Err r) e = absurd (true≢false e)
 
 -- a run whose text is all written
 pub ran : {p : Printed} {out out' text f : List ℕ} {at next : ℕ} {d : Device} → record { text = text; device = d; flash = f } ≡ p → Appended out at out' next text → Ran p out at out' next d f
@@ -66,23 +77,21 @@ module _ (L T n : ℕ) where
 
   module _ (start : Device) (flash₀ bytes out₀ : List ℕ) (from : ℕ) where
     -- before message i: what is printed so far, and what follows, are the whole
-    pub record Looping (flash out : List ℕ) (d : Device) (at read i : ℕ) : Type 0 where
+    pub record Looping (flash out : List ℕ) (d : Device) (at : ℕ) (rest : List ℕ) (i : ℕ) : Type 0 where
       pub first : 0 < i
       pub last : i ≤ n + 1
-      pub inside : read ≤ length bytes
       pub size : length flash ≡ length flash₀
       pub text : List ℕ
       pub appended : Appended out₀ from out at text
       pub short : length text ≤ 15 * (i - 1)
-      pub whole : text before blocks_from L T (n + 1 - i) i d flash (drop read bytes) ≡ blocks_from L T n 1 start flash₀ bytes
+      pub whole : text before blocks_from L T (n + 1 - i) i d flash rest ≡ blocks_from L T n 1 start flash₀ bytes
 
-    pub looping-start : Looping flash₀ out₀ start from 0 1
+    pub looping-start : Looping flash₀ out₀ start from bytes 1
     looping-start =
         let e : n + 1 - 1 ≡ n = omega arith in
         record {
           first = omega arith;
           last = omega arith;
-          inside = omega arith;
           size = refl;
           text = [];
           appended = appended-none out₀ from;
@@ -90,25 +99,25 @@ module _ (L T n : ℕ) where
           whole = before-none _ ∙ ap (λ (k : ℕ). blocks_from L T k 1 start flash₀ bytes) e;
         }
 
-    pub looping-end : {flash out : List ℕ} {d : Device} {at read i : ℕ} → Looping flash out d at read i → n < i → n ≤ max_blocks
+    pub looping-end : {flash out : List ℕ} {d : Device} {at i : ℕ} {rest : List ℕ} → Looping flash out d at rest i → n < i → n ≤ max_blocks
         → Ran (blocks_from L T n 1 start flash₀ bytes) out₀ from out at d flash × (at ≤ from + 15 * max_blocks)
     unfolding blocks_from
-    looping-end {flash} {out} {d} {at} {read} {i} w h m =
+    looping-end {flash} {out} {d} {at} {i} {rest} w h m =
         let e : n + 1 - i ≡ 0 = omega (arith, w.last) in
         let all : w.text before stop d flash ≡ blocks_from L T n 1 start flash₀ bytes =
-        ap (λ (k : ℕ). w.text before blocks_from L T k i d flash (drop read bytes)) (sym e) ∙ w.whole in
+        ap (λ (k : ℕ). w.text before blocks_from L T k i d flash rest) (sym e) ∙ w.whole in
         (ran (sym (before-stop w.text d flash) ∙ all) w.appended, omega (arith, w.short, w.last, w.appended.end))
 
-    module _ {flash out : List ℕ} {d : Device} {at read i : ℕ} (w : Looping flash out d at read i) (h : i ≤ n + 1) (few : n ≤ max_blocks) (room : from + 15 * max_blocks ≤ length out₀) where
+    module _ {flash out rest : List ℕ} {d : Device} {at i : ℕ} (w : Looping flash out d at rest i) (h : i ≤ n + 1) (few : n ≤ max_blocks) (room : from + 15 * max_blocks ≤ length out₀) where
       pub out-kept : length out ≡ length out₀
       out-kept = length-kept w.appended (omega (arith, w.short))
 
       pub line-fits : (answer : ℕ) → i ≤ n → answer < 256 → at + length (block_line i answer) ≤ length out
       line-fits answer g small = omega (arith, out-kept, w.short, w.first, w.appended.end, message-short (ascii "block ") i answer (omega arith) (omega arith))
 
-    module _ {flash out out' : List ℕ} {d : Device} {at at' read i : ℕ} (w : Looping flash out d at read i) (h : i ≤ n) (few : n ≤ max_blocks)
-        (room : from + 15 * max_blocks ≤ length out₀) (o : Outcome) (len end : ℕ) (due : len ≡ due_length L T i) (ends : MessageEnd bytes read len end)
-        (done : step digest valid loader_budget d flash (take (end - read) (drop read bytes)) ≡ o) (answer : ℕ) (answer-is : answer ≡ number_of o.answer) (small : answer < 256)
+    module _ {flash out out' rest : List ℕ} {d : Device} {at at' i : ℕ} (w : Looping flash out d at rest i) (h : i ≤ n) (few : n ≤ max_blocks)
+        (room : from + 15 * max_blocks ≤ length out₀) (o : Outcome) (long len : ℕ) (is-due : long ≡ due_length L T i) (cut : len ≡ min long (length rest))
+        (done : step digest valid loader_budget d flash (take len rest) ≡ o) (answer : ℕ) (answer-is : answer ≡ number_of o.answer) (small : answer < 256)
         (v : Appended out at out' at' (block_line i answer)) where
       abbrev line : List ℕ
       line = block_line i answer
@@ -122,44 +131,47 @@ module _ (L T n : ℕ) where
       both-short : length (w.text ++ line) ≤ 15 * (i + 1 - 1)
       both-short = omega (arith, length-append w.text line, w.short, line-short, w.first)
 
-      follows : (w.text ++ line) before if_accepted o (blocks_from L T (n + 1 - (i + 1)) (i + 1) o.device o.flash (drop end bytes)) ≡ blocks_from L T n 1 start flash₀ bytes
+      due : len ≡ min (due_length L T i) (length rest)
+      due = cut ∙ ap (λ (k : ℕ). min k (length rest)) is-due
+
+      follows : (w.text ++ line) before if_accepted o (blocks_from L T (n + 1 - (i + 1)) (i + 1) o.device o.flash (drop len rest)) ≡ blocks_from L T n 1 start flash₀ bytes
       follows =
-          let b : List ℕ = drop read bytes in
-          let m : take (due_length L T i) b ≡ take (end - read) b = ap (λ (k : ℕ). take k b) (sym due) ∙ sym ends.message in
-          let r : drop (due_length L T i) b ≡ drop end bytes = ap (λ (k : ℕ). drop k b) (sym due) ∙ sym ends.rest in
-          let q : step digest valid loader_budget d flash (take (due_length L T i) b) ≡ o = ap (step digest valid loader_budget d flash) m ∙ done in
+          let m : take (due_length L T i) rest ≡ take len rest = sym (ap (λ (k : ℕ). take k rest) due ∙ take_min (due_length L T i) rest) in
+          let r : drop (due_length L T i) rest ≡ drop len rest = sym (ap (λ (k : ℕ). drop k rest) due ∙ drop_min (due_length L T i) rest) in
+          let q : step digest valid loader_budget d flash (take (due_length L T i) rest) ≡ o = ap (step digest valid loader_budget d flash) m ∙ done in
           let after : Outcome → ℕ → List ℕ → Printed = λ x y z. block_line i y before if_accepted x (blocks_from L T (n + 1 - (i + 1)) (i + 1) x.device x.flash z) in
           sym (before-both w.text line _)
           ∙ ap (λ (p : Printed). w.text before p)
-          (ap (λ (y : ℕ). after o y (drop end bytes)) answer-is
+          (ap (λ (y : ℕ). after o y (drop len rest)) answer-is
           ∙ ap₂ {C = Printed} (λ (x : Outcome) (z : List ℕ). after x (number_of x.answer) z) (sym q) (sym r)
-          ∙ sym (one_block i d flash b h))
+          ∙ sym (one_block i d flash rest h))
           ∙ w.whole
 
-      pub one_more : length o.flash ≡ length flash → o.answer ≡ Accepted → Looping o.flash out' o.device at' end (i + 1)
-      one_more same e =
+      pub one_more : {rest' : List ℕ} → rest' ≡ take (length rest - len) (drop len rest) → length o.flash ≡ length flash → o.answer ≡ Accepted → Looping o.flash out' o.device at' rest' (i + 1)
+      one_more r same e =
           record {
             first = omega arith;
             last = omega arith;
-            inside = ends.within;
             size = same ∙ w.size;
             text = w.text ++ line;
             appended = both;
             short = both-short;
-            whole = ap (λ (p : Printed). (w.text ++ line) before p) (sym (if-accepted o _ e)) ∙ follows;
+            whole =
+                ap (λ (b : List ℕ). (w.text ++ line) before blocks_from L T (n + 1 - (i + 1)) (i + 1) o.device o.flash b) (r ∙ part-from rest len)
+                ∙ ap (λ (p : Printed). (w.text ++ line) before p) (sym (if-accepted o _ e))
+                ∙ follows;
           }
 
-      pub stopped : (r : Refusal) → o.answer ≡ Refused r
-          → Ran (blocks_from L T n 1 start flash₀ bytes) out₀ from out' at' o.device o.flash × (at' ≤ from + 15 * max_blocks)
-      stopped r e = (
-        ran (sym (before-stop (w.text ++ line) o.device o.flash) ∙ ap (λ (p : Printed). (w.text ++ line) before p) (sym (if-refused o _ r e)) ∙ follows) both,
+      pub stopped : is_err o.answer ≡ true → Ran (blocks_from L T n 1 start flash₀ bytes) out₀ from out' at' o.device o.flash × (at' ≤ from + 15 * max_blocks)
+      stopped e = (
+        ran (sym (before-stop (w.text ++ line) o.device o.flash) ∙ ap (λ (p : Printed). (w.text ++ line) before p) (sym (if-refused o _ e)) ∙ follows) both,
         omega (arith, both-short, both.end),
       )
 
-pub all_blocks : (start : Device) (flash bytes : List ℕ) {n : ℕ} → n ≡ block_count start.manifest.block_len start.manifest.image_len
-    → blocks_from start.manifest.block_len start.manifest.image_len n 1 start flash bytes ≡ blocks start flash bytes
+pub all_blocks : (start : Device) (flash bytes : List ℕ) {L T n : ℕ} → L ≡ start.manifest.block_len → T ≡ start.manifest.image_len → n ≡ block_count L T
+    → blocks_from L T n 1 start flash bytes ≡ blocks start flash bytes
 unfolding blocks count_of
-all_blocks start flash bytes e = ap (λ (k : ℕ). blocks_from start.manifest.block_len start.manifest.image_len k 1 start flash bytes) e
+all_blocks start flash bytes eL eT e = rw (e, eL, eT) refl
 
 -- the same run, told in another way
 pub rerun : {p q : Printed} {out out' f : List ℕ} {at next : ℕ} {d : Device} → p ≡ q → Ran p out at out' next d f → Ran q out at out' next d f

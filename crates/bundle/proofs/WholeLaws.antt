@@ -2,7 +2,7 @@
 use mathlib.Core.Path.{◌≡◌, refl, sym, ap, ap₂, ◌∙◌, subst}
 use mathlib.Core.Bool.{false}
 use mathlib.Core.List.{List, [], ◌++◌, append_assoc, append-nil}
-use mathlib.Core.Option.{none}
+use Rattle.std.specs.Prelude.{None}
 use Prim.Native.Nat.{ℕ, zero, suc, ◌+◌, ◌-◌, ◌≤◌, ◌<◌}
 use native.Mathlib.Nat.{zero-add, mod-eq_of_lt}
 use native.Mathlib.Omega.{arith}
@@ -25,7 +25,7 @@ use Rattle.wire.specs.Message.{kind, due_length}
 use Rattle.wire.specs.Claims.{OfProgram}
 use Rattle.sender.specs.Job.{Job, count, manifest_for, program_for, block_for}
 use Rattle.machine.specs.declared.state.Device.{Device}
-use Rattle.machine.specs.declared.state.Answer.TheVariants.{Accepted}
+use Rattle.machine.specs.Answer.{Accepted}
 use Rattle.machine.specs.Device.{Fresh, fresh_with, serial_of, Situation, Outcome}
 use Rattle.machine.specs.Step.{accept, total, refusal_of, step}
 use Rattle.machine.specs.Readers.{accepted_blocks}
@@ -64,7 +64,7 @@ module _ (k : Kind) (d : Device) (flash m : List ℕ) where
   abbrev accepted_as : Outcome
   accepted_as = let t = accept k d flash m in record { answer = Accepted; compressions = total digest k d flash m; budget = loader_budget; device = t.device; flash = t.flash }
 
-  accepted-as : kind m ≡ k → refusal_of digest valid loader_budget d flash m ≡ none → step digest valid loader_budget d flash m ≡ accepted_as
+  accepted-as : kind m ≡ k → refusal_of digest valid loader_budget d flash m ≡ None → step digest valid loader_budget d flash m ≡ accepted_as
   accepted-as e a = rw e at (accepted-step digest valid loader_budget d flash m a)
 
 module _ (job : Job) (ok : Sendable job) (old : List ℕ) where
@@ -158,7 +158,7 @@ module _ (key flash : List ℕ) (job : Job) (filler signature : List ℕ) (h : L
   unfolding device_for fresh_with serial_of
   newer = h.serial
 
-  none-applies : refusal_of digest valid loader_budget d flash program ≡ none
+  none-applies : refusal_of digest valid loader_budget d flash program ≡ None
   none-applies = program-accepted digest length-digest valid job ok signature d flash (sense-idle d fresh.idle) h.model newer h.room h.signed loader_budget
 
   is-sent : OfProgram (manifest_for digest job) signature program

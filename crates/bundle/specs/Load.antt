@@ -1,5 +1,5 @@
 -- What the loader does with key.bin and bundle.bin (01, 'Bundle and loader'): the text that it prints, and the flash that it leaves.
-use Rattle.std.specs.Prelude.{cond, not, List, [], ◌++◌, ℕ, zero, suc, ◌+◌, eqb, ltb, length, take, drop}
+use Rattle.std.specs.Prelude.{cond, not, Ok, Err, List, [], ◌++◌, ℕ, zero, suc, ◌+◌, eqb, ltb, length, take, drop}
 use Rattle.octets.specs.Octets.{number, part}
 use Rattle.decimal.specs.Decimal.{ascii}
 use Rattle.sha256.specs.Sha256.{digest}
@@ -8,10 +8,9 @@ use Rattle.merkle.specs.Cost.{most_cost}
 use Rattle.wire.specs.Geometry.{count_of}
 use Rattle.wire.specs.declared.refusal.Refusal.TheVariants.{Area}
 use Rattle.wire.specs.Message.{due_length, at_start}
-use Rattle.sender.specs.declared.send.Sent.{Sent}
-use Rattle.sender.specs.declared.send.Sent.TheVariants as sent
+use Rattle.sender.specs.Send as sent
+use Rattle.sender.specs.Send.{Sent}
 use Rattle.machine.specs.declared.state.Device.{Device}
-use Rattle.machine.specs.declared.state.Answer.TheVariants.{Accepted, Refused}
 use Rattle.machine.specs.Device.{fresh_with, Outcome}
 use Rattle.machine.specs.Step.{step}
 use Rattle.machine.specs.Readers.{number_of}
@@ -51,7 +50,7 @@ stop d flash = record { text = []; device = d; flash = flash }
 
 -- "until one is refused or all are accepted": what follows after an outcome
 unfoldable pub if_accepted : Outcome → Printed → Printed
-if_accepted o then = elim o.answer [ Accepted ↦ then | Refused r ↦ stop o.device o.flash ]
+if_accepted o then = elim o.answer [ Ok t ↦ then | Err r ↦ stop o.device o.flash ]
 
 -- `left` block messages, from number i on, of an image of T bytes in blocks of L; bytes are those left before the kind 1 message.
 -- "Each block message is cut at its due length, or at the bytes left before the slip." "`block` and the number due, then 0 if accepted or the refusal number"

@@ -6,15 +6,13 @@ mod parts;
 mod run;
 mod text;
 
-ghost use Rattle.std.specs.Prelude.{◌≡◌, length, take, ◌≤◌};
-ghost use Rattle.lms.specs.Lms.{key_length};
+ghost use Rattle.std.specs.Prelude.{◌≡◌, length, ◌≤◌};
 ghost use Rattle.sender.specs.Send.{length_of};
 ghost use Rattle.bundle.specs.Load as spec;
 
-use decimal::{put, put_line};
+use decimal::Output;
 use lms::KEY_LEN;
 pub use packing::{pack, sent_len};
-use sender::Sent;
 use text::put_state;
 use wire::Refusal;
 
@@ -27,34 +25,31 @@ pub const OUT_LEN: usize = 65536;
 // The bytes of key.bin: a key, and a model's four bytes.
 pub const KEY_FILE_LEN: usize = KEY_LEN + 4;
 
-// The key: the first bytes of key.bin.
-fn key_of(key: &[u8]) -> [u8; KEY_LEN]
-    requires { key_length ≤ length key.now }
-    ensures { result ≡ take key_length key.now }
-{
-    let mut r = [0u8; KEY_LEN];
-    octets::copy(&mut r, 0, &key[..KEY_LEN]);
-    r
-}
-
 // Loads the bundle into the flash, puts the output at the start of `out` and answers its length. Does nothing and refuses 8 where `out` has not
 // OUT_LEN bytes. `key` is the content of key.bin, `bundle` that of bundle.bin or, of a longer one, more than BUNDLE_LEN bytes of it.
-pub fn load(key: &[u8], bundle: &[u8], flash: &mut [u8], out: &mut [u8]) -> Sent
+#[tactic(auto, using(crate::proofs::LoadLaws::loading))]
+pub fn load(key: &[u8], bundle: &[u8], flash: &mut [u8], out: &mut [u8]) -> Result<usize, Refusal>
     ensures out_value { spec.load key.now bundle.now flash.old out.old ≡ record { answer = result; flash = flash.new; out = out.new } }
     ensures result_in_bounds { length_of result ≤ length out.new }
 {
     if out.len() < OUT_LEN {
-        return Sent::Refused(Refusal::Area);
+        return Err(Refusal::Area);
     }
+    let mut output = Output {
+        buffer: out,
+        end: 0,
+    };
     if key.len() != KEY_FILE_LEN {
-        return Sent::Written(put(out, 0, b"key\n"));
+        output.put(b"key\n");
+        return Ok(output.end);
     }
     if BUNDLE_LEN < bundle.len() {
-        return Sent::Written(put(out, 0, b"bundle over\n"));
+        output.put(b"bundle over\n");
+        return Ok(output.end);
     }
-    let device = device::fresh(octets::u32_at(key, KEY_LEN), key_of(key));
-    let at = put_line(out, 0, b"bundle ", bundle.len());
-    let done = run::messages(device, flash, bundle, out, at);
-    let last = done.device;
-    Sent::Written(put_state(out, done.at, last))
+    let device = device::fresh(octets::u32_at(key, KEY_LEN), octets::array_at(key, 0));
+    output.put_line(b"bundle ", bundle.len());
+    let last = run::messages(device, flash, bundle, &mut output);
+    put_state(&mut output, last);
+    Ok(output.end)
 }

@@ -1,17 +1,11 @@
 -- From a fresh state and a list of calls to the whole of demand 3; and what the boot check's 0 proves of any bytes and memory.
-use mathlib.Core.Path.{◌≡◌, refl, sym, ap, ◌∙◌}
-use mathlib.Core.Logic.{◌↔◌}
-use mathlib.Core.List.{List}
-use mathlib.Core.Option.{Option, none, some}
-use Prim.Native.Nat.{ℕ}
-use native.Mathlib.Omega.{arith}
+use Rattle.std.proofs.Common.{Ok, Err, ◌≡◌, refl, sym, ap, ◌∙◌, ◌↔◌, List, Option, None, Some, ℕ, arith}
 use Rattle.wire.proofs.RefusalLaws.{above_zero}
 use Rattle.sha256.specs.Sha256.{digest}
 use Rattle.sha256.proofs.DigestLaws.{length-digest}
 use Rattle.lms.specs.Lms.{valid}
 use Rattle.machine.specs.declared.state.Device.{Device}
-use Rattle.machine.specs.declared.state.Answer.{Answer}
-use Rattle.machine.specs.declared.state.Answer.TheVariants.{Accepted, Refused}
+use Rattle.machine.specs.Answer.{Answer, Accepted}
 use Rattle.machine.specs.Device.{fresh_with, SituationOf}
 use Rattle.machine.specs.Readers.{number_of}
 use Rattle.machine.specs.Step.{step_call}
@@ -32,16 +26,16 @@ use Rattle.capi.proofs.StatusLaws.{sensible-decoded, status-is, due-is}
 use Rattle.capi.proofs.RunLaws.{fresh-fits, runs}
 
 pub zero-accepted : (a : Answer) {n : ℕ} → n ≡ number_of a → (n ≡ 0) ↔ (a ≡ Accepted)
-zero-accepted Accepted e = (λ z. refl, λ z. e)
-zero-accepted (Refused r) e = (λ z. absurd (omega (arith, above_zero r)), λ z. cc)
+zero-accepted (Ok _) e = (λ z. refl, λ z. e)
+zero-accepted (Err r) e = (λ z. absurd (omega (arith, above_zero r)), λ z. cc)
 
 pub boot-proves-from-c : BootProvesFromC
 unfolding boot_check_of
 boot-proves-from-c state flash z = go (decode state) refl
   where
-    go : (o : Option Device) → decode state ≡ o → (d : Device) × (decode state ≡ some d) × Booted digest d flash
-    go none e = absurd (let n : ◌≡◌ {A = ℕ} 1 0 = rw (e, boot_check_of) at z in omega arith)
-    go (some d) e = (d, e, boot-proves digest length-digest d flash ((zero-accepted (boot_check digest d flash) refl).0 (sym (boot-check-decoded state e flash) ∙ z)))
+    go : (o : Option Device) → decode state ≡ o → (d : Device) × (decode state ≡ Some d) × Booted digest d flash
+    go None e = absurd (let n : ◌≡◌ {A = ℕ} 1 0 = rw (e, boot_check_of) at z in omega arith)
+    go (Some d) e = (d, e, boot-proves digest length-digest d flash ((zero-accepted (boot_check digest d flash) refl).0 (sym (boot-check-decoded state e flash) ∙ z)))
 
 pub from-c : FromC
 from-c model key small long flash cs bytes =
@@ -53,8 +47,8 @@ from-c model key small long flash cs bytes =
       runs = r;
       state = back;
       reads = λ out. status-is _ out read refl;
-      due = λ before. due-is _ _ before read;
-      cost = λ before. due-is _ _ before read;
+      due = due-is _ read _;
+      cost = due-is _ read _;
       boot = λ lent. boot-check-decoded _ back lent;
       zero = λ c. zero-accepted _ (r.answers c);
       claim = demand3 d (fresh-is model key) flash cs;

@@ -1,12 +1,6 @@
 -- A caller that keeps the state's bytes from call to call runs the device that demand 3 speaks of.
-use mathlib.Core.Path.{◌≡◌, refl, ap, ◌∙◌}
-use mathlib.Core.Bool.{Bool, true, false, cond}
-use mathlib.Core.List.{List}
-use mathlib.Core.Option.{Option, none, some}
-use Prim.Native.Nat.{ℕ, suc, pred, ◌*◌, ◌≤◌}
-use native.Mathlib.Omega.{arith}
-use lib.Dec.{ltb}
-use lib.ListN.{length, length-replicate}
+use Rattle.std.proofs.Common.{◌≡◌, refl, ap, ◌∙◌, Bool, true, false, cond, List, Option, None, Some, ℕ, suc, pred, ◌*◌, ◌≤◌, arith, ltb, length}
+use lib.ListN.{length-replicate}
 use Rattle.octets.specs.Octets.{Bytes}
 use Rattle.merkle.specs.Limits.{hash_length, held_bytes}
 use Rattle.sha256.specs.Sha256.{digest}
@@ -64,7 +58,7 @@ module _ (budget : ℕ) (d : Device) (flash m : List ℕ) (bytes : Bytes m) (f :
   unfolding accept_update
   fits-update long = record { model = f.model; key = f.key; next = f.next; manifest = manifest-fits m bytes long; hashes = f.hashes }
 
-  fits_kept : (k : Kind) → kind m ≡ k → refusal_of digest valid budget d flash m ≡ none → Fits (accept k d flash m).device
+  fits_kept : (k : Kind) → kind m ≡ k → refusal_of digest valid budget d flash m ≡ None → Fits (accept k d flash m).device
   unfolding accept accept_program accept_update next_of least_update least_path
   fits_kept Program e a =
       let p = program-passed digest valid d flash m budget e a in
@@ -80,8 +74,8 @@ module _ (budget : ℕ) (d : Device) (flash m : List ℕ) (bytes : Bytes m) (f :
   fits-step = go (refusal_of digest valid budget d flash m) refl
     where
       go : (r : Option Refusal) → refusal_of digest valid budget d flash m ≡ r → Fits (outcome r budget (total digest (kind m) d flash m) d flash (accept (kind m) d flash m)).device
-      go none e = fits_kept (kind m) refl e
-      go (some x) e = f
+      go None e = fits_kept (kind m) refl e
+      go (Some x) e = f
 
 -- so does a fresh device
 pub fresh-fits : FreshFits
@@ -106,8 +100,8 @@ left_is d flash c = go (refusal_of digest valid c.budget d flash c.message)
   where
     go : (r : Option Refusal) → (let m = c.message in
         let o = outcome r c.budget (total digest (kind m) d flash m) d flash (accept (kind m) d flash m) in left (call_outcome o (encode d) 0) ≡ holding o.device o.flash)
-    go none = refl
-    go (some x) = refl
+    go None = refl
+    go (Some x) = refl
 
 -- Where the bytes kept are those of the device, a call more is its step.
 module _ (d : Device) (flash : List ℕ) (cs : Trace Call) (f : Fits (after (step_call digest valid) d flash cs).device)

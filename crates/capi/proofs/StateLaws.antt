@@ -1,16 +1,10 @@
 -- A state's bytes, written and read back.
-use mathlib.Core.Path.{◌≡◌, refl, sym, ap, ap₂, ◌∙◌}
-use mathlib.Core.List.{List, [], ◌∷◌, ◌++◌, map, append_assoc, append-nil}
-use mathlib.Core.Option.{none, some}
-use Prim.Native.Nat.{ℕ, ◌+◌, ◌-◌, ◌^◌, ◌≤◌, ◌<◌}
-use native.Mathlib.Omega.{arith}
-use lib.ListN.{length, take, drop, get_or, length-append, length-drop, drop_of_length-le, take-append-drop}
-use lib.Seq.{paste, take-add, take-length, take-take, drop_at, drop-drop, length-take-le}
-use borrow.Author.Tests.{ne_eqb}
-use borrow.Rule.Slice.PartMut.{post_of, put_mid, Post-is, take_put}
+use Rattle.std.proofs.lemmas.List.{take-append-le, drop-append-le}
+use Rattle.std.proofs.Common.{take_all, ◌≡◌, refl, sym, ap, ap₂, ◌∙◌, List, [], ◌∷◌, ◌++◌, map, append_assoc, append-nil, Bool, true, false, cond, eqb, Option, None, Some, ℕ, ◌+◌, ◌-◌, ◌^◌, ◌≤◌, ◌<◌, arith, length, take, drop, get_or, length-drop, drop_of_length-le, take-add, drop_at, drop-drop, eqb-true}
+use lib.Seq.{paste, take-length}
+use borrow.Rule.Slice.PartMut.{post_of, put_mid, Post-is}
 use Rattle.octets.specs.Octets.{Bytes, bytes, number, part, joined}
 use Rattle.merkle.specs.Limits.{held_bytes}
-use Rattle.octets.proofs.CopyLaws.{length_part}
 use Rattle.octets.proofs.JoinedLaws.{joined-last, total, joined_length, stands}
 use Rattle.octets.proofs.NumberLaws.{length-bytes, number-back, bytes-part}
 use Rattle.lms.specs.Lms.{key_length}
@@ -26,20 +20,25 @@ use Rattle.capi.specs.State.{key_at, stage_at, next_at, manifest_at, hashes_at, 
 use Rattle.capi.specs.Progress.{progress_of}
 use Rattle.capi.specs.Claims.{Fits, GivesBack}
 
--- what `stage_in` says of bytes by their length
-pub other_length : (b : List ℕ) → (length b ≡ state_length → ⊥) → stage_in b ≡ none
-unfolding stage_in
-other_length b h = rw (ne_eqb (length b) state_length h)
-
+-- what `stage_in` says of bytes of the right length
 pub right-length : (b : List ℕ) {k n : ℕ} → length b ≡ state_length → k ≡ number (part stage_at 2 b) → n ≡ number (part next_at 2 b) → stage_in b ≡ stage_from k n
 unfolding stage_in
 right-length b l ek en = rw (l, ek, en)
 
-pub decode-none : (b : List ℕ) → stage_in b ≡ none → decode b ≡ none
+chosen : (x : Bool) (o : Option Stage) {t : Stage} → cond x o None ≡ Some t → x ≡ true
+chosen true o e = refl
+chosen false o e = cc
+
+-- bytes that encode a stage have a state's length
+pub stage_length : (b : List ℕ) {t : Stage} → stage_in b ≡ Some t → length b ≡ state_length
+unfolding stage_in
+stage_length b e = eqb-true _ _ (chosen (eqb (length b) state_length) _ e)
+
+pub decode-none : (b : List ℕ) → stage_in b ≡ None → decode b ≡ None
 unfolding decode
 decode-none b e = rw (e, decode)
 
-pub decode-some : (b : List ℕ) {t : Stage} → stage_in b ≡ some t → decode b ≡ some (device_in b t)
+pub decode-some : (b : List ℕ) {t : Stage} → stage_in b ≡ Some t → decode b ≡ Some (device_in b t)
 unfolding decode
 decode-some b e = rw (e, decode)
 
@@ -49,7 +48,7 @@ pub device-is : (b : List ℕ) (t : Stage) {model : ℕ} {key hashes : List ℕ}
 unfolding device_in
 device-is b t em ek es eh = λ i. record { model = em i; key = ek i; stage = t; manifest = es i; hashes = eh i }
 
-stage-back : (t : Stage) → stage_from (stage_number t) (next_of t) ≡ some t
+stage-back : (t : Stage) → stage_from (stage_number t) (next_of t) ≡ Some t
 unfolding stage_from stage_number next_of
 stage-back Idle = refl
 stage-back (Loading i) = refl
@@ -68,24 +67,17 @@ progress_lengths = 2 ∷ 2 ∷ manifest_length ∷ []
 abbrev lengths : List ℕ
 lengths = 4 ∷ key_length ∷ (progress_lengths ++ (held_bytes ∷ []))
 
--- A state's bytes b with others from index at on: as many before them; there they are; and where they are the same, so is the state.
-module _ (b : List ℕ) (at : ℕ) (l : at ≤ length b) where
-  pub front-room : (z : List ℕ) → at ≤ length (take at b ++ z)
-  front-room z = rw (length-append (take at b) z) (omega (arith, length-take-le at b l))
+-- A state's bytes in two, its fields f and its hashes h: the device that they encode.
+module _ (f h : List ℕ) (lf : length f ≡ hashes_at) (lh : length h ≡ held_bytes) where
+  in-front : (i k : ℕ) → i + k ≤ hashes_at → part i k f ≡ part i k (f ++ h)
+  in-front i k room =
+      let within : k ≤ length (drop i f) = rw (length-drop i f) (omega arith) in
+      sym (ap (take k) (drop-append-le i f h (omega arith)) ∙ take-append-le k (drop i f) h within)
 
-  pub part-long : (i : ℕ) → i ≤ at → (z : List ℕ) → length (part i (at - i) (take at b ++ z)) ≡ at - i
-  part-long i h z = length_part (take at b ++ z) i (at - i) (omega (arith, front-room z))
-
-  pub end-put : (ys : List ℕ) → drop at (take at b ++ (ys ++ drop (length b - at) (drop at b))) ≡ ys
-  end-put ys =
-      drop_at (take at b) _ at (length-take-le at b l)
-      ∙ ap (λ (x : List ℕ). ys ++ x) (drop_of_length-le (drop at b) {i = length b - at} (rw (length-drop at b) (omega arith)))
-      ∙ append-nil ys
-
-  pub end_same : {ys : List ℕ} → ys ≡ take (length b - at) (drop at b) → take at b ++ (ys ++ drop (length b - at) (drop at b)) ≡ b
-  end_same e =
-      ap (λ (x : List ℕ). take at b ++ x) (ap (λ (y : List ℕ). y ++ drop (length b - at) (drop at b)) e ∙ take-append-drop (length b - at) (drop at b))
-      ∙ take-append-drop at b
+  pub view-is : (t : Stage) → device_of (number (part 0 4 f)) (part key_at key_length f) t (read (part manifest_at manifest_length f)) h ≡ device_in (f ++ h) t
+  view-is t =
+      device-is (f ++ h) t (ap number (in-front 0 4 (omega arith))) (in-front key_at key_length (omega arith)) (ap read (in-front manifest_at manifest_length (omega arith)))
+      (sym (ap (take held_bytes) (drop_at f h hashes_at lf) ∙ take_all held_bytes h (omega arith)))
 
 -- what is lent from index at on and comes back as p is copied there
 pub lent-copied : (d p : List ℕ) (at : ℕ) {k : ℕ} → length p ≡ k → put_mid at k d p ≡ paste d at p (length p)
@@ -102,19 +94,19 @@ encode-is d em ek ep eh =
     let behind : List ℕ → List ℕ → List ℕ = λ x y. x ++ y in
     ap₂ behind em (ap₂ behind ek (ap₂ behind ep eh ∙ sym (joined-last (progress_of d.stage d.manifest) d.hashes)))
 
--- A state's bytes b in which the hashes come back as ys, and then stage, next number and manifest as p: the state of the device with these, and with the model and key of b.
-module _ (b : List ℕ) (h : Bytes b) (l : length b ≡ state_length) where
-  pub encode-back : (d : Device) {p ys : List ℕ} → d.model ≡ number (part 0 4 b) → d.key ≡ part key_at key_length b → p ≡ joined (progress_of d.stage d.manifest) → ys ≡ d.hashes
-      → put_mid stage_at (hashes_at - stage_at) (put_mid hashes_at (length b - hashes_at) b ys) p ≡ encode d
-  encode-back d {p} {ys} em ek ep eh =
-      let room : hashes_at ≤ length b = omega arith in
-      let b' = put_mid hashes_at (length b - hashes_at) b ys in
-      let front : take stage_at b' ≡ part 0 4 b ++ part key_at key_length b =
-      sym (take-take stage_at hashes_at b' (omega arith)) ∙ ap (take stage_at) (take_put hashes_at (length b - hashes_at) b ys room) ∙ take-take stage_at hashes_at b (omega arith) ∙ take-add 4 key_length b in
-      let behind : post_of stage_at (hashes_at - stage_at) b' ≡ ys = Post-is stage_at hashes_at b' (omega arith) ∙ end-put b hashes_at room ys in
-      ap₂ {C = List ℕ} (λ (x y : List ℕ). x ++ (p ++ y)) front behind
-      ∙ append_assoc (part 0 4 b) (part key_at key_length b) (p ++ ys)
-      ∙ encode-is d (sym (bytes-part b h 0 4 (omega arith)) ∙ ap (bytes 4) (sym em)) (sym ek) ep eh
+-- A state's fields f in which stage, next number and manifest come back as p, and the hashes h: the state of the device with these, and with the model and key of f.
+module _ (f h : List ℕ) (bytes-f : Bytes f) (lf : length f ≡ hashes_at) where
+  pub encode-back : (d : Device) {p : List ℕ} → d.model ≡ number (part 0 4 f) → d.key ≡ part key_at key_length f → p ≡ joined (progress_of d.stage d.manifest) → h ≡ d.hashes
+      → put_mid stage_at (length f - stage_at) f p ++ h ≡ encode d
+  encode-back d {p} em ek ep eh =
+      let k : length f - stage_at ≡ hashes_at - stage_at = omega arith in
+      let none : post_of stage_at (length f - stage_at) f ≡ [] =
+      ap (λ (n : ℕ). post_of stage_at n f) k ∙ Post-is stage_at hashes_at f (omega arith) ∙ drop_of_length-le f {i = hashes_at} (omega arith) in
+      ap₂ {C = List ℕ} (λ (x y : List ℕ). (x ++ (p ++ y)) ++ h) (take-add 4 key_length f) none
+      ∙ ap (λ (x : List ℕ). ((part 0 4 f ++ part key_at key_length f) ++ x) ++ h) (append-nil p)
+      ∙ append_assoc (part 0 4 f ++ part key_at key_length f) p h
+      ∙ append_assoc (part 0 4 f) (part key_at key_length f) (p ++ h)
+      ∙ encode-is d (sym (bytes-part f bytes-f 0 4 (omega arith)) ∙ ap (bytes 4) (sym em)) (sym ek) ep eh
 
 module _ (d : Device) (f : Fits d) where
   abbrev fields : List (List ℕ)
@@ -131,7 +123,7 @@ module _ (d : Device) (f : Fits d) where
   unfolding encode
   field = stands lengths fields fields-long
 
-  pub stage-encode : stage_in (encode d) ≡ some d.stage
+  pub stage-encode : stage_in (encode d) ≡ Some d.stage
   stage-encode =
       right-length (encode d) length-encode (sym (number-back 2 (stage_number d.stage) (field 2) (small d.stage))) (sym (number-back 2 (next_of d.stage) (field 3) f.next))
       ∙ stage-back d.stage
@@ -149,4 +141,4 @@ module _ (d : Device) (f : Fits d) where
       }
 
 pub decode-encode : GivesBack
-decode-encode d f = decode-some (encode d) (stage-encode d f) ∙ ap some (device-encode d f)
+decode-encode d f = decode-some (encode d) (stage-encode d f) ∙ ap Some (device-encode d f)

@@ -1,136 +1,126 @@
 -- What is read off a state's bytes, from what the code finds in them.
-use mathlib.Core.Path.{◌≡◌, refl, sym, ap, ◌∙◌}
-use mathlib.Core.Logic.{◌⊎◌, inl, inr, ⊎_elim}
-use mathlib.Core.Bool.{Bool, true, false, cond}
-use mathlib.Core.List.{List}
-use mathlib.Core.Option.{Option, none, some}
-use Prim.Native.Nat.{ℕ, ◌≤◌, ◌<◌}
-use native.Mathlib.Omega.{arith}
-use lib.ListN.{length}
-use denote.Enum.Declared.{tag_of}
+use Rattle.std.proofs.Common.{pred, ◌≡◌, refl, sym, ◌∙◌, Bool, true, false, cond, List, Option, None, Some, Err, option_map, ℕ, ◌≤◌, ◌<◌, length}
 use Rattle.octets.specs.Octets.{number, part}
 use Rattle.merkle.specs.Limits.{held_bytes}
 use Rattle.lms.specs.Lms.{key_length}
 use Rattle.wire.specs.declared.manifest.Manifest.{Manifest}
+use Rattle.wire.specs.declared.refusal.Refusal.TheVariants as refusal
 use Rattle.wire.specs.Manifest.{manifest_length, read}
-use Rattle.wire.specs.Size.{wrong_size}
-use Rattle.wire.specs.Geometry.{count_of}
+use Rattle.wire.specs.Geometry.{count_of, block_length}
+use Rattle.wire.specs.Cost.{cost_due}
+use Rattle.merkle.specs.Blocks.{block_count}
+use Rattle.merkle.specs.Cost.{known_cost}
+use Rattle.merkle.specs.Hash.{plain}
+use Rattle.sha256.specs.Sha256.{digest}
 use Rattle.machine.specs.declared.state.Stage.{Stage}
 use Rattle.machine.specs.declared.state.Stage.TheVariants.{Idle, Loading, Complete}
 use Rattle.machine.specs.declared.state.Device.{Device}
 use Rattle.machine.specs.Refusals.{senseless}
-use Rattle.machine.specs.contracts.state.Stage.{the_type}
 use Rattle.machine.proofs.RefusalLaws.{loading}
-use Rattle.capi.specs.declared.state.StageRead.{StageRead}
-use Rattle.capi.specs.declared.state.StageRead.TheVariants.{At, Nothing}
-use Rattle.capi.specs.StageRead.{stage_read, stage_read_of}
 use Rattle.device.specs.Fields.{device_of}
 use Rattle.capi.specs.State.{key_at, manifest_at, hashes_at, state_length, stage_in, device_in, decode}
 use Rattle.capi.specs.Status.{sensible, status_of, status, due_of, read_due}
-use Rattle.capi.proofs.StateLaws.{decode-none, decode-some}
-use Rattle.capi.proofs.CallLaws.{stage-read-some, stage-read-length}
+use Rattle.capi.proofs.StateLaws.{decode-none, decode-some, stage_length}
+use Rattle.capi.specs.Report.{Due, IsDue}
 
 module _ (b : List ℕ) where
-  pub sensible-decoded : {d : Device} → decode b ≡ some d → senseless d ≡ false → sensible b ≡ some d
+  pub sensible-decoded : {d : Device} → decode b ≡ Some d → senseless d ≡ false → sensible b ≡ Some d
   unfolding sensible
   sensible-decoded e s = rw (e, sensible, s)
 
-  pub sensible-none : stage_in b ≡ none → sensible b ≡ none
+  pub sensible-none : stage_in b ≡ None → sensible b ≡ None
   unfolding sensible
   sensible-none e = rw (decode-none b e, sensible)
 
-  pub sensible-some : {t : Stage} → stage_in b ≡ some t → sensible b ≡ cond (senseless (device_in b t)) none (some (device_in b t))
+  pub sensible-some : {t : Stage} → stage_in b ≡ Some t → sensible b ≡ cond (senseless (device_in b t)) None (Some (device_in b t))
   unfolding sensible
   sensible-some e = rw (decode-some b e, sensible)
 
   -- bytes that encode a device at stage t to which refusal 1 does not apply
   pub record Sense (t : Stage) : Type 0 where
     pub long : length b ≡ state_length
-    pub device : sensible b ≡ some (device_in b t)
+    pub device : sensible b ≡ Some (device_in b t)
     pub sense : senseless (device_in b t) ≡ false
 
-  -- what the code read in them
-  module _ {f : StageRead} (e : f ≡ stage_read_of (sensible b)) where
-    pub no-sense : f ≡ Nothing → sensible b ≡ none
-    unfolding stage_read_of
-    no-sense g = go (sensible b) (sym e ∙ g)
-      where
-        go : (o : Option Device) → stage_read_of o ≡ Nothing → o ≡ none
-        go none q = refl
-        go (some d) q = cc
+  -- the stage of bytes that make sense, as the code looks for it
+  abbrev pub stage_of : Option Device → Option Stage
+  stage_of = option_map (λ (d : Device). d.stage)
 
-    pub makes-sense : {t : Stage} → f ≡ At t → Sense t
-    unfolding stage_read_of device_in
-    makes-sense {t} g = go (stage_in b) refl
-      where
-        nothing : sensible b ≡ none → Sense t
-        nothing q = absurd (let x : Nothing ≡ At t = ap stage_read_of (sym q) ∙ sym e ∙ g in let z : ◌≡◌ {A = ℕ} 0 1 = cc in omega arith)
+  pub no_stage : stage_in b ≡ None → stage_of (sensible b) ≡ None
+  no_stage e = rw (sensible-none e)
 
-        go : (o : Option Stage) → stage_in b ≡ o → Sense t
-        go none q = nothing (sensible-none q)
-        go (some u) q = test (senseless (device_in b u)) refl
-          where
-            test : (x : Bool) → senseless (device_in b u) ≡ x → Sense t
-            test true r = nothing (sensible-some q ∙ rw r)
-            test false r =
-                let s : sensible b ≡ some (device_in b u) = sensible-some q ∙ rw r in
-                let at : At u ≡ At t = ap stage_read_of (sym s) ∙ sym e ∙ g in
-                let same : u ≡ t = cc in
-                record { long = stage-read-length b q; device = rw same at s; sense = rw same at r }
-
-  -- what it read where it has the stage and has tested the device
-  pub tested : {f : StageRead} {t : Stage} {s : Manifest} {x : Bool} → f ≡ stage_read (stage_in b) → f ≡ At t → s ≡ read (part manifest_at manifest_length b)
+  pub tested : {t : Stage} {s : Manifest} {x : Bool} → stage_in b ≡ Some t → s ≡ read (part manifest_at manifest_length b)
       → x ≡ senseless (device_of (number (part 0 4 b)) (part key_at key_length b) t s (part hashes_at held_bytes b))
-      → cond x Nothing (At t) ≡ stage_read_of (sensible b)
-  unfolding stage_read_of device_in
-  tested {t = t} e g es x = rw (sensible-some (stage-read-some (stage_in b) (sym e ∙ g)), x, es) (go (senseless (device_in b t)))
+      → stage_of (sensible b) ≡ cond x None (Some t)
+  unfolding device_in
+  tested {t} e es x = rw (sensible-some e, x, es) (go (senseless (device_in b t)))
     where
-      go : (y : Bool) → cond y Nothing (At t) ≡ stage_read_of (cond y none (some (device_in b t)))
+      go : (y : Bool) → stage_of (cond y None (Some (device_in b t))) ≡ cond y None (Some t)
       go true = refl
       go false = refl
 
--- a stage that is not Loading is one of the other two
-pub other : (t : Stage) → ((i : ℕ) → t ≡ Loading i → ⊥) → (tag_of the_type t ≡ 0) ⊎ (tag_of the_type t ≡ 2)
-other Idle h = inl refl
-other (Loading i) h = absurd (h i refl)
-other Complete h = inr refl
+  pub no-sense : stage_of (sensible b) ≡ None → sensible b ≡ None
+  no-sense e = go (sensible b) e
+    where
+      go : (o : Option Device) → stage_of o ≡ None → o ≡ None
+      go None q = refl
+      go (Some d) q = cc
+
+  pub makes-sense : {t : Stage} → stage_of (sensible b) ≡ Some t → Sense t
+  unfolding device_in
+  makes-sense {t} e = go (stage_in b) refl
+    where
+      go : (o : Option Stage) → stage_in b ≡ o → Sense t
+      go None q = absurd (cc (rw (sensible-none q) at e))
+      go (Some u) q = test (senseless (device_in b u)) refl
+        where
+          test : (x : Bool) → senseless (device_in b u) ≡ x → Sense t
+          test true r = absurd (cc (rw (sensible-some q, r) at e))
+          test false r =
+              let same : u ≡ t = cc (rw (sensible-some q, r) at e) in
+              rw (sym same) (record { long = stage_length b q; device = sensible-some q ∙ rw r; sense = r })
 
 -- What the functions for C leave.
 module _ (b out : List ℕ) where
-  pub status-refused : sensible b ≡ none → status b out ≡ record { answer = 1; out = out }
+  pub status-refused : sensible b ≡ None → status b out ≡ record { answer = 1; out = out }
   unfolding status
   status-refused e = rw (e, status)
 
-  pub status-is : {d : Device} {numbers : List ℕ} → sensible b ≡ some d → numbers ≡ status_of d → status b out ≡ record { answer = 0; out = numbers }
+  pub status-is : {d : Device} {numbers : List ℕ} → sensible b ≡ Some d → numbers ≡ status_of d → status b out ≡ record { answer = 0; out = numbers }
   unfolding status
   status-is e en = rw (e, status, en)
 
--- A block is due to the device: its manifest as the code read it, and what the measures of a block are asked for.
-pub awaited : (b : List ℕ) {i : ℕ} {s : Manifest} → Sense b (Loading i) → s ≡ read (part manifest_at manifest_length b)
-    → (wrong_size s.block_len s.image_len ≡ false) × (0 < i) × (i ≤ count_of s)
-unfolding device_in
-awaited b {i} m e = let w = loading (device_in b (Loading i)) m.sense refl in rw e (w.size, w.low, w.high)
-
 -- A number of the block message that is due: its length, or what it costs.
-module _ (number : Manifest → (i : ℕ) → ℕ) (b : List ℕ) (before : ℕ) where
-  pub due-refused : sensible b ≡ none → read_due number b before ≡ record { answer = 1; written = before }
+module _ (b : List ℕ) where
+  pub due-refused : sensible b ≡ None → IsDue b (Err refusal.State)
   unfolding read_due
-  due-refused e = rw (e, read_due)
+  due-refused e = λ number before. rw (e, read_due)
 
-  pub due-is : {d : Device} → sensible b ≡ some d → read_due number b before ≡ due_of number before d
+  pub due-is : {d : Device} → sensible b ≡ Some d → (number : Manifest → (i : ℕ) → ℕ) (before : ℕ) → read_due number b before ≡ due_of number before d
   unfolding read_due
-  due-is e = rw (e, read_due)
+  due-is e number before = rw (e, read_due)
 
-  pub none-due : {t : Stage} → Sense b t → (tag_of the_type t ≡ 0) ⊎ (tag_of the_type t ≡ 2) → read_due number b before ≡ record { answer = 10; written = before }
+  pub none-due : {t : Stage} → Sense b t → ((i : ℕ) → t ≡ Loading i → ⊥) → IsDue b (Err refusal.Stage)
   unfolding due_of device_in
-  none-due {t} m e = due-is m.device ∙ go t e
+  none-due {t} m h = λ number before. due-is m.device number before ∙ go t h number before
     where
-      go : (u : Stage) → (tag_of the_type u ≡ 0) ⊎ (tag_of the_type u ≡ 2) → due_of number before (device_in b u) ≡ record { answer = 10; written = before }
-      go Idle e = refl
-      go (Loading i) e = absurd (⊎_elim (λ (z : ◌≡◌ {A = ℕ} 1 0). omega arith) (λ (z : ◌≡◌ {A = ℕ} 1 2). omega arith) e)
-      go Complete e = refl
+      go : (u : Stage) → ((i : ℕ) → u ≡ Loading i → ⊥) → (number : Manifest → (i : ℕ) → ℕ) (before : ℕ) → due_of number before (device_in b u) ≡ record { answer = 10; written = before }
+      go Idle h number before = refl
+      go (Loading i) h number before = absurd (h i refl)
+      go Complete h number before = refl
 
-  pub due-written : {i n : ℕ} {s : Manifest} → Sense b (Loading i) → s ≡ read (part manifest_at manifest_length b) → n ≡ number s i
-      → read_due number b before ≡ record { answer = 0; written = n }
+  pub block-due : {i : ℕ} {s : Manifest} → Sense b (Loading i) → s ≡ read (part manifest_at manifest_length b) → Due b s i
   unfolding due_of device_in
-  due-written m e en = due-is m.device ∙ rw (en, e)
+  block-due {i} m e =
+      let w = loading (device_in b (Loading i)) m.sense refl in
+      rw e (record { size = w.size; low = w.low; high = w.high; read = λ number before. due-is m.device number before })
+
+-- .. and of what is asked with these lengths and this number
+module _ {b : List ℕ} {s : Manifest} {i n L T : ℕ} (d : Due b s i) (g : (L ≡ s.block_len) × (T ≡ s.image_len)) (e : n ≡ i) where
+  pub asked : (0 < n) × (n ≤ block_count L T)
+  unfolding count_of
+  asked = rw (e, g.0, g.1) (d.low, d.high)
+
+  pub cost-is : {x : ℕ} → x ≡ known_cost (plain digest) L (block_count L T) (pred n) (block_length L T n) → x ≡ cost_due digest s i
+  unfolding cost_due count_of
+  cost-is q = q ∙ rw (e, g.0, g.1)

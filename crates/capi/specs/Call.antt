@@ -1,17 +1,13 @@
 -- What the functions for C return, and what they leave in the caller's memory: 0 or a refusal's number.
-use Rattle.std.specs.Prelude.{Bool, cond, List, ℕ}
-use Rattle.std.proofs.Math.Option.{none, some}
+use Rattle.std.specs.Prelude.{Bool, cond, None, Some, Ok, Err, List, ℕ}
 use Rattle.sha256.specs.Sha256.{digest}
 use Rattle.lms.specs.Lms.{valid}
 use Rattle.wire.specs.declared.refusal.Refusal.TheVariants as refusal
 use Rattle.wire.specs.Refusal.{refusal_number}
-use Rattle.sender.specs.declared.send.Sent.{Sent}
-use Rattle.sender.specs.declared.send.Sent.TheVariants as sent
-use Rattle.ihex.specs.declared.reading.TextAnswer.TheVariants as answer
+use Rattle.sender.specs.Send.{Sent}
 use Rattle.ihex.specs.Read as ihex
 use Rattle.machine.specs.declared.state.Device.{Device}
-use Rattle.machine.specs.declared.state.Answer.{Answer}
-use Rattle.machine.specs.declared.state.Answer.TheVariants.{Accepted, Refused}
+use Rattle.machine.specs.Answer.{Answer}
 use Rattle.machine.specs.Readers.{number_of}
 use Rattle.machine.specs.Device as device
 use Rattle.machine.specs.Step.{step}
@@ -28,8 +24,8 @@ pub record LengthOutcome : Type 0 where
   pub written : ℕ
 
 abbrev pub length_outcome : ℕ → Sent → LengthOutcome
-length_outcome before (sent.Written n) = record { answer = 0; written = n }
-length_outcome before (sent.Refused r) = record { answer = refusal_number r; written = before }
+length_outcome before (Ok n) = record { answer = 0; written = n }
+length_outcome before (Err r) = record { answer = refusal_number r; written = before }
 
 -- The Intel HEX reader: the number that is returned, the line at fault, 0 where none is, and the buffer.
 pub record IhexOutcome : Type 0 where
@@ -40,8 +36,8 @@ pub record IhexOutcome : Type 0 where
 abbrev pub ihex_outcome : ihex.TextOutcome → IhexOutcome
 ihex_outcome o =
     elim o.answer [
-      | answer.Read ↦ record { answer = 0; line = 0; buffer = o.buffer }
-      | answer.Refused r n ↦ record { answer = refusal_number r; line = n; buffer = o.buffer }
+      | Ok _ ↦ record { answer = 0; line = 0; buffer = o.buffer }
+      | Err f ↦ record { answer = refusal_number f.refusal; line = f.line; buffer = o.buffer }
     ]
 
 unfoldable pub read_text : (text : List ℕ) (base k : ℕ) (buffer : List ℕ) → IhexOutcome
@@ -56,11 +52,11 @@ pub record CallOutcome : Type 0 where
 
 -- the state's bytes: those of the new device where the message was accepted, else as before
 unfoldable pub state_after : Answer → Device → List ℕ → List ℕ
-state_after a d state = elim a [ Accepted ↦ encode d | Refused r ↦ state ]
+state_after a d state = elim a [ Ok _ ↦ encode d | Err r ↦ state ]
 
 -- the number behind the pointer: what the device reports where the message was accepted, else as before
 unfoldable pub count_after : Answer → (count before : ℕ) → ℕ
-count_after a count before = elim a [ Accepted ↦ count | Refused r ↦ before ]
+count_after a count before = elim a [ Ok _ ↦ count | Err r ↦ before ]
 
 unfoldable pub call_outcome : device.Outcome → List ℕ → (before : ℕ) → CallOutcome
 call_outcome o state before =
@@ -75,10 +71,10 @@ call_outcome o state before =
 unfoldable pub receive : (state flash message : List ℕ) (budget before : ℕ) → CallOutcome
 receive state flash m budget before =
     elim (decode state) [
-      | none ↦ record { answer = refusal_number refusal.State; compressions = before; state = state; flash = flash }
-      | some d ↦ call_outcome (step digest valid budget d flash m) state before
+      | None ↦ record { answer = refusal_number refusal.State; compressions = before; state = state; flash = flash }
+      | Some d ↦ call_outcome (step digest valid budget d flash m) state before
     ]
 
 -- the boot check: its answer as a number; 1 too for bytes that encode no state
 unfoldable pub boot_check_of : (state flash : List ℕ) → ℕ
-boot_check_of state flash = elim (decode state) [ none ↦ refusal_number refusal.State | some d ↦ number_of (boot_check digest d flash) ]
+boot_check_of state flash = elim (decode state) [ None ↦ refusal_number refusal.State | Some d ↦ number_of (boot_check digest d flash) ]

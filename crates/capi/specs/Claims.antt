@@ -1,6 +1,5 @@
 -- What is shown of the interface for C (in proofs/).
-use Rattle.std.specs.Prelude.{◌≡◌, ◌⊎◌, List, ℕ, ◌^◌, ◌<◌, length}
-use Rattle.std.proofs.Math.Option.{some}
+use Rattle.std.specs.Prelude.{◌≡◌, ◌⊎◌, List, ℕ, ◌^◌, ◌<◌, length, Some}
 use Rattle.octets.specs.Octets.{Bytes}
 use Rattle.sha256.specs.Sha256.{digest}
 use Rattle.merkle.specs.Limits.{held_bytes}
@@ -32,7 +31,7 @@ FreshFits = (model : ℕ) (key : List ℕ) → model < 256 ^ 4 → length key �
 
 -- The state's bytes give back the state.
 abbrev pub GivesBack : Type 0
-GivesBack = (d : Device) → Fits d → decode (encode d) ≡ some d
+GivesBack = (d : Device) → Fits d → decode (encode d) ≡ Some d
 
 -- A call on a state's bytes is the device's step.
 abbrev pub IsStep : Type 0
@@ -42,18 +41,18 @@ IsStep =
 
 -- What 0 of the boot check proves of bytes and memory, whoever wrote them.
 abbrev pub BootProvesFromC : Type 0
-BootProvesFromC = (state flash : List ℕ) → boot_check_of state flash ≡ 0 → (d : Device) × (decode state ≡ some d) × Booted digest d flash
+BootProvesFromC = (state flash : List ℕ) → boot_check_of state flash ≡ 0 → (d : Device) × (decode state ≡ Some d) × Booted digest d flash
 
 -- The fields of every device that bytes encode fit their bytes.
 abbrev pub DecodedFits : Type 0
-DecodedFits = (state : List ℕ) → Bytes state → (d : Device) → decode state ≡ some d → Fits d
+DecodedFits = (state : List ℕ) → Bytes state → (d : Device) → decode state ≡ Some d → Fits d
 
 -- The boot check returns 0 right after each call that reports a program complete, an accepted update of kind 3 or last block, whatever bytes and memory that call was given.
 abbrev pub PassesAfter : Type 0
 PassesAfter =
     (state flash m : List ℕ) (budget before : ℕ) → Bytes state → Bytes m
     → (let c = receive state flash m budget before in
-    c.answer ≡ 0 → (kind m ≡ Update) ⊎ ((kind m ≡ Block) × (stage_in c.state ≡ some Complete)) → boot_check_of c.state c.flash ≡ 0)
+    c.answer ≡ 0 → (kind m ≡ Update) ⊎ ((kind m ≡ Block) × (stage_in c.state ≡ Some Complete)) → boot_check_of c.state c.flash ≡ 0)
 
 -- A caller that keeps state and flash from call to call runs the device that demand 3 speaks of: after a list of calls the bytes are those of that device and its
 -- flash; the number that one call more returns is that of its answer, and the compressions that the device reports are written where it accepts.

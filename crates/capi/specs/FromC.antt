@@ -1,10 +1,9 @@
 -- Demand 3 as a caller from C sees it: the bytes that it keeps, the memory that it lends as flash and the numbers that it is given, in one statement.
-use Rattle.std.specs.Prelude.{◌≡◌, ◌↔◌, List, ℕ, ◌^◌, ◌<◌, length}
-use Rattle.std.proofs.Math.Option.{some}
+use Rattle.std.specs.Prelude.{◌≡◌, ◌↔◌, List, ℕ, ◌^◌, ◌<◌, length, Some}
 use Rattle.sha256.specs.Sha256.{digest}
 use Rattle.lms.specs.Lms.{key_length, valid}
 use Rattle.machine.specs.declared.state.Device.{Device}
-use Rattle.machine.specs.declared.state.Answer.TheVariants.{Accepted}
+use Rattle.machine.specs.Answer.{Accepted}
 use Rattle.machine.specs.Device.{fresh_with}
 use Rattle.machine.specs.Readers.{number_of}
 use Rattle.machine.specs.Step.{Call, step_call}
@@ -34,7 +33,7 @@ module _ (model : ℕ) (key flash : List ℕ) (cs : Trace Call) where
     -- the bytes kept are the device's, the memory lent is its flash, and each call's numbers are those of its answer and of what it reports
     pub runs : Runs fresh flash cs
     -- read back, the bytes kept are the device
-    pub state : decode kept ≡ some device
+    pub state : decode kept ≡ Some device
     -- no reader answers 1 for the bytes kept: lertxuno_status gives the device's numbers, lertxuno_block_message_length and lertxuno_block_cost the length and the cost of
     -- the block message that is due, if a block is
     pub reads : (out : List ℕ) → status kept out ≡ record { answer = 0; out = status_of device }

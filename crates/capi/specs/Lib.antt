@@ -4,5 +4,5 @@ pub mod Status
 pub mod Run
 pub mod Claims
 pub mod FromC
-pub mod StageRead
+pub mod Report
 pub mod Progress

@@ -1,6 +1,5 @@
 -- A device's state as bytes, which the caller keeps. Numbers are big-endian.
-use Rattle.std.specs.Prelude.{cond, List, [], ◌∷◌, ℕ, ◌+◌, eqb, length}
-use Rattle.std.proofs.Math.Option.{Option, none, some}
+use Rattle.std.specs.Prelude.{cond, List, [], ◌∷◌, ℕ, ◌+◌, eqb, length, Option, None, Some}
 use Rattle.octets.specs.Octets.{bytes, number, part, joined}
 use Rattle.merkle.specs.Limits.{held_bytes}
 use Rattle.lms.specs.Lms.{key_length}
@@ -39,11 +38,11 @@ encode d =
 
 -- the stage that a number stands for, with this next number if it is loading; no number above 2 stands for one
 unfoldable pub stage_from : ℕ → ℕ → Option Stage
-stage_from k next = cond (eqb k 0) (some Idle) (cond (eqb k 1) (some (Loading next)) (cond (eqb k 2) (some Complete) none))
+stage_from k next = cond (eqb k 0) (Some Idle) (cond (eqb k 1) (Some (Loading next)) (cond (eqb k 2) (Some Complete) None))
 
 -- the stage of the state that bytes encode; those of another length, or with an unknown stage, encode none
 unfoldable pub stage_in : List ℕ → Option Stage
-stage_in b = cond (eqb (length b) state_length) (stage_from (number (part stage_at 2 b)) (number (part next_at 2 b))) none
+stage_in b = cond (eqb (length b) state_length) (stage_from (number (part stage_at 2 b)) (number (part next_at 2 b))) None
 
 -- the device at this stage whose other fields stand in b
 unfoldable pub device_in : List ℕ → Stage → Device
@@ -57,4 +56,4 @@ device_in b t =
     }
 
 unfoldable pub decode : List ℕ → Option Device
-decode b = elim (stage_in b) [ none ↦ none | some t ↦ some (device_in b t) ]
+decode b = elim (stage_in b) [ None ↦ None | Some t ↦ Some (device_in b t) ]

@@ -1,6 +1,5 @@
 -- What a caller from C reads off a state's bytes: the device's status, how long the next block message is, and what it costs.
-use Rattle.std.specs.Prelude.{cond, List, [], ◌∷◌, ℕ}
-use Rattle.std.proofs.Math.Option.{Option, none, some}
+use Rattle.std.specs.Prelude.{cond, List, [], ◌∷◌, ℕ, Option, None, Some}
 use Rattle.sha256.specs.Sha256.{digest}
 use Rattle.wire.specs.declared.manifest.Manifest.{Manifest}
 use Rattle.wire.specs.declared.refusal.Refusal.TheVariants as refusal
@@ -18,7 +17,7 @@ use Rattle.capi.specs.Call.{LengthOutcome}
 
 -- the device that bytes encode, unless refusal 1 applies to it
 unfoldable pub sensible : List ℕ → Option Device
-sensible b = elim (decode b) [ none ↦ none | some d ↦ cond (senseless d) none (some d) ]
+sensible b = elim (decode b) [ None ↦ None | Some d ↦ cond (senseless d) None (Some d) ]
 
 -- a number that follows from the manifest, which means nothing while idle
 unfoldable pub unless_idle : Stage → ℕ → ℕ
@@ -46,8 +45,8 @@ pub record StatusOutcome : Type 0 where
 unfoldable pub status : (state out : List ℕ) → StatusOutcome
 status state out =
     elim (sensible state) [
-      | none ↦ record { answer = refusal_number refusal.State; out = out }
-      | some d ↦ record { answer = 0; out = status_of d }
+      | None ↦ record { answer = refusal_number refusal.State; out = out }
+      | Some d ↦ record { answer = 0; out = status_of d }
     ]
 
 -- A number of the block message that is due, or that no block is due.
@@ -59,8 +58,8 @@ due_of number before d =
 unfoldable pub read_due : (Manifest → (i : ℕ) → ℕ) → (state : List ℕ) → (before : ℕ) → LengthOutcome
 read_due number state before =
     elim (sensible state) [
-      | none ↦ record { answer = refusal_number refusal.State; written = before }
-      | some d ↦ due_of number before d
+      | None ↦ record { answer = refusal_number refusal.State; written = before }
+      | Some d ↦ due_of number before d
     ]
 
 -- its length, and what it costs (02, change 7): the total that an accepted one reports

@@ -6,20 +6,61 @@
 mod state;
 mod status;
 
-ghost use Rattle.std.specs.Prelude.{◌≡◌};
+ghost use Rattle.std.specs.Prelude.{◌≡◌, ℕ};
+ghost use Rattle.std.specs.Result.{result_unwrap_or};
 ghost use Rattle.sha256.specs.Sha256.{digest, compressions};
 ghost use Rattle.lms.specs.Lms.{valid};
 ghost use Rattle.sender.specs.Job.{in_blocks, job};
+ghost use Rattle.sender.specs.Given.{job_of};
 ghost use Rattle.sender.specs.Send.{Does, send_manifest, send_program, send_block, send_update, send_path};
 ghost use Rattle.machine.specs.Device.{fresh_with};
+ghost use Rattle.machine.specs.Readers.{number_of};
 ghost use Rattle.capi.specs.State.{encode};
 ghost use Rattle.capi.specs.Call.{verdict, length_outcome, read_text, receive, boot_check_of};
 ghost use Rattle.capi.specs.Status.{status, block_message_length, block_message_cost};
+ghost use Rattle.capi.specs.Report.{answered};
 
-use machine::{Answer, Stage};
-use sender::Sent;
-use state::{HASHES_AT, STAGE_AT, STATE_LEN, StageRead};
+use machine::Answer;
+use sender::{Image, Job};
+use state::{HASHES_AT, STAGE_AT, STATE_LEN};
 use status::STATUS_LEN;
+use wire::Refusal;
+
+// The number that C gets of an answer.
+fn number_of(answer: Answer) -> u32
+    ensures { result ≡ number_of answer }
+{
+    u32::from(device::answer_number(answer))
+}
+
+// What C gets of an answer with a value: the number, and the value through a pointer. After a refusal what is there is as before.
+fn report<T: Copy>(answer: Result<T, Refusal>, out: &mut T) -> u32
+    ensures number { result ≡ answered answer }
+    ensures value { out.new ≡ result_unwrap_or answer out.old }
+{
+    match answer {
+        Ok(value) => {
+            *out = value;
+            0
+        }
+        Err(refusal) => number_of(Err(refusal)),
+    }
+}
+
+// What C hands over of a job.
+fn job(image: &[u8], len: u32, model: u32, serial: u32) -> Job<'_>
+    ensures { job_of result ≡ job (in_blocks image.now len) model serial }
+{
+    let image = Image {
+        bytes: image,
+        block_len: len,
+    };
+    Job {
+        image,
+        model,
+        serial,
+    }
+}
 
 // SHA-256 of the message, and how many compressions it took.
 #[unsafe(no_mangle)]
@@ -34,29 +75,17 @@ pub extern "C" fn lertxuno_digest(message: &[u8], out: &mut [u8; 32]) -> usize
 pub extern "C" fn lertxuno_verify(key: &[u8], message: &[u8], signature: &[u8]) -> u32
     ensures { result ≡ verdict (valid key.now message.now signature.now) }
 {
+    number_of(verified(key, message, signature))
+}
+
+#[tactic(auto, unfolding(crate::specs::Call::verdict))]
+fn verified(key: &[u8], message: &[u8], signature: &[u8]) -> Answer
+    ensures { number_of result ≡ verdict (valid key.now message.now signature.now) }
+{
     if lms::verify(key, message, signature) {
-        return 0;
+        return Ok(());
     }
-    9
-}
-
-fn wide(number: u8) -> u32
-    ensures { result ≡ number }
-{
-    number as u32
-}
-
-// What the sender answered: its number, and the bytes written.
-fn report(sent: Sent, written: &mut usize) -> u32
-    ensures { record { answer = result; written = written.new } ≡ length_outcome written.old sent }
-{
-    match sent {
-        Sent::Written(n) => {
-            *written = n;
-            0
-        }
-        Sent::Refused(refusal) => wide(wire::refusal_number(refusal)),
-    }
+    Err(Refusal::Unsigned)
 }
 
 // The bare manifest, for signing.
@@ -71,8 +100,7 @@ pub extern "C" fn lertxuno_manifest(
 ) -> u32
     ensures { Does (length_outcome written.old) (send_manifest (job (in_blocks image.now len) model serial) out.old) (record { answer = result; written = written.new }) out.new }
 {
-    let sent = sender::manifest(image, len, model, serial, out);
-    report(sent, written)
+    report(job(image, len, model, serial).manifest(out), written)
 }
 
 // Kind 1.
@@ -88,8 +116,10 @@ pub extern "C" fn lertxuno_program(
 ) -> u32
     ensures { Does (length_outcome written.old) (send_program (job (in_blocks image.now len) model serial) signature.now out.old) (record { answer = result; written = written.new }) out.new }
 {
-    let sent = sender::program(image, len, model, serial, signature, out);
-    report(sent, written)
+    report(
+        job(image, len, model, serial).program(signature, out),
+        written,
+    )
 }
 
 // Kind 2.
@@ -103,8 +133,11 @@ pub extern "C" fn lertxuno_block(
 ) -> u32
     ensures { Does (length_outcome written.old) (send_block (in_blocks image.now len) number out.old) (record { answer = result; written = written.new }) out.new }
 {
-    let sent = sender::block(image, len, number, out);
-    report(sent, written)
+    let image = Image {
+        bytes: image,
+        block_len: len,
+    };
+    report(image.block(number, out), written)
 }
 
 // Kind 3.
@@ -121,8 +154,10 @@ pub extern "C" fn lertxuno_update(
 ) -> u32
     ensures { Does (length_outcome written.old) (send_update (job (in_blocks image.now len) model serial) number signature.now out.old) (record { answer = result; written = written.new }) out.new }
 {
-    let sent = sender::update(image, len, model, serial, number, signature, out);
-    report(sent, written)
+    report(
+        job(image, len, model, serial).update(number, signature, out),
+        written,
+    )
 }
 
 // Kind 4.
@@ -139,8 +174,10 @@ pub extern "C" fn lertxuno_path_update(
 ) -> u32
     ensures { Does (length_outcome written.old) (send_path (job (in_blocks image.now len) model serial) number signature.now out.old) (record { answer = result; written = written.new }) out.new }
 {
-    let sent = sender::path_update(image, len, model, serial, number, signature, out);
-    report(sent, written)
+    report(
+        job(image, len, model, serial).path_update(number, signature, out),
+        written,
+    )
 }
 
 // The image that an Intel HEX text denotes.
@@ -155,13 +192,13 @@ pub extern "C" fn lertxuno_ihex(
     ensures { read_text text.now base length out.old ≡ record { answer = result; line = line.new; buffer = out.new } }
 {
     match ihex::read(text, base, length, out) {
-        ihex::TextAnswer::Read => {
+        Ok(()) => {
             *line = 0;
             0
         }
-        ihex::TextAnswer::Refused(refusal, number) => {
-            *line = number;
-            wide(wire::refusal_number(refusal))
+        Err(fault) => {
+            *line = fault.line;
+            number_of(Err(fault.refusal))
         }
     }
 }
@@ -171,9 +208,7 @@ pub extern "C" fn lertxuno_ihex(
 pub extern "C" fn lertxuno_fresh(model: u32, key: &[u8; lms::KEY_LEN], state: &mut [u8; STATE_LEN])
     ensures { state.new ≡ encode (fresh_with model key.now) }
 {
-    let k = *key;
-    let bytes = state::to_bytes(device::fresh(model, k));
-    *state = bytes;
+    *state = state::to_bytes(device::fresh(model, *key));
 }
 
 // The device takes a message, with a budget of compressions; what an accepted one reports is written to `compressions`. The hashes stay in the state's bytes: by
@@ -189,31 +224,23 @@ pub extern "C" fn lertxuno_receive(
 ) -> u32
     ensures { receive state.old flash.old message.now budget compressions.old ≡ record { answer = result; compressions = compressions.new; state = state.new; flash = flash.new } }
 {
-    let StageRead::At(stage) = state::stage_in(state) else {
-        return 1;
+    report(received(state, flash, message, budget), compressions)
+}
+
+// The compressions that an accepted message reports; the new state is then in the bytes. (`let .. else` for bytes that encode no state: with `ok_or(Refusal::State)?` the
+// goals behind it stay open.)
+fn received(state: &mut [u8], flash: &mut [u8], message: &[u8], budget: u32) -> Result<u32, Refusal>
+    ensures { (before : ℕ) → receive state.old flash.old message.now budget before ≡ record { answer = answered result; compressions = result_unwrap_or result before; state = state.new; flash = flash.new } }
+{
+    let Some(stage) = state::stage_in(state) else {
+        return Err(Refusal::State);
     };
-    let model = octets::u32_at(state, 0);
-    let key = state::key_in(state);
-    let manifest = state::manifest_in(state);
-    let after = device::receive_in_place(
-        model,
-        &key,
-        stage,
-        manifest,
-        &mut state[HASHES_AT..],
-        flash,
-        message,
-        budget,
-    );
-    let answer = after.answer;
-    let Answer::Accepted = answer else {
-        return wide(device::answer_number(answer));
-    };
-    let next_stage = after.stage;
-    let next_manifest = after.manifest;
-    state::put_progress(&mut state[STAGE_AT..HASHES_AT], next_stage, next_manifest);
-    *compressions = after.compressions;
-    0
+    let (fields, hashes) = state.split_at_mut(HASHES_AT);
+    let view = state::view_in(fields, stage);
+    let after = device::receive_in_place(&view, hashes, flash, message, budget);
+    after.answer?;
+    state::put_progress(&mut fields[STAGE_AT..], after.stage, after.manifest);
+    Ok(after.compressions)
 }
 
 // The boot check.
@@ -221,11 +248,16 @@ pub extern "C" fn lertxuno_receive(
 pub extern "C" fn lertxuno_boot_check(state: &[u8], flash: &[u8]) -> u32
     ensures { result ≡ boot_check_of state.now flash.now }
 {
-    let StageRead::At(stage) = state::stage_in(state) else {
-        return 1;
+    number_of(checked(state, flash))
+}
+
+fn checked(state: &[u8], flash: &[u8]) -> Answer
+    ensures { number_of result ≡ boot_check_of state.now flash.now }
+{
+    let Some(stage) = state::stage_in(state) else {
+        return Err(Refusal::State);
     };
-    let answer = device::boot_check(stage, state::manifest_in(state), flash);
-    wide(device::answer_number(answer))
+    device::boot_check(stage, state::manifest_in(state), flash)
 }
 
 // What the state holds, as numbers.
@@ -233,13 +265,7 @@ pub extern "C" fn lertxuno_boot_check(state: &[u8], flash: &[u8]) -> u32
 pub extern "C" fn lertxuno_status(state: &[u8], out: &mut [u32; STATUS_LEN]) -> u32
     ensures { status state.now out.old ≡ record { answer = result; out = out.new } }
 {
-    let StageRead::At(stage) = state::sensible_in(state) else {
-        return 1;
-    };
-    let model = octets::u32_at(state, 0);
-    let numbers = status::status_of(model, stage, state::manifest_in(state));
-    *out = numbers;
-    0
+    report(status::status_in(state), out)
 }
 
 // The length of the block message that is due next.
@@ -247,19 +273,7 @@ pub extern "C" fn lertxuno_status(state: &[u8], out: &mut [u32; STATUS_LEN]) -> 
 pub extern "C" fn lertxuno_block_message_length(state: &[u8], length: &mut usize) -> u32
     ensures { block_message_length state.now length.old ≡ record { answer = result; written = length.new } }
 {
-    let StageRead::At(stage) = state::sensible_in(state) else {
-        return 1;
-    };
-    let Stage::Loading(next) = stage else {
-        return 10;
-    };
-    let manifest = state::manifest_in(state);
-    *length = wire::due_len(
-        manifest.block_len as usize,
-        manifest.image_len as usize,
-        next as usize,
-    );
-    0
+    report(status::due_length(state), length)
 }
 
 // What the block message that is due next costs, in compressions.
@@ -267,12 +281,5 @@ pub extern "C" fn lertxuno_block_message_length(state: &[u8], length: &mut usize
 pub extern "C" fn lertxuno_block_cost(state: &[u8], compressions: &mut u32) -> u32
     ensures { block_message_cost state.now compressions.old ≡ record { answer = result; written = compressions.new } }
 {
-    let StageRead::At(stage) = state::sensible_in(state) else {
-        return 1;
-    };
-    let Stage::Loading(next) = stage else {
-        return 10;
-    };
-    *compressions = wire::cost_due(state::manifest_in(state), next) as u32;
-    0
+    report(status::due_cost(state), compressions)
 }

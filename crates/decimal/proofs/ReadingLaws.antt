@@ -10,7 +10,9 @@ use lib.Dec.{ltb}
 use lib.ListN.{length, length-append, drop, get_or, drop_of_length-le}
 use lib.Seq.{drop-cons}
 use borrow.Author.Tests.{lt-ltb, le-ltb, eq-eqb, ne_eqb}
-use Rattle.decimal.specs.declared.reading.Parsed.TheVariants.{Number, Wrong}
+use Rattle.std.specs.Prelude.{None, Some}
+use Rattle.std.proofs.Common.{inl, inr}
+use Rattle.std.specs.Char.{IsAsciiDigit, IsNotAsciiDigit}
 use Rattle.decimal.specs.Decimal.{digits, value, wrong, parsed, decimal}
 use Rattle.decimal.specs.Claims.{ReadsPrinted}
 use Rattle.decimal.proofs.WritingLaws.{decimal-small, decimal-large}
@@ -22,15 +24,15 @@ value_grows v [] = omega arith
 value_grows v (d ∷ ds) = omega (arith, value_grows (v * 10 + (d - 48)) ds)
 
 module _ (text : List ℕ) where
-  parsed-wrong : wrong text ≡ true → Wrong ≡ parsed text
+  parsed-wrong : wrong text ≡ true → None ≡ parsed text
   unfolding parsed
   parsed-wrong e = rw (e, parsed)
 
-  parsed-right : wrong text ≡ false → Number (value 0 text) ≡ parsed text
+  parsed-right : wrong text ≡ false → Some (value 0 text) ≡ parsed text
   unfolding parsed
   parsed-right e = rw (e, parsed)
 
-  pub parsed-empty : length text ≡ 0 → Wrong ≡ parsed text
+  pub parsed-empty : length text ≡ 0 → None ≡ parsed text
   parsed-empty e = parsed-wrong (unfold wrong in rw (eq-eqb (length text) 0 e))
 
   -- before digit i, v the number so far
@@ -45,13 +47,13 @@ module _ (text : List ℕ) where
   reading-start h = record { some = h; within = omega arith; small = omega arith; all = refl; whole = refl }
 
   module _ {v i : ℕ} (r : Reading v i) where
-    pub parsed-all : length text ≤ i → Number v ≡ parsed text
+    pub parsed-all : length text ≤ i → Some v ≡ parsed text
     unfolding wrong digits value
     parsed-all h =
         let none : drop i text ≡ [] = drop_of_length-le text {i = i} h in
         let a : digits text ≡ true = sym r.all ∙ ap digits none in
         let b : value 0 text ≡ v = sym r.whole ∙ ap (value v) none in
-        ap Number (sym b) ∙ parsed-right (rw (ne_eqb (length text) 0 r.some, a, b, le-ltb 4294967295 v r.small))
+        ap Some (sym b) ∙ parsed-right (rw (ne_eqb (length text) 0 r.some, a, b, le-ltb 4294967295 v r.small))
 
     module _ (h : i < length text) where
       abbrev digit : ℕ
@@ -60,36 +62,34 @@ module _ (text : List ℕ) where
       one : drop i text ≡ digit ∷ drop (suc i) text
       one = drop-cons text i 0 h
 
-      no_digit : digits (drop i text) ≡ false → Wrong ≡ parsed text
+      no_digit : digits (drop i text) ≡ false → None ≡ parsed text
       no_digit e = parsed-wrong (unfold wrong in rw (ne_eqb (length text) 0 r.some, sym r.all ∙ e))
 
-      pub below-digits : digit < 48 → Wrong ≡ parsed text
-      below-digits l = no_digit (unfold digits in ap digits one ∙ rw (lt-ltb digit 48 l))
+      pub not-digit : IsNotAsciiDigit digit → None ≡ parsed text
+      unfolding digits
+      not-digit (inl l) = no_digit (ap digits one ∙ rw (lt-ltb digit 48 l))
+      not-digit (inr l) = no_digit (ap digits one ∙ rw (le-ltb digit 48 (omega arith), lt-ltb 57 digit l))
 
-      module _ (low : 48 ≤ digit) where
-        pub above-digits : 57 < digit → Wrong ≡ parsed text
-        above-digits l = no_digit (unfold digits in ap digits one ∙ rw (le-ltb digit 48 low, lt-ltb 57 digit l))
+      module _ (d : IsAsciiDigit digit) where
+        abbrev next : ℕ
+        next = v * 10 + (digit - 48)
 
-        module _ (high : digit ≤ 57) where
-          abbrev next : ℕ
-          next = v * 10 + (digit - 48)
+        more : value next (drop (suc i) text) ≡ value 0 text
+        unfolding value
+        more = sym (ap (value v) one) ∙ r.whole
 
-          more : value next (drop (suc i) text) ≡ value 0 text
-          unfolding value
-          more = sym (ap (value v) one) ∙ r.whole
+        rest : digits (drop (suc i) text) ≡ digits text
+        unfolding digits
+        rest = sym (ap digits one ∙ rw (le-ltb digit 48 d.0, le-ltb 57 digit d.1)) ∙ r.all
 
-          rest : digits (drop (suc i) text) ≡ digits text
-          unfolding digits
-          rest = sym (ap digits one ∙ rw (le-ltb digit 48 low, le-ltb 57 digit high)) ∙ r.all
+        pub too_large : 4294967295 < next → None ≡ parsed text
+        unfolding wrong
+        too_large l =
+            let large : 4294967295 < value 0 text = omega (arith, more, value_grows next (drop (suc i) text)) in
+            parsed-wrong (rw (ne_eqb (length text) 0 r.some, lt-ltb 4294967295 (value 0 text) large) (or-true (not (digits text))))
 
-          pub too_large : 4294967295 < next → Wrong ≡ parsed text
-          unfolding wrong
-          too_large l =
-              let large : 4294967295 < value 0 text = omega (arith, more, value_grows next (drop (suc i) text)) in
-              parsed-wrong (rw (ne_eqb (length text) 0 r.some, lt-ltb 4294967295 (value 0 text) large) (or-true (not (digits text))))
-
-          pub reading-next : next ≤ 4294967295 → Reading next (i + 1)
-          reading-next l = rw (add-one i) (record { some = r.some; within = omega arith; small = l; all = rest; whole = more })
+        pub reading-next : {v' : ℕ} → v' ≡ next → v' < 4294967296 → Reading v' (i + 1)
+        reading-next e l = rw (add-one i, e) (record { some = r.some; within = omega arith; small = omega arith; all = rest; whole = more })
 
 -- A number in base ten, as it is written, is read as itself.
 value-last : (v : ℕ) (ds : List ℕ) (d : ℕ) → value v (ds ++ (d ∷ [])) ≡ value v ds * 10 + (d - 48)
@@ -128,4 +128,7 @@ unfolding wrong
 reads-printed n h =
     let s = same-decimal (suc n) n (omega arith) in
     let some : length (decimal n) ≡ 0 → ⊥ = λ e. omega (arith, s.some) in
-    sym (ap Number (sym s.whole) ∙ parsed-right (decimal n) (rw (ne_eqb (length (decimal n)) 0 some, s.all, s.whole, le-ltb 4294967295 n h)))
+    sym (ap Some (sym s.whole) ∙ parsed-right (decimal n) (rw (ne_eqb (length (decimal n)) 0 some, s.all, s.whole, le-ltb 4294967295 n h)))
+
+-- what the goals of `parse` need
+pub ruleset reading = (parsed-empty, reading-start, parsed-all, not-digit, too_large)

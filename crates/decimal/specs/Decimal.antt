@@ -1,9 +1,7 @@
 -- Numbers in base ten, as bytes: read from a text, and written in a line.
-use Rattle.std.specs.Prelude.{Bool, true, false, cond, not, ◌&&◌, ◌||◌, List, [], ◌∷◌, ◌++◌, ℕ, zero, suc, ◌+◌, ◌-◌, ◌*◌, ◌/◌, ◌%◌, eqb, ltb, length}
+use Rattle.std.specs.Prelude.{Bool, true, false, cond, not, ◌&&◌, ◌||◌, List, [], ◌∷◌, ◌++◌, ℕ, zero, suc, ◌+◌, ◌-◌, ◌*◌, ◌/◌, ◌%◌, eqb, ltb, length, Option, None, Some}
 use Prim.Native.Char.{code}
 use Prim.Native.String.{String}
-use Rattle.decimal.specs.declared.reading.Parsed.{Parsed}
-use Rattle.decimal.specs.declared.reading.Parsed.TheVariants.{Number, Wrong}
 
 -- a text's bytes
 abbrev pub ascii : String → List ℕ
@@ -24,8 +22,8 @@ value v (d ∷ ds) = value (v * 10 + (d - 48)) ds
 unfoldable pub wrong : List ℕ → Bool
 wrong text = eqb (length text) 0 || (not (digits text) || ltb 4294967295 (value 0 text))
 
-unfoldable pub parsed : List ℕ → Parsed
-parsed text = cond (wrong text) Wrong (Number (value 0 text))
+unfoldable pub parsed : List ℕ → Option ℕ
+parsed text = cond (wrong text) None (Some (value 0 text))
 
 -- n in base ten, without leading zeros; k, above n, only bounds the recursion. (The choice is an `elim`, which works out the taken branch alone; a `cond` would go
 -- on to the bound.)

@@ -4,5 +4,5 @@
 mod reading;
 mod writing;
 
-pub use reading::{Parsed, parse};
-pub use writing::{put, put_decimal, put_line};
+pub use reading::parse;
+pub use writing::Output;

@@ -2,35 +2,20 @@
 ghost use Rattle.std.specs.Prelude.{◌≡◌};
 ghost use Rattle.decimal.specs.Decimal.{parsed};
 
-#[derive(Drop)]
-pub enum Parsed {
-    Number(u32),
-    Wrong,
-}
-
 // The number that a text of digits stands for, if it has 32 bits.
-pub fn parse(text: &[u8]) -> Parsed
+#[tactic(auto, using(crate::proofs::ReadingLaws::reading))]
+pub fn parse(text: &[u8]) -> Option<u32>
     ensures { result ≡ parsed text.now }
 {
-    if text.len() == 0 {
-        return Parsed::Wrong;
+    if text.is_empty() {
+        return None;
     }
     let mut value: u32 = 0;
-    let mut i: usize = 0;
-    while i < text.len() {
-        let digit = text[i];
-        if digit < 48 {
-            return Parsed::Wrong;
+    for &digit in text {
+        if !digit.is_ascii_digit() {
+            return None;
         }
-        if 57 < digit {
-            return Parsed::Wrong;
-        }
-        let next = (value as u64) * 10 + ((digit - 48) as u64);
-        if 4294967295 < next {
-            return Parsed::Wrong;
-        }
-        value = next as u32;
-        i += 1;
+        value = value.checked_mul(10)?.checked_add((digit - b'0') as u32)?;
     }
-    Parsed::Number(value)
+    Some(value)
 }

@@ -1,36 +1,47 @@
-// Bytes, numbers in base ten and lines, written into a buffer one behind the other. Each function answers the index behind what it wrote.
-ghost use Rattle.std.specs.Prelude.{◌+◌, ◌≤◌, length};
+// Bytes, numbers in base ten and lines, written into a buffer one behind the other.
+ghost use Rattle.std.specs.Prelude.{◌≡◌, ◌+◌, ◌≤◌, length};
 ghost use Rattle.decimal.specs.Decimal.{decimal, line};
 ghost use Rattle.decimal.specs.Buffer.{Appended};
 
-// The bytes as they are.
-pub fn put(out: &mut [u8], at: usize, bytes: &[u8]) -> usize
-    requires { at + length bytes.now ≤ length out.old }
-    ensures { Appended out.old at out.new result bytes.now }
-{
-    octets::copy(out, at, bytes);
-    at + bytes.len()
+// A buffer that the caller lends, and the index behind what is written into it.
+#[derive(Debug, Drop)]
+pub struct Output<'a> {
+    pub buffer: &'a mut [u8],
+    pub end: usize,
 }
 
-// The number in base ten. The recursion is as deep as it has digits.
-pub fn put_decimal(out: &mut [u8], at: usize, number: usize) -> usize
-    requires { at + length (decimal number) ≤ length out.old }
-    ensures { Appended out.old at out.new result (decimal number) }
-{
-    let digit = [48 + (number % 10) as u8];
-    if number < 10 {
-        return put(out, at, &digit);
+impl Output<'_> {
+    // The bytes as they are.
+    pub fn put(&mut self, bytes: &[u8])
+        requires { self.old.end + length bytes.now ≤ length self.old.buffer.now }
+        ensures same_buffer { self.new.buffer.ghost_name ≡ self.old.buffer.ghost_name }
+        ensures put { Appended self.old.buffer.now self.old.end self.new.buffer.now self.new.end bytes.now }
+    {
+        octets::copy(self.buffer, self.end, bytes);
+        self.end += bytes.len();
     }
-    let next = put_decimal(out, at, number / 10);
-    put(out, next, &digit)
-}
 
-// Words and a number.
-pub fn put_line(out: &mut [u8], at: usize, words: &[u8], number: usize) -> usize
-    requires { at + length (line words.now number) ≤ length out.old }
-    ensures { Appended out.old at out.new result (line words.now number) }
-{
-    let number_at = put(out, at, words);
-    let end = put_decimal(out, number_at, number);
-    put(out, end, b"\n")
+    // The number in base ten. The recursion is as deep as it has digits.
+    pub fn put_decimal(&mut self, number: usize)
+        requires { self.old.end + length (decimal number) ≤ length self.old.buffer.now }
+        ensures same_buffer { self.new.buffer.ghost_name ≡ self.old.buffer.ghost_name }
+        ensures put { Appended self.old.buffer.now self.old.end self.new.buffer.now self.new.end (decimal number) }
+    {
+        let digit = [b'0' + (number % 10) as u8];
+        if 10 <= number {
+            self.put_decimal(number / 10);
+        }
+        self.put(&digit);
+    }
+
+    // Words and a number.
+    pub fn put_line(&mut self, words: &[u8], number: usize)
+        requires { self.old.end + length (line words.now number) ≤ length self.old.buffer.now }
+        ensures same_buffer { self.new.buffer.ghost_name ≡ self.old.buffer.ghost_name }
+        ensures put { Appended self.old.buffer.now self.old.end self.new.buffer.now self.new.end (line words.now number) }
+    {
+        self.put(words);
+        self.put_decimal(number);
+        self.put(b"\n");
+    }
 }

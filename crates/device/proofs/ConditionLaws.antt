@@ -1,33 +1,29 @@
 -- What a manifest, a block's place and a block message are known to be where the tests before have passed.
 use mathlib.Core.Path.{◌≡◌, sym, ap, ap₂, ◌∙◌}
-use mathlib.Core.Logic.{◌⊎◌, inl, inr}
 use mathlib.Core.Bool.{Bool, false, not}
 use mathlib.Core.List.{List}
 use Prim.Native.Nat.{ℕ, zero, suc, ◌+◌, ◌-◌, ◌*◌, ◌≤◌, ◌<◌}
 use native.Mathlib.Nat.{zero-add}
 use native.Mathlib.Omega.{arith}
-use lib.Dec.{ltb, leb}
+use lib.Dec.{ltb}
 use lib.ListN.{length, take}
-use lib.Seq.{length-take-le}
-use borrow.Author.Tests.{eqb-true, eq-eqb, ne_eqb, not-false, ltb-false, lt-ltb, le-ltb, le-leb, lt-leb}
+use borrow.Author.Tests.{eqb-true, eq-eqb, ne_eqb, not-false, ltb-false}
 use Rattle.octets.specs.Octets.{equal}
 use Rattle.sha256.specs.Sha256.{digest}
 use Rattle.sha256.proofs.DigestLaws.{length-digest}
-use Rattle.merkle.specs.Limits.{max_blocks, hash_length}
+use Rattle.merkle.specs.Limits.{hash_length}
 use Rattle.merkle.specs.Blocks.{cut, overlay}
 use Rattle.merkle.specs.Shape.{shape}
 use Rattle.merkle.specs.Hash.{plain, root_over}
 use Rattle.merkle.specs.Frontier.{carried_count}
 use Rattle.merkle.specs.Held.{fits}
 use Rattle.merkle.specs.Cost.{cost, fits_cost}
-use Rattle.merkle.proofs.ShapeLaws.{lt-or-le}
 use Rattle.merkle.proofs.HashLaws.{hash-same}
 use Rattle.wire.specs.declared.manifest.Manifest.{Manifest}
 use Rattle.wire.specs.Size.{wrong_size}
 use Rattle.wire.specs.Geometry.{count_of, block_length, blocks_of, with_block, tree_over}
 use Rattle.wire.specs.Message.{block_in, hashes_after, due_length}
 use Rattle.wire.specs.Cost.{tree_cost, comparison_cost, last_cost, cost_due}
-use Rattle.wire.proofs.SizeLaws.{sized}
 use Rattle.wire.proofs.GeometryLaws.{before-is, block-end, with_blocks}
 use Rattle.wire.proofs.MessageLaws.{Due}
 use Rattle.wire.proofs.CostLaws.{costs-due, with-cost}
@@ -37,23 +33,7 @@ use Rattle.machine.specs.Flash.{stored}
 use Rattle.machine.specs.Refusals.{too_small, wrong_length, mismatch, lacks_root, last_altered, spent}
 use Rattle.machine.proofs.HeldLaws.{mismatch-is}
 
--- not below is not above
-pub not-above : (a b : ℕ) → leb a b ≡ not (ltb b a)
-not-above a b = go (lt-or-le b a)
-  where
-    go : (b < a) ⊎ (a ≤ b) → leb a b ≡ not (ltb b a)
-    go (inl p) = rw (lt-leb a b p, lt-ltb b a p)
-    go (inr p) = rw (le-leb a b p, le-ltb b a p)
-
 module _ (s : Manifest) (flash : List ℕ) where
-  -- there are no more blocks than the limit, and so many but one fit into the program's bytes
-  pub rest-fits : (n : ℕ) → wrong_size s.block_len s.image_len ≡ false → too_small s flash ≡ false → n ≡ count_of s
-      → (0 < n) × (n ≤ max_blocks) × ((n - 1) * s.block_len ≤ length (take s.image_len flash))
-  unfolding too_small count_of
-  rest-fits n e t en =
-      let z = sized _ _ e in
-      rw en (z.first, z.count, omega (arith, z.below, length-take-le s.image_len flash (ltb-false _ _ t)))
-
   -- block i has room in the flash
   pub room : (i : ℕ) → s.image_len ≤ length flash → 0 < i → i ≤ count_of s → (i - 1) * s.block_len + block_length s.block_len s.image_len i ≤ length flash
   room zero fits low high = absurd (omega arith)

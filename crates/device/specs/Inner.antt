@@ -1,6 +1,6 @@
 -- What contracts of inner functions cite: which tests have passed before, and the block that a message brings.
 use Rattle.std.specs.Prelude.{◌≡◌, Bool, true, false, ◌&&◌, cond, List, [], ◌∷◌, ℕ}
-use Rattle.std.proofs.Math.Option.{none}
+use Rattle.std.specs.Prelude.{None}
 use Rattle.sha256.specs.Sha256.{digest}
 use Rattle.wire.specs.declared.kind.Kind.{Kind}
 use Rattle.wire.specs.declared.kind.Kind.TheVariants as kinds
@@ -12,7 +12,8 @@ use Rattle.wire.specs.Message.{least_length, manifest_in, block_in, update_numbe
 use Rattle.machine.specs.declared.state.Stage.{Stage}
 use Rattle.machine.specs.Device.{next_of}
 use Rattle.machine.specs.Refusals.{senseless, too_small, not_loading, not_complete, not_next, wrong_length, spent, of_manifest}
-use Rattle.device.specs.Fields.{device_of}
+use Rattle.device.specs.declared.view.View.{View}
+use Rattle.device.specs.Fields.{lent}
 
 -- an update of either kind
 unfoldable pub updates : Kind → Bool
@@ -22,13 +23,13 @@ updates k = elim k [ kinds.Program ↦ false | kinds.Block ↦ false | kinds.Upd
 unfoldable pub early : Kind → Stage → Bool
 early k t = updates k && not_complete t
 
--- 1 does not apply, whatever model, key and hashes are
-abbrev pub Sensible : Stage → Manifest → Type 0
-Sensible stage current = (model : ℕ) (key hashes : List ℕ) → senseless (device_of model key stage current hashes) ≡ false
+-- 1 does not apply, whatever the hashes are
+abbrev pub Sensible : View → Type 0
+Sensible v = (hashes : List ℕ) → senseless (lent v hashes) ≡ false
 
--- none of 4, 5, 6, 7 applies to manifest s, whatever key and hashes are
-abbrev pub Newer : ℕ → Stage → Manifest → Manifest → Type 0
-Newer model stage current s = (key hashes : List ℕ) → first_that_applies (of_manifest (device_of model key stage current hashes) s) ≡ none
+-- none of 4, 5, 6, 7 applies to manifest s, whatever the hashes are
+abbrev pub Newer : View → Manifest → Type 0
+Newer v s = (hashes : List ℕ) → first_that_applies (of_manifest (lent v hashes) s) ≡ None
 
 -- what a block message meets before anything is hashed: 10, 8, 11, 12, 20; i is the next number
 unfoldable pub of_unhashed : (budget : ℕ) → Stage → Manifest → (flash m : List ℕ) → ℕ → List (Refusal × Bool)

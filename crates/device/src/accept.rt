@@ -1,20 +1,23 @@
 // What an accepted message does. Only here are hashes and flash written, and only `receive_in_place` calls this, where no refusal applies.
+#![tactic(auto, unfolding(machine::specs::Step::accept, machine::specs::Step::accept_program, machine::specs::Step::stage_after, crate::specs::Inner::program_of, crate::specs::Inner::block_number_of, crate::specs::Inner::head_of, crate::specs::Inner::block_of))]
+
 ghost use Rattle.std.specs.Prelude.{◌≡◌, false, List, ℕ, pred, ◌+◌, ◌-◌, ◌*◌, ◌≤◌, ◌<◌, length};
 ghost use Rattle.merkle.specs.Limits.{max_blocks, hash_length, held_bytes};
 ghost use Rattle.merkle.specs.Frontier.{carried_count};
 ghost use Rattle.merkle.specs.Held.{advanced};
 ghost use Rattle.wire.specs.declared.kind.Kind.TheVariants as kinds;
-ghost use Rattle.wire.specs.Size.{wrong_size};
 ghost use Rattle.wire.specs.Geometry.{count_of, with_block};
 ghost use Rattle.wire.specs.Message.{least_length};
 ghost use Rattle.wire.specs.Message as messages;
 ghost use Rattle.machine.specs.declared.state.Device.{Device};
 ghost use Rattle.machine.specs.Step.{accept_program, stage_after};
 ghost use Rattle.machine.specs.Step as spec;
-ghost use Rattle.device.specs.Fields.{device_of, Unrefused};
+ghost use Rattle.device.specs.Fields.{device_of, lent, Unrefused};
 ghost use Rattle.device.specs.Inner as inner;
 
+use crate::place::Place;
 use crate::readers::{next_of, updates};
+use crate::view::View;
 use machine::Stage;
 use wire::{Kind, Manifest};
 
@@ -25,28 +28,61 @@ pub struct InPlaceSituation {
     pub manifest: Manifest,
 }
 
-// What an accepted message of this kind makes of stage, manifest, hashes and flash; model and key stay.
-pub fn accept(
-    stage: Stage,
-    current: Manifest,
-    hashes: &mut [u8],
-    kind: Kind,
-    flash: &mut [u8],
-    message: &[u8],
-) -> InPlaceSituation
-    requires { (length hashes.old ≡ held_bytes) × (kind ≡ messages.kind message.now) × Unrefused stage current hashes.old flash.old message.now }
-    ensures { (model : ℕ) (key : List ℕ) → spec.accept kind (device_of model key stage current hashes.old) flash.old message.now ≡ record { device = device_of model key result.stage result.manifest hashes.new; flash = flash.new } }
-{
-    match kind {
-        Kind::Program => accept_program(hashes, message),
-        Kind::Block | Kind::Update | Kind::PathUpdate => {
-            accept_block(stage, current, hashes, kind, flash, message)
+impl View<'_> {
+    // What an accepted message of this kind makes of stage, manifest, hashes and flash; model and key stay.
+    pub(crate) fn accept(
+        &self,
+        hashes: &mut [u8],
+        kind: Kind,
+        flash: &mut [u8],
+        message: &[u8],
+    ) -> InPlaceSituation
+        requires { (length hashes.old ≡ held_bytes) × (kind ≡ messages.kind message.now) × Unrefused self.now hashes.old flash.old message.now }
+        ensures { spec.accept kind (lent self.now hashes.old) flash.old message.now ≡ record { device = device_of self.now.model self.now.key.now result.stage result.manifest hashes.new; flash = flash.new } }
+    {
+        match kind {
+            Kind::Program => accept_program(hashes, message),
+            Kind::Block | Kind::Update | Kind::PathUpdate => {
+                self.accept_block(hashes, kind, flash, message)
+            }
+            // Never accepted; the definition has this arm too.
+            Kind::Unknown => InPlaceSituation {
+                stage: self.stage,
+                manifest: self.manifest,
+            },
         }
-        // Never accepted; the definition has this arm too.
-        Kind::Unknown => InPlaceSituation {
-            stage,
-            manifest: current,
-        },
+    }
+
+    // Kinds 2, 3 and 4. One write for all of them: the compiler writes a copy of unknown length out at each place. An update leaves stage and hashes.
+    fn accept_block(
+        &self,
+        hashes: &mut [u8],
+        kind: Kind,
+        flash: &mut [u8],
+        message: &[u8],
+    ) -> InPlaceSituation
+        requires { (length hashes.old ≡ held_bytes) × (kind ≡ messages.kind message.now) × (inner.updates kind ≡ false → kind ≡ kinds.Block) × Unrefused self.now hashes.old flash.old message.now }
+        ensures { spec.accept kind (lent self.now hashes.old) flash.old message.now ≡ record { device = device_of self.now.model self.now.key.now result.stage result.manifest hashes.new; flash = flash.new } }
+    {
+        let stage = self.stage;
+        let update = updates(kind);
+        let manifest = program_of(update, self.manifest, message);
+        let place = Place {
+            manifest: &manifest,
+            number: number_of(update, stage, message),
+        };
+        let len = place.own_len();
+        write_block(
+            flash,
+            usize::from(manifest.block_len),
+            place.number,
+            block_of(update, message, len),
+        );
+        if update {
+            return InPlaceSituation { stage, manifest };
+        }
+        let stage = place.advance(hashes, wire::hashes_after(message, len));
+        InPlaceSituation { stage, manifest }
     }
 }
 
@@ -117,44 +153,14 @@ fn block_of(update: bool, message: &[u8], len: usize) -> &[u8]
     wire::block_in(message, len)
 }
 
-// The siblings that came with block `next` take the place of the held hash it was compared with; the answer is the stage after it.
-fn advance(hashes: &mut [u8], current: Manifest, next: u16, siblings: &[u8]) -> Stage
-    requires { (length hashes.old ≡ held_bytes) × (wrong_size current.block_len current.image_len ≡ false) × (0 < next) × (next ≤ count_of current) × (length siblings.now ≡ hash_length * carried_count (count_of current) next) }
-    ensures { (result ≡ stage_after (count_of current) next) × (hashes.new ≡ advanced (count_of current) (pred next) hashes.old siblings.now) }
-{
-    let n = wire::count_of(current);
-    merkle::advance(hashes, n, next as usize - 1, siblings);
-    stage_after(n, next)
-}
-
-// Kinds 2, 3 and 4. One write for all of them: the compiler writes a copy of unknown length out at each place. An update leaves stage and hashes.
-fn accept_block(
-    stage: Stage,
-    current: Manifest,
-    hashes: &mut [u8],
-    kind: Kind,
-    flash: &mut [u8],
-    message: &[u8],
-) -> InPlaceSituation
-    requires { (length hashes.old ≡ held_bytes) × (kind ≡ messages.kind message.now) × (inner.updates kind ≡ false → kind ≡ kinds.Block) × Unrefused stage current hashes.old flash.old message.now }
-    ensures { (model : ℕ) (key : List ℕ) → spec.accept kind (device_of model key stage current hashes.old) flash.old message.now ≡ record { device = device_of model key result.stage result.manifest hashes.new; flash = flash.new } }
-{
-    let update = updates(kind);
-    let manifest = program_of(update, current, message);
-    let number = number_of(update, stage, message);
-    let len = wire::own_len(manifest, number);
-    write_block(
-        flash,
-        manifest.block_len as usize,
-        number,
-        block_of(update, message, len),
-    );
-    if update {
-        return InPlaceSituation { stage, manifest };
-    }
-    let next = advance(hashes, manifest, number, wire::hashes_after(message, len));
-    InPlaceSituation {
-        stage: next,
-        manifest,
+impl Place<'_> {
+    // The siblings that came with this block take the place of the held hash it was compared with; the answer is the stage after it.
+    fn advance(&self, hashes: &mut [u8], siblings: &[u8]) -> Stage
+        requires { (length hashes.old ≡ held_bytes) × (length siblings.now ≡ hash_length * carried_count (count_of self.now.manifest.now) self.now.number) }
+        ensures { (result ≡ stage_after (count_of self.now.manifest.now) self.now.number) × (hashes.new ≡ advanced (count_of self.now.manifest.now) (pred self.now.number) hashes.old siblings.now) }
+    {
+        let n = self.count();
+        merkle::advance(hashes, n, self.index(), siblings);
+        stage_after(n, self.number)
     }
 }

@@ -1,4 +1,6 @@
 // The boot check: whether a complete device's program stands in the flash, whoever wrote that. Nothing is written here.
+#![tactic(auto, unfolding(machine::specs::BootCheck::of_boot, machine::specs::BootCheck::boot_check, wire::specs::Refusal::first_that_applies, machine::specs::Step::answer_of))]
+
 ghost use Rattle.std.specs.Prelude.{◌≡◌, List, ℕ};
 ghost use Rattle.sha256.specs.Sha256.{digest};
 ghost use Rattle.machine.specs.BootCheck.{boot_check};
@@ -13,16 +15,16 @@ pub fn boot_check(stage: Stage, manifest: Manifest, flash: &[u8]) -> Answer
     ensures { (model : ℕ) (key hashes : List ℕ) → result ≡ boot_check digest (device_of model key stage manifest hashes) flash.now }
 {
     if senseless(stage, manifest) {
-        return Answer::Refused(Refusal::State);
+        return Err(Refusal::State);
     }
     if not_complete(stage) {
-        return Answer::Refused(Refusal::Stage);
+        return Err(Refusal::Stage);
     }
     if too_small(manifest, flash) {
-        return Answer::Refused(Refusal::Area);
+        return Err(Refusal::Area);
     }
     if lacks_root(manifest, flash) {
-        return Answer::Refused(Refusal::Altered);
+        return Err(Refusal::Altered);
     }
-    Answer::Accepted
+    Ok(())
 }

@@ -1,23 +1,27 @@
 // The device (01: drive): a fresh one, what it answers to a message, and the boot check.
-#![tactic(auto)]
+#![tactic(auto, unfolding(crate::specs::Fields::step_in_place, machine::specs::Device::fresh_with))]
 
 mod accept;
 mod boot;
 mod conditions;
 mod judge;
+mod place;
 mod readers;
+mod view;
 
 ghost use Rattle.std.specs.Prelude.{◌≡◌};
 ghost use Rattle.sha256.specs.Sha256.{digest};
 ghost use Rattle.lms.specs.Lms.{valid};
+ghost use Rattle.machine.specs.Answer.{Refused};
 ghost use Rattle.machine.specs.Device.{fresh_with};
 ghost use Rattle.machine.specs.Step.{step};
-ghost use Rattle.device.specs.Fields.{device_of, step_in_place};
+ghost use Rattle.device.specs.Fields.{device_of, lent, step_in_place};
 
 pub use boot::boot_check;
 pub use conditions::senseless;
 use machine::{Answer, Device, Stage};
 pub use readers::{accepted_blocks, answer_number, next_of};
+pub use view::View;
 use wire::{Manifest, Refusal};
 
 // A fresh device: idle, with this model and key.
@@ -51,52 +55,46 @@ pub struct InPlaceOutcome {
     pub manifest: Manifest,
 }
 
+// A refusal: stage and manifest stay, and the message reports no compressions.
+fn refused(view: &View, refusal: Refusal, budget: u32) -> InPlaceOutcome
+    ensures { result ≡ record { answer = Refused refusal; compressions = 0; budget = budget; stage = view.now.stage; manifest = view.now.manifest } }
+{
+    InPlaceOutcome {
+        answer: Err(refusal),
+        compressions: 0,
+        budget,
+        stage: view.stage,
+        manifest: view.manifest,
+    }
+}
+
 // Answers a message; key and hashes stay where the caller keeps them. Hashes of another length than the array's are no device's: refused 1. A refusal leaves
 // state and flash as they were; nothing is written before the last test has passed.
 pub fn receive_in_place(
-    model: u32,
-    key: &[u8],
-    stage: Stage,
-    manifest: Manifest,
+    view: &View,
     hashes: &mut [u8],
     flash: &mut [u8],
     message: &[u8],
     budget: u32,
 ) -> InPlaceOutcome
-    ensures { step_in_place budget (device_of model key.now stage manifest hashes.old) flash.old message.now ≡ record { answer = result.answer; compressions = result.compressions; budget = result.budget; device = device_of model key.now result.stage result.manifest hashes.new; flash = flash.new } }
+    ensures { step_in_place budget (lent view.now hashes.old) flash.old message.now ≡ record { answer = result.answer; compressions = result.compressions; budget = result.budget; device = device_of view.now.model view.now.key.now result.stage result.manifest hashes.new; flash = flash.new } }
 {
     if hashes.len() != merkle::HELD_LEN {
-        return InPlaceOutcome {
-            answer: Answer::Refused(Refusal::State),
-            compressions: 0,
-            budget,
-            stage,
-            manifest,
-        };
+        return refused(view, Refusal::State, budget);
     }
     let kind = wire::kind_of(message);
-    let judgement = judge::judge(
-        model, key, stage, manifest, hashes, kind, flash, message, budget,
-    );
-    let answer = judgement.answer;
-    let Answer::Accepted = answer else {
-        return InPlaceOutcome {
-            answer,
-            compressions: 0,
-            budget,
-            stage,
-            manifest,
-        };
-    };
-    let next = accept::accept(stage, manifest, hashes, kind, flash, message);
-    let next_stage = next.stage;
-    let next_manifest = next.manifest;
-    InPlaceOutcome {
-        answer,
-        compressions: judgement.compressions,
-        budget,
-        stage: next_stage,
-        manifest: next_manifest,
+    match view.judge(hashes, kind, flash, message, budget) {
+        Err(refusal) => refused(view, refusal, budget),
+        Ok(compressions) => {
+            let next = view.accept(hashes, kind, flash, message);
+            InPlaceOutcome {
+                answer: Ok(()),
+                compressions,
+                budget,
+                stage: next.stage,
+                manifest: next.manifest,
+            }
+        }
     }
 }
 
@@ -111,36 +109,23 @@ pub struct Outcome {
 }
 
 // Answers a message, which came with this budget of SHA-256 compressions, to a device that is handed over whole.
-pub fn receive(device: Device, flash: &mut [u8], message: &[u8], budget: u32) -> Outcome
+pub fn receive(mut device: Device, flash: &mut [u8], message: &[u8], budget: u32) -> Outcome
     ensures { step digest valid budget device flash.old message.now ≡ record { answer = result.answer; compressions = result.compressions; budget = result.budget; device = result.device; flash = flash.new } }
 {
-    let key = device.key;
-    let stage = device.stage;
-    let manifest = device.manifest;
-    let mut hashes = device.hashes;
-    let after = receive_in_place(
-        device.model,
-        &key,
-        stage,
-        manifest,
-        &mut hashes,
-        flash,
-        message,
-        budget,
-    );
-    let answer = after.answer;
-    let stage = after.stage;
-    let manifest = after.manifest;
+    let held = &mut device;
+    let view = View {
+        model: held.model,
+        key: &held.key,
+        stage: held.stage,
+        manifest: held.manifest,
+    };
+    let after = receive_in_place(&view, &mut held.hashes, flash, message, budget);
+    device.stage = after.stage;
+    device.manifest = after.manifest;
     Outcome {
-        answer,
+        answer: after.answer,
         compressions: after.compressions,
         budget: after.budget,
-        device: Device {
-            model: device.model,
-            key,
-            stage,
-            manifest,
-            hashes,
-        },
+        device,
     }
 }

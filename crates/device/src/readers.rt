@@ -1,20 +1,21 @@
 // What is read of an answer, of a kind and of a device.
-ghost use Rattle.std.specs.Prelude.{◌≡◌, List, ℕ};
-ghost use Rattle.machine.specs.Device.{serial_of, next_of};
+#![tactic(auto, unfolding(machine::specs::Device::next_of, machine::specs::Readers::accepted_blocks, wire::specs::Geometry::count_of, crate::specs::Inner::updates))]
+
+ghost use Rattle.std.specs.Prelude.{◌≡◌};
+ghost use Rattle.machine.specs.Device.{next_of};
 ghost use Rattle.machine.specs.Readers.{number_of, accepted_blocks};
-ghost use Rattle.device.specs.Fields.{device_of};
 ghost use Rattle.device.specs.Inner as inner;
 
 use machine::{Answer, Device, Stage};
-use wire::{Kind, Manifest};
+use wire::Kind;
 
 // 0 if accepted, else the refusal's number.
 pub fn answer_number(answer: Answer) -> u8
     ensures { result ≡ number_of answer }
 {
     match answer {
-        Answer::Accepted => 0,
-        Answer::Refused(refusal) => wire::refusal_number(refusal),
+        Ok(()) => 0,
+        Err(refusal) => u8::from(refusal),
     }
 }
 
@@ -22,38 +23,22 @@ pub fn answer_number(answer: Answer) -> u8
 pub fn updates(kind: Kind) -> bool
     ensures { result ≡ inner.updates kind }
 {
-    match kind {
-        Kind::Program => false,
-        Kind::Block => false,
-        Kind::Update => true,
-        Kind::PathUpdate => true,
-        Kind::Unknown => false,
-    }
+    matches!(kind, Kind::Update | Kind::PathUpdate)
 }
 
 // How many blocks of its program the device has. Any struct value is taken: one without blocks or bytes has none.
 pub fn accepted_blocks(device: Device) -> usize
     ensures { result ≡ accepted_blocks device }
 {
-    let stage = device.stage;
     let manifest = device.manifest;
-    match stage {
+    match device.stage {
         Stage::Idle => 0,
-        Stage::Loading(next) => {
-            if next == 0 {
-                return 0;
-            }
-            next as usize - 1
-        }
-        Stage::Complete => {
-            if manifest.block_len == 0 {
-                return 0;
-            }
-            if manifest.image_len == 0 {
-                return 0;
-            }
-            wire::block_count(manifest.block_len as usize, manifest.image_len as usize)
-        }
+        Stage::Loading(next) => usize::from(next.saturating_sub(1)),
+        Stage::Complete if manifest.block_len == 0 || manifest.image_len == 0 => 0,
+        Stage::Complete => wire::block_count(
+            usize::from(manifest.block_len),
+            manifest.image_len as usize,
+        ),
     }
 }
 
@@ -62,19 +47,7 @@ pub fn next_of(stage: Stage) -> u16
     ensures { result ≡ next_of stage }
 {
     match stage {
-        Stage::Idle => 0,
         Stage::Loading(next) => next,
-        Stage::Complete => 0,
-    }
-}
-
-// The serial that a new one must be above: 0 when idle.
-pub fn serial_of(stage: Stage, current: Manifest) -> u32
-    ensures { (model : ℕ) (key hashes : List ℕ) → result ≡ serial_of (device_of model key stage current hashes) }
-{
-    match stage {
-        Stage::Idle => 0,
-        Stage::Loading(_) => current.serial,
-        Stage::Complete => current.serial,
+        Stage::Idle | Stage::Complete => 0,
     }
 }

@@ -1,13 +1,6 @@
 -- What the boot check tells, and when a flash is found altered.
-use mathlib.Core.Path.{◌≡◌, refl, sym, ap, ◌∙◌, subst}
-use mathlib.Core.Logic.{◌⊎◌, inl, inr, ⊎_elim}
-use mathlib.Core.Bool.{Bool, true, false, ◌&&◌, true≢false}
-use mathlib.Core.List.{List, []}
-use mathlib.Core.Option.{none, some}
-use Prim.Native.Nat.{ℕ, zero, suc, ◌≤◌}
-use native.Mathlib.Omega.{arith}
-use lib.ListN.{length}
-use borrow.Author.Tests.{eqb-true, le-ltb, ltb-false, not-false}
+use Rattle.std.proofs.Common.{◌≡◌, refl, sym, ap, ◌∙◌, subst, ◌⊎◌, inl, inr, ⊎_elim, Bool, true, false, ◌&&◌, true≢false, List, [], None, Some, ℕ, zero, suc, ◌≤◌, length, eqb-true, le-ltb, ltb-false}
+use borrow.Author.Tests.{not-false}
 use Rattle.merkle.specs.Limits.{hash_length}
 use Rattle.wire.specs.declared.kind.Kind.{Kind}
 use Rattle.wire.specs.declared.kind.Kind.TheVariants.{Program, Block, Update, PathUpdate, Unknown}
@@ -19,7 +12,7 @@ use Rattle.wire.proofs.SizeLaws.{sized}
 use Rattle.machine.specs.declared.state.Stage.{Stage}
 use Rattle.machine.specs.declared.state.Stage.TheVariants.{Idle, Loading, Complete}
 use Rattle.machine.specs.declared.state.Device.{Device}
-use Rattle.machine.specs.declared.state.Answer.TheVariants.{Accepted, Refused}
+use Rattle.machine.specs.Answer.{Accepted, Refused}
 use Rattle.machine.specs.Device.{Fresh, next_of, OutcomeOf, Situation, Outcome}
 use Rattle.machine.specs.Flash.{stored, updated}
 use Rattle.machine.specs.Refusals.{senseless, too_small, not_loading, not_complete, not_next, wrong_length, mismatch, lacks_root, last_altered, of_manifest, always, of_program, of_block, of_successor, of_update, of_path_update, of_kind, refusals}
@@ -63,7 +56,7 @@ boot-proves H hash-long d flash e =
 
 -- an accepted call, and the boot check after it
 module _ (H : List ℕ → List ℕ) (valid : (key message signature : List ℕ) → Bool) (budget : ℕ) (d : Device) (flash m : List ℕ)
-    (e : refusal_of H valid budget d flash m ≡ none) where
+    (e : refusal_of H valid budget d flash m ≡ None) where
   abbrev o : Outcome
   o = step H valid budget d flash m
 
@@ -120,7 +113,7 @@ pub data FoundAltered (H : List ℕ → List ℕ) (d : Device) (flash m : List �
 module _ (H : List ℕ → List ℕ) (valid : (key message signature : List ℕ) → Bool) (budget : ℕ) (d : Device) (flash m : List ℕ) where
   -- 19 is the first of the refusals of kind k
   abbrev First : Kind → Type 0
-  First k = first_that_applies (refusals H valid budget k d flash m) ≡ some refusal.Altered
+  First k = first_that_applies (refusals H valid budget k d flash m) ≡ Some refusal.Altered
 
   found-block : kind m ≡ Block → First Block → FoundAltered H d flash m
   unfolding refusals always of_kind of_block lacks test_of ahead not_next wrong_length
@@ -145,7 +138,7 @@ module _ (H : List ℕ → List ℕ) (valid : (key message signature : List ℕ)
   by_kind PathUpdate e f = absurd (never refusal.Altered _ refl f)
   by_kind Unknown e f = absurd (never refusal.Altered _ refl f)
 
-  pub found-altered : refusal_of H valid budget d flash m ≡ some refusal.Altered → FoundAltered H d flash m
+  pub found-altered : refusal_of H valid budget d flash m ≡ Some refusal.Altered → FoundAltered H d flash m
   unfolding refusal_of
   found-altered a = by_kind (kind m) refl a
 
@@ -184,7 +177,7 @@ module _ (H : List ℕ → List ℕ) (hash-long : (x : List ℕ) → length (H x
 
   no_block : (m : List ℕ) → kind m ≡ Block → FoundAltered H at.device at.flash m → ⊥
   no_block m e (at_block k loading turn long same altered) = true≢false (sym altered ∙ whole-last m k loading turn long same)
-  no_block m e (at-update k complete lacks) = let z : ◌≡◌ {A = ℕ} 0 1 = cc in omega arith
+  no_block m e (at-update k complete lacks) = cc
 
   misled : (m : List ℕ) → FoundAltered H at.device at.flash m → Misled H valid part step d flash cs
   misled m (at_block k loading turn long same altered) = absurd (no_block m k (at_block k loading turn long same altered))

@@ -1,10 +1,5 @@
 -- No message reads or writes what stands behind the program.
-use mathlib.Core.Path.{◌≡◌, refl, ap, subst}
-use mathlib.Core.Bool.{Bool, cond}
-use mathlib.Core.List.{List}
-use mathlib.Core.Option.{Option, none, some}
-use Prim.Native.Nat.{ℕ}
-use lib.ListN.{length, take, drop}
+use Rattle.std.proofs.Common.{◌≡◌, refl, ap, subst, Bool, cond, List, Option, None, Some, ℕ, length, take, drop}
 use Rattle.wire.specs.declared.kind.Kind.{Kind}
 use Rattle.wire.specs.declared.kind.Kind.TheVariants.{Program, Block, Update, PathUpdate, Unknown}
 use Rattle.wire.specs.declared.manifest.Manifest.{Manifest}
@@ -38,8 +33,8 @@ module _ (H : List ℕ → List ℕ) (valid : (key message signature : List ℕ)
     where
       go : (r : Option Refusal) → refusal_of H valid budget d flash m ≡ r
           → drop (by d m (kind m)) (outcome r budget (total H (kind m) d flash m) d flash (accept (kind m) d flash m)).flash ≡ drop (by d m (kind m)) flash
-      go none e = subst (λ T. drop T (accept (kind m) d flash m).flash ≡ drop T flash) (ap (λ (s : Manifest). s.image_len) (goes_by_lem d flash m (kind m))) (kept H valid d flash m (passed H valid d flash m budget e))
-      go (some r) e = refl
+      go None e = subst (λ T. drop T (accept (kind m) d flash m).flash ≡ drop T flash) (ap (λ (s : Manifest). s.image_len) (goes_by_lem d flash m (kind m))) (kept H valid d flash m (passed H valid d flash m budget e))
+      go (Some r) e = refl
 
 module _ (H : List ℕ → List ℕ) (valid : (key message signature : List ℕ) → Bool) (budget : ℕ) (d : Device) (f g m : List ℕ) (long : length f ≡ length g) where
   -- the first bytes are the same in both
@@ -56,7 +51,7 @@ module _ (H : List ℕ → List ℕ) (valid : (key message signature : List ℕ)
   updated-same s same = with-run s.block_len s.image_len _ f g _ long same
 
   -- 19 of an update reads as many bytes as the current manifest has: where 13 does not apply, its own manifest has as many
-  current-same : first_that_applies (of_successor d g (manifest_in m)) ≡ none → Same Update → take d.manifest.image_len f ≡ take d.manifest.image_len g
+  current-same : first_that_applies (of_successor d g (manifest_in m)) ≡ None → Same Update → take d.manifest.image_len f ≡ take d.manifest.image_len g
   unfolding carries of_manifest of_successor test_of
   current-same e same = rw (alike-lengths (manifest_in m) d.manifest (clear refusal.Unlike _ e)).1 at same
 
@@ -97,8 +92,8 @@ module _ (H : List ℕ → List ℕ) (valid : (key message signature : List ℕ)
     where
       go : (r : Option Refusal)
           → Matches (outcome r budget (total H (kind m) d f m) d f (accept (kind m) d f m)) (outcome r budget (total H (kind m) d g m) d g (accept (kind m) d g m))
-      go none = let a = accepted (kind m) same in (refl, (totals (kind m) same, refl), a.0, a.1)
-      go (some r) = (refl, (refl, refl), refl, same)
+      go None = let a = accepted (kind m) same in (refl, (totals (kind m) same, refl), a.0, a.1)
+      go (Some r) = (refl, (refl, refl), refl, same)
 
 pub behind-unread : (H : List ℕ → List ℕ) (valid : (key message signature : List ℕ) → Bool) → BehindUnread H valid
 unfolding goes_by

@@ -1,10 +1,5 @@
 -- No message writes behind the program: an accepted one leaves the bytes behind that of the manifest which the device then has.
-use mathlib.Core.Path.{◌≡◌, refl, sym, subst}
-use mathlib.Core.Bool.{Bool}
-use mathlib.Core.List.{List}
-use Prim.Native.Nat.{ℕ, zero, suc, ◌≤◌, ◌<◌}
-use native.Mathlib.Omega.{arith}
-use lib.ListN.{length, drop}
+use Rattle.std.proofs.Common.{◌≡◌, refl, sym, subst, Bool, List, ℕ, zero, suc, ◌≤◌, ◌<◌, arith, length, drop}
 use Rattle.wire.specs.declared.manifest.Manifest.{Manifest}
 use Rattle.wire.specs.Geometry.{count_of, block_length, with_block}
 use Rattle.wire.specs.Message.{kind, manifest_in, block_in, update_number, update_block, due_length, least_update}

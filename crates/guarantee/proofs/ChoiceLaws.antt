@@ -1,14 +1,9 @@
 -- A device that does what its definitions say: its step is the choice by the first refusal that applies.
-use mathlib.Core.Path.{◌≡◌, refl, sym, ap, ◌∙◌}
-use mathlib.Core.Bool.{Bool, true, false}
-use mathlib.Core.List.{List}
-use mathlib.Core.Option.{Option, none, some}
-use Prim.Native.Nat.{ℕ}
+use Rattle.std.proofs.Common.{◌≡◌, refl, sym, ap, ◌∙◌, Bool, true, false, List, Option, None, Some, ℕ, Ok, Err}
 use Rattle.wire.specs.declared.refusal.Refusal.{Refusal}
 use Rattle.wire.specs.Refusal.{refusal_number}
 use Rattle.wire.specs.Message.{kind}
-use Rattle.machine.specs.declared.state.Answer.{Answer}
-use Rattle.machine.specs.declared.state.Answer.TheVariants.{Accepted, Refused}
+use Rattle.machine.specs.Answer.{Answer, Accepted, Refused}
 use Rattle.machine.specs.Device.{SituationOf, OutcomeOf, Situation}
 use Rattle.machine.specs.Readers.{number_of}
 use Rattle.machine.specs.Step.{accept, answer_of, outcome}
@@ -18,22 +13,22 @@ use Rattle.guarantee.specs.Run.{Trace, after, answer_to}
 use Rattle.guarantee.specs.Demand3.{Calls}
 use Rattle.guarantee.proofs.RunLaws.{slot, then, PassedBy, Serves, keeps}
 
-by_number : (r : Option Refusal) → number_of (answer_of r) ≡ elim r [ none ↦ 0 | some x ↦ refusal_number x ]
+by_number : (r : Option Refusal) → number_of (answer_of r) ≡ elim r [ None ↦ 0 | Some x ↦ refusal_number x ]
 unfolding answer_of
-by_number none = refl
-by_number (some x) = refl
+by_number None = refl
+by_number (Some x) = refl
 
 module _ {D F : Type 0} (budget cost : ℕ) (d : D) (f : F) (t : SituationOf D F) where
   pub outcome-answer : (r : Option Refusal) → (outcome r budget cost d f t).answer ≡ answer_of r
   unfolding outcome answer_of
-  outcome-answer none = refl
-  outcome-answer (some x) = refl
+  outcome-answer None = refl
+  outcome-answer (Some x) = refl
 
   pub outcome-reports : (r : Option Refusal)
-      → (let o = outcome r budget cost d f t in (o.compressions ≡ elim o.answer [ Accepted ↦ cost | Refused x ↦ 0 ]) × (o.budget ≡ budget))
+      → (let o = outcome r budget cost d f t in (o.compressions ≡ elim o.answer [ Ok _ ↦ cost | Err x ↦ 0 ]) × (o.budget ≡ budget))
   unfolding outcome
-  outcome-reports none = (refl, refl)
-  outcome-reports (some x) = (refl, refl)
+  outcome-reports None = (refl, refl)
+  outcome-reports (Some x) = (refl, refl)
 
 module _ (H : List ℕ → List ℕ) (valid : (key message signature : List ℕ) → Bool) {D F C : Type 0} (part : Part D F C) (step : D → F → C → OutcomeOf D F)
     (to : D → F → C → SituationOf D F) (chosen : (d : D) (f : F) (c : C) → step d f c ≡ outcome (part.refusal d f c) (part.budget c) (part.total d f c) d f (to d f c)) where
@@ -41,13 +36,13 @@ module _ (H : List ℕ → List ℕ) (valid : (key message signature : List ℕ)
   given d f c = ap (λ o. o.answer) (chosen d f c) ∙ outcome-answer (part.budget c) (part.total d f c) d f (to d f c) (part.refusal d f c)
 
   reported : (d : D) (f : F) (c : C)
-      → ((step d f c).compressions ≡ elim (step d f c).answer [ Accepted ↦ part.total d f c | Refused r ↦ 0 ]) × ((step d f c).budget ≡ part.budget c)
+      → ((step d f c).compressions ≡ elim (step d f c).answer [ Ok _ ↦ part.total d f c | Err r ↦ 0 ]) × ((step d f c).budget ≡ part.budget c)
   reported d f c = rw (chosen d f c) (outcome-reports (part.budget c) (part.total d f c) d f (to d f c) (part.refusal d f c))
 
-  pub accepted-none : (d : D) (f : F) (c : C) → (step d f c).answer ≡ Accepted → part.refusal d f c ≡ none
+  pub accepted-none : (d : D) (f : F) (c : C) → (step d f c).answer ≡ Accepted → part.refusal d f c ≡ None
   accepted-none d f c e = answer-none (part.refusal d f c) (sym (given d f c) ∙ e)
 
-  pub none-accepted : (d : D) (f : F) (c : C) → part.refusal d f c ≡ none → (step d f c).answer ≡ Accepted
+  pub none-accepted : (d : D) (f : F) (c : C) → part.refusal d f c ≡ None → (step d f c).answer ≡ Accepted
   unfolding answer_of
   none-accepted d f c e = given d f c ∙ ap answer_of e
 
@@ -67,7 +62,7 @@ module _ (H : List ℕ → List ℕ) (valid : (key message signature : List ℕ)
     pub here : (d : D) (f : F) (c : C) → part.names c ≡ true
         → (let t = to d f c in slot part t.device t.flash ≡ accept (kind (part.message c)) (part.device d) (part.flash f) (part.message c))
     pub away : (d : D) (f : F) (c : C) → part.names c ≡ false → (let t = to d f c in slot part t.device t.flash ≡ slot part d f)
-    pub passes : (d : D) (f : F) (c : C) → part.names c ≡ true → part.refusal d f c ≡ none → PassedBy H valid part step d f c
+    pub passes : (d : D) (f : F) (c : C) → part.names c ≡ true → part.refusal d f c ≡ None → PassedBy H valid part step d f c
 
   abbrev seen : SituationOf D F → Situation
   seen s = slot part s.device s.flash
@@ -82,8 +77,8 @@ module _ (H : List ℕ → List ℕ) (valid : (key message signature : List ℕ)
     elsewhere d f c n = go (step d f c).answer refl
       where
         go : (a : Answer) → (step d f c).answer ≡ a → then H valid part step d f c ≡ slot part d f
-        go Accepted e = ap seen (left-accepted d f c e) ∙ fits.away d f c n
-        go (Refused r) e = refused-stays d f c r e
+        go (Ok _) e = ap seen (left-accepted d f c e) ∙ fits.away d f c n
+        go (Err r) e = refused-stays d f c r e
 
     pub serves : Serves H valid part step
     unfolding left

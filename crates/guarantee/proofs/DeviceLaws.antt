@@ -1,13 +1,9 @@
 -- The device's own step, in one call and in lists of calls.
-use mathlib.Core.Path.{◌≡◌, refl, sym, ◌∙◌}
-use mathlib.Core.Bool.{Bool, true≢false}
-use mathlib.Core.List.{List}
-use mathlib.Core.Option.{Option, none, some}
-use Prim.Native.Nat.{ℕ}
+use Rattle.std.proofs.Common.{◌≡◌, refl, sym, ◌∙◌, Bool, true≢false, List, Option, None, Some, ℕ}
 use Rattle.wire.specs.declared.refusal.Refusal.{Refusal}
 use Rattle.wire.specs.Message.{kind}
 use Rattle.machine.specs.declared.state.Device.{Device}
-use Rattle.machine.specs.declared.state.Answer.TheVariants.{Accepted, Refused}
+use Rattle.machine.specs.Answer.{Accepted, Refused}
 use Rattle.machine.specs.Device.{Situation}
 use Rattle.machine.specs.Step.{total, accept, answer_of, outcome, refusal_of, step, Call, step_call}
 use Rattle.machine.proofs.RefusalLaws.{passed, answer-none, answer-some}
@@ -22,7 +18,7 @@ use Rattle.guarantee.proofs.SecondHalf.{Willing}
 -- One call.
 module _ (H : List ℕ → List ℕ) (valid : (key message signature : List ℕ) → Bool) (budget : ℕ) (d : Device) (f m : List ℕ) where
   -- what an accepted message does
-  pub accepted-step : refusal_of H valid budget d f m ≡ none
+  pub accepted-step : refusal_of H valid budget d f m ≡ None
       → step H valid budget d f m
       ≡ (let s = accept (kind m) d f m in record { answer = Accepted; compressions = total H (kind m) d f m; budget = budget; device = s.device; flash = s.flash })
   unfolding step outcome
@@ -33,7 +29,7 @@ module _ (H : List ℕ → List ℕ) (valid : (key message signature : List ℕ)
   answered = choice.outcome-answer budget (total H (kind m) d f m) d f (accept (kind m) d f m) (refusal_of H valid budget d f m)
 
   -- what is accepted no refusal applies to
-  pub unrefused : (step H valid budget d f m).answer ≡ Accepted → refusal_of H valid budget d f m ≡ none
+  pub unrefused : (step H valid budget d f m).answer ≡ Accepted → refusal_of H valid budget d f m ≡ None
   unrefused e = answer-none (refusal_of H valid budget d f m) (sym answered ∙ e)
 
 -- The device's step as the choice by its first refusal, in lists of calls.
@@ -78,13 +74,13 @@ module _ (H : List ℕ → List ℕ) (valid : (key message signature : List ℕ)
       pub answered-at : answer_to (step_call H valid) d flash cs c ≡ answer_of (refusal_at cs c)
       answered-at = (calls d flash cs).answers c
 
-      pub some_at : (r : Refusal) → answer_to (step_call H valid) d flash cs c ≡ Refused r → refusal_at cs c ≡ some r
+      pub some_at : (r : Refusal) → answer_to (step_call H valid) d flash cs c ≡ Refused r → refusal_at cs c ≡ Some r
       some_at r e = answer-some (refusal_at cs c) r (sym answered-at ∙ e)
 
-      pub after-accepted : refusal_at cs c ≡ none → now (cs ▷ c) ≡ accept (kind c.message) (now cs).device (now cs).flash c.message
+      pub after-accepted : refusal_at cs c ≡ None → now (cs ▷ c) ≡ accept (kind c.message) (now cs).device (now cs).flash c.message
       unfolding after step_call step outcome
       after-accepted e = rw (e, outcome)
 
-      pub after-refused : (r : Refusal) → refusal_at cs c ≡ some r → now (cs ▷ c) ≡ now cs
+      pub after-refused : (r : Refusal) → refusal_at cs c ≡ Some r → now (cs ▷ c) ≡ now cs
       unfolding after step_call step outcome
       after-refused r e = rw (e, outcome)

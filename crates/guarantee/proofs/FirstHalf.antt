@@ -1,14 +1,5 @@
 -- Demand 3, first half: what a complete device has.
-use mathlib.Core.Path.{◌≡◌, refl, sym, ap, ◌∙◌, subst}
-use mathlib.Core.Logic.{◌⊎◌, inl, inr, ⊎_elim}
-use mathlib.Core.Bool.{Bool, true}
-use mathlib.Core.List.{List}
-use mathlib.Core.Option.{none, some}
-use Prim.Native.Nat.{ℕ, zero, suc, ◌*◌, ◌<◌}
-use native.Mathlib.Nat.{zero-add}
-use native.Mathlib.Omega.{arith}
-use lib.ListN.{length, take, length-take}
-use lib.Seq.{take_all}
+use Rattle.std.proofs.Common.{◌≡◌, refl, sym, ap, ◌∙◌, subst, ◌⊎◌, inl, inr, ⊎_elim, Bool, true, List, None, Some, ℕ, zero, suc, ◌*◌, ◌<◌, zero-add, arith, length, take, length-take, take_all}
 use Rattle.merkle.specs.Limits.{hash_length}
 use Rattle.merkle.specs.Blocks.{block_count, cut}
 use Rattle.merkle.specs.Shape.{shape}
@@ -25,7 +16,7 @@ use Rattle.wire.proofs.SizeLaws.{Sized}
 use Rattle.machine.specs.declared.state.Stage.{Stage}
 use Rattle.machine.specs.declared.state.Stage.TheVariants.{Idle, Loading, Complete}
 use Rattle.machine.specs.declared.state.Device.{Device}
-use Rattle.machine.specs.declared.state.Answer.TheVariants.{Accepted}
+use Rattle.machine.specs.Answer.{Accepted}
 use Rattle.machine.specs.Device.{Fresh, OutcomeOf, Situation}
 use Rattle.guarantee.specs.Part.{Part}
 use Rattle.guarantee.specs.Run.{Trace, Messages, ◌▷◌, answer_to, last_program, blocks_since, last_carrier, Completed}
@@ -65,38 +56,35 @@ module _ (H : List ℕ → List ℕ) (hash-long : (x : List ℕ) → length (H x
 module _ (H : List ℕ → List ℕ) (valid : (key message signature : List ℕ) → Bool) (d : Device) where
   -- the stage of a list that is complete
   stage-complete : (t : Stage) (s : Manifest) (array f : List ℕ) (ms : Messages) → Holds H valid d.key t s array f ms → Completed ms → t ≡ Complete
-  stage-complete Idle s array f ms w c = absurd (let l = c.last in let n = w.0 in let z : ◌≡◌ {A = ℕ} 0 1 = cc in omega arith)
+  stage-complete Idle s array f ms w c = absurd (cc (c.last, w.0))
   stage-complete (Loading zero) s array f ms w c = absurd w
   stage-complete (Loading (suc k)) s array f ms w c =
-      let q : s ≡ c.manifest = let l = c.last in let h = w.last in cc in
-      let b = w.below in
-      let e = w.since in
-      let a = c.all in
-      absurd (omega (arith, ap count_of q))
+      let q : s ≡ c.manifest = cc (c.last, w.last) in
+      absurd (omega (arith, w.below, w.since, c.all, ap count_of q))
   stage-complete Complete s array f ms w c = refl
 
   -- .. of one without a program message, and of one with blocks to come
-  stage-idle : (t : Stage) (s : Manifest) (array f : List ℕ) (ms : Messages) → Holds H valid d.key t s array f ms → last_program ms ≡ none → t ≡ Idle
+  stage-idle : (t : Stage) (s : Manifest) (array f : List ℕ) (ms : Messages) → Holds H valid d.key t s array f ms → last_program ms ≡ None → t ≡ Idle
   stage-idle Idle s array f ms w e = refl
   stage-idle (Loading zero) s array f ms w e = absurd w
-  stage-idle (Loading (suc k)) s array f ms w e = absurd (let l = w.last in let z : ◌≡◌ {A = ℕ} 0 1 = cc in omega arith)
-  stage-idle Complete s array f ms w e = absurd (let l = w.last in let z : ◌≡◌ {A = ℕ} 0 1 = cc in omega arith)
+  stage-idle (Loading (suc k)) s array f ms w e = absurd (cc w.last)
+  stage-idle Complete s array f ms w e = absurd (cc w.last)
 
   stage-loading : (t : Stage) (s : Manifest) (array f : List ℕ) (ms : Messages) → Holds H valid d.key t s array f ms
-      → (p : Manifest) → last_program ms ≡ some p → blocks_since ms < count_of p → t ≡ Loading (suc (blocks_since ms))
-  stage-loading Idle s array f ms w p e h = absurd (let n = w.0 in let z : ◌≡◌ {A = ℕ} 0 1 = cc in omega arith)
+      → (p : Manifest) → last_program ms ≡ Some p → blocks_since ms < count_of p → t ≡ Loading (suc (blocks_since ms))
+  stage-loading Idle s array f ms w p e h = absurd (cc w.0)
   stage-loading (Loading zero) s array f ms w p e h = absurd w
   stage-loading (Loading (suc k)) s array f ms w p e h = ap (λ (x : ℕ). Loading (suc x)) (sym w.since)
   stage-loading Complete s array f ms w p e h =
-      let q : w.first ≡ p = let l = w.last in cc in
+      let q : w.first ≡ p = cc w.last in
       absurd (omega (arith, w.all, ap count_of q))
 
-  carried-is : (ms : Messages) (s : Manifest) → Carried H valid d.key ms s → (m : List ℕ) → last_carrier ms ≡ some m → s ≡ manifest_in m
-  carried-is ms s c m e = let l = c.last in let q : c.carrier ≡ m = cc in c.manifest ∙ ap manifest_in q
+  carried-is : (ms : Messages) (s : Manifest) → Carried H valid d.key ms s → (m : List ℕ) → last_carrier ms ≡ Some m → s ≡ manifest_in m
+  carried-is ms s c m e = let q : c.carrier ≡ m = cc c.last in c.manifest ∙ ap manifest_in q
 
   -- the manifest of the last carrier
-  manifest-carried : (t : Stage) (s : Manifest) (array f : List ℕ) (ms : Messages) → Holds H valid d.key t s array f ms → (m : List ℕ) → last_carrier ms ≡ some m → s ≡ manifest_in m
-  manifest-carried Idle s array f ms w m e = absurd (let n = w.1 in let z : ◌≡◌ {A = ℕ} 0 1 = cc in omega arith)
+  manifest-carried : (t : Stage) (s : Manifest) (array f : List ℕ) (ms : Messages) → Holds H valid d.key t s array f ms → (m : List ℕ) → last_carrier ms ≡ Some m → s ≡ manifest_in m
+  manifest-carried Idle s array f ms w m e = absurd (cc w.1)
   manifest-carried (Loading zero) s array f ms w m e = absurd w
   manifest-carried (Loading (suc k)) s array f ms w m e = carried-is ms s w.carries m e
   manifest-carried Complete s array f ms w m e = carried-is ms s w.carries m e
@@ -128,7 +116,7 @@ module _ (H : List ℕ → List ℕ) (hash-long : (x : List ℕ) → length (H x
       (λ cs c n v.
       let stays = still-misled H valid part step d flash cs c (λ t x. absurd (n t.0 t.1)) in
       record { same = v.same; long = v.long; holds = v.holds; tree = λ c. ⊎_elim (λ r. inl r) (λ w. inr (stays w)) (v.tree c) })
-      (record { same = refl; long = refl; holds = rw fresh.idle (refl, refl); tree = λ c. absurd (let f = fresh.idle in let z : ◌≡◌ {A = ℕ} 0 1 = cc in omega arith) }) cs
+      (record { same = refl; long = refl; holds = rw fresh.idle (refl, refl); tree = λ c. absurd (cc fresh.idle) }) cs
 
   module _ (fresh : Fresh (part.device d)) (cs : Trace C) where
     holds : Holds H valid (part.device d).key (at cs).device.stage (at cs).device.manifest (at cs).device.hashes (at cs).flash (list cs)

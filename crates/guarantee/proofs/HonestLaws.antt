@@ -1,16 +1,6 @@
 -- The honest run, step by step: a device that loads a job accepts the sender's next block, and then loads it still.
-use mathlib.Core.Path.{◌≡◌, refl, sym, ap, ap₂, ◌∙◌, subst}
-use mathlib.Core.Logic.{◌⊎◌, inl, inr}
-use mathlib.Core.Bool.{Bool, true, false, not, ◌||◌}
-use mathlib.Core.List.{List, []}
-use mathlib.Core.Option.{none}
-use Prim.Native.Nat.{ℕ, suc, ◌*◌, max, ◌≤◌, ◌<◌}
-use native.Mathlib.Nat.{zero-mul}
-use native.Mathlib.Omega.{arith}
-use lib.Dec.{eqb, eqb-suc-zero}
-use lib.ListN.{length, take, drop, length-append, length-drop}
-use lib.Seq.{take_all}
-use borrow.Author.Tests.{lt-ltb, le-ltb, eq-eqb, ne_eqb}
+use Rattle.std.proofs.Common.{◌≡◌, refl, sym, ap, ap₂, ◌∙◌, subst, ◌⊎◌, inl, inr, Bool, true, false, not, ◌||◌, List, [], None, ℕ, suc, ◌*◌, max, ◌≤◌, ◌<◌, zero-mul, arith, eqb, length, take, drop, length-append, length-drop, take_all, lt-ltb, le-ltb, eq-eqb, ne_eqb}
+use lib.Dec.{eqb-suc-zero}
 use Rattle.merkle.specs.Limits.{hash_length, held_bytes}
 use Rattle.merkle.specs.Shape.{shape, depth}
 use Rattle.merkle.specs.Hash.{plain, hashes, root_over}
@@ -54,7 +44,7 @@ image-rooted H job old = ap (λ f. root_over (plain H) f (count job.image)) (sta
 
 -- the block message that a device waits for, with a budget that suffices
 pub within-unrefused : (H : List ℕ → List ℕ) (valid : (key message signature : List ℕ) → Bool) (budget : ℕ) (d : Device) (f m : List ℕ)
-    → NextDue H valid d f m → total H Block d f m ≤ budget → refusal_of H valid budget d f m ≡ none
+    → NextDue H valid d f m → total H Block d f m ≤ budget → refusal_of H valid budget d f m ≡ None
 unfolding total spent
 within-unrefused H valid budget d f m w e = due-unrefused H valid d f m budget w (le-ltb budget _ e)
 
@@ -160,7 +150,7 @@ module _ (H : List ℕ → List ℕ) (hash-long : (x : List ℕ) → length (H x
     next-cost h = sent-cost s.device s.flash j h (is-next h) w.manifest room-now
 
     pub next-accepted : (budget : ℕ) → j < count job.image → cost_due H (manifest_for H job) (suc j) ≤ budget
-        → refusal_of H valid budget s.device s.flash (block_for H job.image (suc j)) ≡ none
+        → refusal_of H valid budget s.device s.flash (block_for H job.image (suc j)) ≡ None
     next-accepted budget h e = within-unrefused H valid budget s.device s.flash (block_for H job.image (suc j)) (next-due h) (rw (next-cost h) e)
 
     pub next_here : j < count job.image → Here old (suc j) (accept Block s.device s.flash (block_for H job.image (suc j)))

@@ -1,14 +1,6 @@
 -- What every list of messages keeps, from a fresh device on: the invariant behind demand 3's first half.
-use mathlib.Core.Path.{◌≡◌, refl, sym, ap, ◌∙◌, subst}
-use mathlib.Core.Logic.{◌⊎◌, inl, inr, ⊎_elim}
-use mathlib.Core.Bool.{Bool, true, false, cond, true≢false}
-use mathlib.Core.List.{List}
-use mathlib.Core.Option.{none, some}
-use Prim.Native.Nat.{ℕ, zero, suc, pred, ◌*◌, ◌≤◌, ◌<◌}
-use native.Mathlib.Omega.{arith}
-use lib.Dec.{ltb}
-use lib.ListN.{length}
-use borrow.Author.Tests.{not-false, lt-ltb, le-ltb}
+use Rattle.std.proofs.Common.{◌≡◌, refl, sym, ap, ◌∙◌, subst, ◌⊎◌, inl, inr, ⊎_elim, Bool, true, false, cond, true≢false, List, None, Some, ℕ, zero, suc, pred, ◌*◌, ◌≤◌, ◌<◌, arith, ltb, length, lt-ltb, le-ltb}
+use borrow.Author.Tests.{not-false}
 use Rattle.merkle.specs.Limits.{max_blocks, hash_length, held_bytes}
 use Rattle.merkle.specs.Shape.{shape}
 use Rattle.merkle.specs.Frontier.{carried_count}
@@ -46,7 +38,7 @@ unfolding stage_after
 complete-last n i c = go (lt-or-le i n)
   where
     go : (i < n) ⊎ (n ≤ i) → n ≤ i
-    go (inl h) = absurd (let r = rw (lt-ltb i n h) at c in let z : ◌≡◌ {A = ℕ} 0 1 = cc in omega arith)
+    go (inl h) = absurd (cc (rw (lt-ltb i n h) at c))
     go (inr h) = h
 
 -- block i, from 1, leaves the flash's length
@@ -64,7 +56,7 @@ length-updated H valid d flash m p long = length-placed (manifest_in m) (update_
 
 -- what an accepted message of each kind adds to the list of those accepted
 module _ (ms : Messages) (m : List ℕ) where
-  pub with-program : kind m ≡ Program → (last_program (ms ▷ m) ≡ some (manifest_in m)) × (blocks_since (ms ▷ m) ≡ 0) × (last_carrier (ms ▷ m) ≡ some m) × (signature_in m ≡ program_signature m)
+  pub with-program : kind m ≡ Program → (last_program (ms ▷ m) ≡ Some (manifest_in m)) × (blocks_since (ms ▷ m) ≡ 0) × (last_carrier (ms ▷ m) ≡ Some m) × (signature_in m ≡ program_signature m)
   unfolding last_program blocks_since last_carrier carries signature_in
   with-program e = (rw (e, last_program), rw (e, blocks_since), rw (e, last_carrier), rw (e, signature_in))
 
@@ -73,12 +65,12 @@ module _ (ms : Messages) (m : List ℕ) where
   with-block e = (rw (e, last_program), rw (e, blocks_since), rw (e, last_carrier))
 
   pub with-update : kind m ≡ Update
-      → (last_program (ms ▷ m) ≡ last_program ms) × (blocks_since (ms ▷ m) ≡ blocks_since ms) × (last_carrier (ms ▷ m) ≡ some m) × (signature_in m ≡ update_signature (block_length (manifest_in m).block_len (manifest_in m).image_len (update_number m)) m)
+      → (last_program (ms ▷ m) ≡ last_program ms) × (blocks_since (ms ▷ m) ≡ blocks_since ms) × (last_carrier (ms ▷ m) ≡ Some m) × (signature_in m ≡ update_signature (block_length (manifest_in m).block_len (manifest_in m).image_len (update_number m)) m)
   unfolding last_program blocks_since last_carrier carries signature_in
   with-update e = (rw (e, last_program), rw (e, blocks_since), rw (e, last_carrier), rw (e, signature_in))
 
   pub with-path : kind m ≡ PathUpdate
-      → (last_program (ms ▷ m) ≡ last_program ms) × (blocks_since (ms ▷ m) ≡ blocks_since ms) × (last_carrier (ms ▷ m) ≡ some m)
+      → (last_program (ms ▷ m) ≡ last_program ms) × (blocks_since (ms ▷ m) ≡ blocks_since ms) × (last_carrier (ms ▷ m) ≡ Some m)
       × (let s = manifest_in m in signature_in m ≡ path_signature (block_length s.block_len s.image_len (update_number m)) (leaf_depth (count_of s) (pred (update_number m))) m)
   unfolding last_program blocks_since last_carrier carries signature_in
   with-path e = (rw (e, last_program), rw (e, blocks_since), rw (e, last_carrier), rw (e, signature_in))
@@ -87,7 +79,7 @@ module _ (H : List ℕ → List ℕ) (valid : (key message signature : List ℕ)
   -- the last accepted message that carries a manifest has this one, and it was signed
   pub record Carried (taken : Messages) (s : Manifest) : Type 0 where
     pub carrier : List ℕ
-    pub last : last_carrier taken ≡ some carrier
+    pub last : last_carrier taken ≡ Some carrier
     pub manifest : s ≡ manifest_in carrier
     pub signed : valid key (manifest_bytes carrier) (signature_in carrier) ≡ true
 
@@ -98,7 +90,7 @@ module _ (H : List ℕ → List ℕ) (valid : (key message signature : List ℕ)
     pub array_size : length array ≡ held_bytes
     pub room : s.image_len ≤ length flash
     pub carries : Carried taken s
-    pub last : last_program taken ≡ some s
+    pub last : last_program taken ≡ Some s
     pub since : blocks_since taken ≡ k
     pub loaded : Loaded (plain H) (shape (count_of s)) s.root k (blocks_of s flash) (held_in (count_of s) k array)
 
@@ -108,11 +100,11 @@ module _ (H : List ℕ → List ℕ) (valid : (key message signature : List ℕ)
     pub room : s.image_len ≤ length flash
     pub carries : Carried taken s
     pub first : Manifest
-    pub last : last_program taken ≡ some first
+    pub last : last_program taken ≡ Some first
     pub all : blocks_since taken ≡ count_of first
 
   abbrev pub Holds : Stage → Manifest → List ℕ → List ℕ → Messages → Type 0
-  Holds Idle s array flash taken = (last_program taken ≡ none) × (last_carrier taken ≡ none)
+  Holds Idle s array flash taken = (last_program taken ≡ None) × (last_carrier taken ≡ None)
   Holds (Loading zero) s array flash taken = ⊥
   Holds (Loading (suc k)) s array flash taken = InLoading k s array flash taken
   Holds Complete s array flash taken = InComplete s flash taken
@@ -195,7 +187,7 @@ module _ (H : List ℕ → List ℕ) (valid : (key message signature : List ℕ)
           since : blocks_since (taken ▷ m) ≡ suc k
           since = (with-block taken m e).1 ∙ ap suc w.since
 
-          last : last_program (taken ▷ m) ≡ some s
+          last : last_program (taken ▷ m) ≡ Some s
           last = (with-block taken m e).0 ∙ w.last
 
           go : (suc k < n) ⊎ (n ≤ suc k) → Holds (cond (ltb (suc k) n) (Loading (suc (suc k))) Complete) s array' flash' (taken ▷ m)
@@ -251,7 +243,7 @@ module _ (H : List ℕ → List ℕ) (valid : (key message signature : List ℕ)
             since = w.1;
             loaded = rw (begun-held (count_of s) s.root lr) (loaded-start (plain H) (shape (count_of s)) s.root (blocks_of s flash));
           };
-          tree = λ c. absurd (let z : ◌≡◌ {A = ℕ} 0 1 = cc in omega arith);
+          tree = λ c. absurd cc;
         }
 
     kept_block : kind m ≡ Block → BlockPassed H valid d flash m → Kept (accept_block d flash m)
@@ -276,7 +268,7 @@ module _ (H : List ℕ → List ℕ) (valid : (key message signature : List ℕ)
     -- an update of either kind
     module _ {least : ℕ} {signature : List ℕ} (p : Successor H valid d flash m least signature)
         (long : least_update (manifest_in m).block_len (manifest_in m).image_len (update_number m) ≤ length m) where
-      kept-update : (last_program (taken ▷ m) ≡ last_program taken) × (blocks_since (taken ▷ m) ≡ blocks_since taken) × (last_carrier (taken ▷ m) ≡ some m) × (signature_in m ≡ signature)
+      kept-update : (last_program (taken ▷ m) ≡ last_program taken) × (blocks_since (taken ▷ m) ≡ blocks_since taken) × (last_carrier (taken ▷ m) ≡ Some m) × (signature_in m ≡ signature)
           → (d.stage ≡ Complete → (tree_over H (manifest_in m) (updated (manifest_in m) flash m) ≡ (manifest_in m).root) ⊎ N)
           → Kept (accept_update d flash m)
       unfolding accept_update

@@ -1,15 +1,9 @@
 -- Path updates that misled a device, of any step.
-use mathlib.Core.Path.{◌≡◌, refl}
-use mathlib.Core.Logic.{◌⊎◌, inl, inr, ⊎_elim}
-use mathlib.Core.Bool.{Bool, true, false}
-use mathlib.Core.List.{List}
-use Prim.Native.Nat.{ℕ, suc, ◌≤◌, ◌<◌}
-use native.Mathlib.Omega.{arith}
+use Rattle.std.proofs.Common.{◌≡◌, refl, ◌⊎◌, inl, inr, ⊎_elim, Bool, true, false, List, ℕ, suc, ◌≤◌, ◌<◌, arith, Ok, Err}
 use Rattle.wire.specs.declared.kind.Kind.{Kind}
 use Rattle.wire.specs.declared.kind.Kind.TheVariants.{Program, Block, Update, PathUpdate, Unknown}
 use Rattle.wire.specs.Message.{kind, carries}
-use Rattle.machine.specs.declared.state.Answer.{Answer}
-use Rattle.machine.specs.declared.state.Answer.TheVariants.{Accepted, Refused}
+use Rattle.machine.specs.Answer.{Answer, Accepted}
 use Rattle.machine.specs.Device.{OutcomeOf}
 use Rattle.guarantee.specs.Part.{Part}
 use Rattle.guarantee.specs.Run.{Trace, ◌▷◌, after, answer_to, accepted, paths_since}
@@ -19,9 +13,9 @@ use Rattle.guarantee.specs.Claims.{Unmisled, WithoutPaths}
 -- a message that carries no manifest, or is of kind 4, takes no path update away
 none-less : (k : Kind) (n : ℕ) → (carries k ≡ true → k ≡ PathUpdate) → n ≤ elim k [ Program ↦ 0 | Block ↦ n | Update ↦ 0 | PathUpdate ↦ suc n | Unknown ↦ n ]
 unfolding carries
-none-less Program n e = absurd (let q = e refl in let z : ◌≡◌ {A = ℕ} 0 1 = cc in omega arith)
+none-less Program n e = absurd (cc (e refl))
 none-less Block n e = omega arith
-none-less Update n e = absurd (let q = e refl in let z : ◌≡◌ {A = ℕ} 0 1 = cc in omega arith)
+none-less Update n e = absurd (cc (e refl))
 none-less PathUpdate n e = omega arith
 none-less Unknown n e = omega arith
 
@@ -37,9 +31,9 @@ module _ (H : List ℕ → List ℕ) (valid : (key message signature : List ℕ)
   still-counted (later {cs} {x} s e) p = named (part.names x) refl (still-counted s p)
     where
       go : part.names x ≡ true → (a : Answer) → answer_to any d flash cs x ≡ a → 0 < paths_since (accepted any d flash part cs) → 0 < paths_since (accepted any d flash part (cs ▷ x))
-      go n Accepted q p = unfold accepted paths_since in rw (n, accepted, q, accepted, paths_since)
+      go n (Ok _) q p = unfold accepted paths_since in rw (n, accepted, q, accepted, paths_since)
           (omega (arith, none-less (kind (part.message x)) (paths_since (accepted any d flash part cs)) (e (n, q))))
-      go n (Refused r) q p = unfold accepted in rw (n, accepted, q, accepted) p
+      go n (Err r) q p = unfold accepted in rw (n, accepted, q, accepted) p
 
       named : (t : Bool) → part.names x ≡ t → 0 < paths_since (accepted any d flash part cs) → 0 < paths_since (accepted any d flash part (cs ▷ x))
       named true n p = go n (answer_to any d flash cs x) refl p

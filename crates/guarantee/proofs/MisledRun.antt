@@ -1,12 +1,7 @@
 -- The second case of the claim on the tree is there for a reason: with a hash function that has such collisions, the right device takes a path update whose sibling
 -- is not the tree's own, and then its tree lacks its manifest's root.
-use mathlib.Core.Path.{◌≡◌, refl, ap}
-use mathlib.Core.Bool.{false}
+use Rattle.std.proofs.Common.{◌≡◌, refl, ap, false, List, [], ◌∷◌, ◌++◌, ℕ, max, arith, get_or, replicate}
 use mathlib.Core.List.Memᴰ
-use mathlib.Core.List.{List, [], ◌∷◌, ◌++◌}
-use Prim.Native.Nat.{ℕ, max}
-use native.Mathlib.Omega.{arith}
-use lib.ListN.{get_or, replicate}
 use Rattle.octets.specs.Octets.{equal}
 use Rattle.merkle.specs.Shape.{leaf, node}
 use Rattle.wire.specs.declared.refusal.Refusal.TheVariants as refusal
@@ -14,7 +9,7 @@ use Rattle.wire.specs.Geometry.{tree_over}
 use Rattle.wire.specs.Message.{update_message, path_message}
 use Rattle.sender.specs.Job.{Job, program_for, block_for}
 use Rattle.machine.specs.declared.state.Stage.TheVariants.{Complete}
-use Rattle.machine.specs.declared.state.Answer.TheVariants.{Refused}
+use Rattle.machine.specs.Answer.{Refused}
 use Rattle.machine.specs.Device.{Situation}
 use Rattle.machine.specs.Step.{Call, step_call}
 use Rattle.machine.specs.BootCheck.{boot_check}

@@ -1,12 +1,5 @@
 -- What one call shows by itself, in every state and over every flash.
-use mathlib.Core.Path.{◌≡◌, refl, sym, ap, subst}
-use mathlib.Core.Logic.{◌⊎◌, inl, inr}
-use mathlib.Core.Bool.{Bool, true}
-use mathlib.Core.List.{List}
-use mathlib.Core.Option.{Option, none, some}
-use Prim.Native.Nat.{ℕ}
-use native.Mathlib.Omega.{arith}
-use lib.ListN.{length}
+use Rattle.std.proofs.Common.{◌≡◌, refl, sym, ap, subst, ◌⊎◌, inl, inr, Bool, true, List, Option, None, Some, ℕ, arith, length}
 use Rattle.wire.specs.declared.kind.Kind.{Kind}
 use Rattle.wire.specs.declared.kind.Kind.TheVariants.{Program, Block, Update, PathUpdate, Unknown}
 use Rattle.wire.specs.declared.refusal.Refusal.{Refusal}
@@ -14,7 +7,7 @@ use Rattle.wire.specs.Message.{kind, manifest_in, due_length}
 use Rattle.wire.proofs.MessageLaws.{length-block}
 use Rattle.machine.specs.declared.state.Stage.TheVariants.{Complete}
 use Rattle.machine.specs.declared.state.Device.{Device}
-use Rattle.machine.specs.declared.state.Answer.TheVariants.{Accepted}
+use Rattle.machine.specs.Answer.{Accepted}
 use Rattle.machine.specs.Device.{next_of, OutcomeOf, Situation}
 use Rattle.machine.specs.Flash.{stored}
 use Rattle.machine.specs.Refusals.{of_kind, refusals}
@@ -51,7 +44,7 @@ module _ (H : List ℕ → List ℕ) (valid : (key message signature : List ℕ)
 
   only : Passed H valid d flash m → (accept (kind m) d flash m).device.stage ≡ Complete → (kind m ≡ Block) ⊎ ((kind m ≡ Update) ⊎ (kind m ≡ PathUpdate))
   unfolding accept accept_program
-  only (took-program q p) = rw q (λ c. absurd (let z : ◌≡◌ {A = ℕ} 0 1 = cc in omega arith))
+  only (took-program q p) = rw q (λ c. absurd cc)
   only (took-block q p) = λ c. inl q
   only (took-update q p) = λ c. inr (inl q)
   only (took-path q p) = λ c. inr (inr q)
@@ -112,5 +105,5 @@ budget-unread H valid a b d flash m n = rw (by_kind H valid a b d flash m (kind 
         let o = outcome r a t d flash (accept (kind m) d flash m) in
         outcome r b t d flash (accept (kind m) d flash m)
         ≡ record { answer = o.answer; compressions = o.compressions; budget = b; device = o.device; flash = o.flash })
-    go none = refl
-    go (some r) = refl
+    go None = refl
+    go (Some r) = refl

@@ -1,11 +1,5 @@
 -- What an accepted kind 4 message does to the tree: with the old root before, the new root after, or its path clashes with the tree.
-use mathlib.Core.Path.{◌≡◌, sym, ap, ap₂, ◌∙◌}
-use mathlib.Core.Logic.{◌⊎◌, inl, inr}
-use mathlib.Core.Bool.{Bool, false}
-use mathlib.Core.List.{List}
-use Prim.Native.Nat.{ℕ, suc, pred, ◌+◌, ◌<◌}
-use native.Mathlib.Omega.{arith}
-use lib.ListN.{length, take}
+use Rattle.std.proofs.Common.{◌≡◌, sym, ap, ap₂, ◌∙◌, ◌⊎◌, inl, inr, Bool, false, List, ℕ, suc, pred, ◌+◌, ◌<◌, arith, length, take}
 use Rattle.merkle.specs.Limits.{hash_length}
 use Rattle.merkle.specs.Blocks.{block_count, cut}
 use Rattle.merkle.specs.Shape.{size, shape}

@@ -1,15 +1,6 @@
 -- Power loss: the same block messages over two flashes that agree where it counts, an update over two flashes, and what a path update reads.
-use mathlib.Core.Path.{◌≡◌, refl, sym, ap, ◌∙◌, subst}
-use mathlib.Core.Logic.{◌⊎◌, inl, inr, ⊎_elim}
-use mathlib.Core.Bool.{Bool, true, false, ◌&&◌, true≢false}
-use mathlib.Core.List.{List, [], ◌∷◌, ◌++◌}
-use mathlib.Core.Option.{Option, none, some}
-use Prim.Native.Nat.{ℕ, suc, pred, ◌+◌, ◌*◌, ◌≤◌, ◌<◌}
-use native.Mathlib.Omega.{arith}
-use lib.ListN.{length, take}
-use lib.Seq.{take-take, length-take-le}
-use lib.Dec.{eqb}
-use borrow.Author.Tests.{ltb-false, eqb-true, not-false, lt-ltb, le-ltb}
+use Rattle.std.proofs.Common.{◌≡◌, refl, sym, ap, ◌∙◌, subst, ◌⊎◌, inl, inr, ⊎_elim, Bool, true, false, ◌&&◌, true≢false, List, [], ◌∷◌, ◌++◌, Option, None, Some, ℕ, suc, pred, ◌+◌, ◌*◌, ◌≤◌, ◌<◌, arith, length, take, take-take, length-take-le, eqb, ltb-false, eqb-true, lt-ltb, le-ltb}
+use borrow.Author.Tests.{not-false}
 use Rattle.merkle.specs.Limits.{hash_length}
 use Rattle.merkle.specs.Blocks.{cut}
 use Rattle.merkle.specs.Shape.{shape}
@@ -55,7 +46,7 @@ one-tree H hash-long s f g z room a b =
 
 -- Before 19 an update's refusals see the length alone of the flash.
 altered-or-rooted : (H : List ℕ → List ℕ) (valid : (key message signature : List ℕ) → Bool) (budget : ℕ) (d : Device) (f g m : List ℕ) → kind m ≡ Update
-    → length f ≡ length g → refusal_of H valid budget d f m ≡ none → (refusal_of H valid budget d g m ≡ some refusal.Altered) ⊎ (tree_over H d.manifest g ≡ d.manifest.root)
+    → length f ≡ length g → refusal_of H valid budget d f m ≡ None → (refusal_of H valid budget d g m ≡ Some refusal.Altered) ⊎ (tree_over H d.manifest g ≡ d.manifest.root)
 unfolding refusal_of refusals always of_kind of_manifest of_successor of_update too_small test_of ahead behind
 altered-or-rooted H valid budget d f g m k long e =
     let es = refusals H valid budget Update d f m in
@@ -65,7 +56,7 @@ altered-or-rooted H valid budget d f g m k long e =
 pub torn-update : (H : List ℕ → List ℕ) → ((x : List ℕ) → length (H x) ≡ hash_length) → (valid : (key message signature : List ℕ) → Bool) → TornUpdate H valid
 unfolding after answer_to answer_of
 torn-update H hash-long valid budget d f g m k long ok =
-    let e : refusal_of H valid budget d f m ≡ none = unrefused H valid budget d f m ok in
+    let e : refusal_of H valid budget d f m ≡ None = unrefused H valid budget d f m ok in
     let p = update-passed H valid d f m budget k e in
     let q = alike-lengths (manifest_in m) d.manifest p.successor.alike in
     ⊎_elim (λ r. inl (answered H valid budget d g m ∙ ap answer_of r))
@@ -89,18 +80,18 @@ module _ (H : List ℕ → List ℕ) (valid : (key message signature : List ℕ)
     where
       go : (r : Option Refusal)
           → ((outcome r budget 0 d f (accept PathUpdate d f m)).answer ≡ (outcome r budget 0 d g (accept PathUpdate d g m)).answer) × ((outcome r budget 0 d f (accept PathUpdate d f m)).device ≡ (outcome r budget 0 d g (accept PathUpdate d g m)).device)
-      go none = (refl, refl)
-      go (some r) = (refl, refl)
+      go None = (refl, refl)
+      go (Some r) = (refl, refl)
 
   -- all but 15 are the same over both
-  path-or-none : refusal_of H valid budget d f m ≡ none → (refusal_of H valid budget d g m ≡ some refusal.Path) ⊎ (refusal_of H valid budget d g m ≡ none)
+  path-or-none : refusal_of H valid budget d f m ≡ None → (refusal_of H valid budget d g m ≡ Some refusal.Path) ⊎ (refusal_of H valid budget d g m ≡ None)
   unfolding refusal_of refusals always of_kind of_manifest of_successor of_path_update too_small test_of ahead behind
   path-or-none e =
       let es = refusals H valid budget PathUpdate d f m in
       let siblings = path_in (new_length H valid d f m) (new_depth H valid d f m) m in
       let own : Refusal × Bool = (refusal.Path, test_of refusal.Path es) in
       let rest = behind refusal.Path es in
-      let e' : first_that_applies es ≡ none = rw k at e in
+      let e' : first_that_applies es ≡ None = rw k at e in
       rw (k, ← long)
       (⊎_elim (λ q. inl q) (λ q. inr (q.1 ∙ of-second (own ∷ []) rest (of-second (ahead refusal.Path es) (own ∷ rest) e')))
       (next-test (ahead refusal.Path es) (own ∷ rest) rest refusal.Path (strays H s (update_number m) (blocks_of s g i) siblings d.manifest.root) e'))
@@ -111,10 +102,10 @@ path-reads H valid = reads H valid
 pub torn-path : (H : List ℕ → List ℕ) (valid : (key message signature : List ℕ) → Bool) → TornPath H valid
 unfolding after answer_to answer_of
 torn-path H valid budget d f g m k long ok =
-    let e : refusal_of H valid budget d f m ≡ none = unrefused H valid budget d f m ok in
+    let e : refusal_of H valid budget d f m ≡ None = unrefused H valid budget d f m ok in
     let s : Manifest = manifest_in m in
     let i : ℕ = pred (update_number m) in
-    let root : (x : List ℕ) → refusal_of H valid budget d x m ≡ none → led_to H valid d x m (blocks_of s x i) ≡ d.manifest.root = λ x e. (path-passed H valid d x m budget k e).old in
+    let root : (x : List ℕ) → refusal_of H valid budget d x m ≡ None → led_to H valid d x m (blocks_of s x i) ≡ d.manifest.root = λ x e. (path-passed H valid d x m budget k e).old in
     ⊎_elim (λ q. inl (answered H valid budget d g m ∙ ap answer_of q))
     (λ q. inr (answered H valid budget d g m ∙ ap answer_of q, two-paths (plain H) 0 (shape (count_of s)) i (blocks_of s f i) (blocks_of s g i) (siblings_in m) (root f e ∙ sym (root g q))))
     (path-or-none H valid budget d f g m k long e)
@@ -201,10 +192,10 @@ module _ (H : List ℕ → List ℕ) (hash-long : (x : List ℕ) → length (H x
     where
       go : (r : Option Refusal) → refusal_of H valid budget d f m ≡ r
           → (outcome r budget (total H Block d f m) d f (accept Block d f m)).compressions ≡ (outcome r budget (total H Block d g m) d g (accept Block d g m)).compressions
-      go none h =
+      go None h =
           let p = block-passed H valid d f m budget e h in
           cost-same d.manifest (next_of d.stage) f g m p.awaited.size p.awaited.low p.awaited.high agree.long p.room p.long
-      go (some r) h = refl
+      go (Some r) h = refl
 
   block_is : (d : Device) (k : ℕ) (f m : List ℕ) → d.stage ≡ Loading (suc k) → (t : Stage) → stage_after (count_of d.manifest) (suc k) ≡ t
       → accept_block d f m ≡ record {
@@ -264,20 +255,20 @@ module _ (H : List ℕ → List ℕ) (hash-long : (x : List ℕ) → length (H x
         both = same-refusal cs c e k q t agree
 
         go : (r : Option Refusal) → refusal_at H valid d f cs c ≡ r → Together (over-f (cs ▷ c)) (over-g (cs ▷ c))
-        go none h =
+        go None h =
             let p = block-passed H valid (over-f cs).device (over-f cs).flash c.message c.budget e h in
             let w = block-together (over-f cs).device k (over-f cs).flash (over-g cs).flash c.message t agree p in
             rw (after-accepted H valid d f cs c h, after-accepted H valid d g cs c (sym both ∙ h), e, accept)
             (subst (λ (x : Device). Together (accept_block (over-f cs).device (over-f cs).flash c.message) (accept_block x (over-g cs).flash c.message)) q w)
-        go (some r) h = rw (after-refused H valid d f cs c r h, after-refused H valid d g cs c r (sym both ∙ h)) (waits k q t agree)
+        go (Some r) h = rw (after-refused H valid d f cs c r h, after-refused H valid d g cs c r (sym both ∙ h)) (waits k q t agree)
     one_more cs c e (done q t) = go (refusal_at H valid d f cs c) refl
       where
         both : refusal_at H valid d f cs c ≡ refusal_at H valid d g cs c
         both = ap (λ (x : Situation). refusal_of H valid c.budget x.device x.flash c.message) q
 
         go : (r : Option Refusal) → refusal_at H valid d f cs c ≡ r → Together (over-f (cs ▷ c)) (over-g (cs ▷ c))
-        go none h = absurd (true≢false (rw t at (block-passed H valid (over-f cs).device (over-f cs).flash c.message c.budget e h).loading))
-        go (some r) h = rw (after-refused H valid d f cs c r h, after-refused H valid d g cs c r (sym both ∙ h)) (done q t)
+        go None h = absurd (true≢false (rw t at (block-passed H valid (over-f cs).device (over-f cs).flash c.message c.budget e h).loading))
+        go (Some r) h = rw (after-refused H valid d f cs c r h, after-refused H valid d g cs c r (sym both ∙ h)) (done q t)
 
     together : (k : ℕ) → d.stage ≡ Loading (suc k) → Agree d.manifest k f g → (cs : Trace Call) → OnlyBlocks cs → Together (over-f cs) (over-g cs)
     unfolding after OnlyBlocks
@@ -293,7 +284,7 @@ module _ (H : List ℕ → List ℕ) (hash-long : (x : List ℕ) → length (H x
               block-reports c.budget (over-f cs).device k (over-f cs).flash (over-g cs).flash c.message e t agree
               ∙ ap (λ (x : Device). (step H valid c.budget x (over-g cs).flash c.message).compressions) q;
           states = q;
-          flashes = λ c. absurd (let z : ◌≡◌ {A = ℕ} 0 1 = cc in omega arith);
+          flashes = λ c. absurd cc;
         }
     same_load cs (done q t) =
         record {

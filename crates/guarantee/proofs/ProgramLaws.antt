@@ -1,12 +1,5 @@
 -- The sender's new program is accepted by every device that makes sense and has its model, an older serial, room and the key.
-use mathlib.Core.Path.{◌≡◌, refl, ap}
-use mathlib.Core.Bool.{Bool, true, false, not}
-use mathlib.Core.List.{List}
-use mathlib.Core.Option.{none}
-use Prim.Native.Nat.{ℕ, ◌≤◌, ◌<◌}
-use native.Mathlib.Omega.{arith}
-use lib.ListN.{length}
-use borrow.Author.Tests.{lt-ltb, le-ltb, eq-eqb}
+use Rattle.std.proofs.Common.{◌≡◌, refl, ap, Bool, true, false, not, List, None, ℕ, ◌≤◌, ◌<◌, arith, length, lt-ltb, le-ltb, eq-eqb}
 use Rattle.merkle.specs.Limits.{hash_length}
 use Rattle.wire.specs.declared.kind.Kind.TheVariants.{Program}
 use Rattle.wire.specs.Manifest.{written}
@@ -50,5 +43,5 @@ module _ (H : List ℕ → List ℕ) (hash-long : (x : List ℕ) → length (H x
           signed = rw (p.manifest, p.signed, signed) refl;
         }
 
-    pub program-accepted : (budget : ℕ) → refusal_of H valid budget d flash m ≡ none
+    pub program-accepted : (budget : ℕ) → refusal_of H valid budget d flash m ≡ None
     program-accepted budget = program-unrefused H valid d flash m budget program-due

@@ -1,14 +1,6 @@
 -- Recovery follows from demand 3, for any step that meets it. For our own step it holds from every state that makes sense, reached or not; and what a device that is
 -- not idle answers to its own manifest, and what its state from right after a new program does, put back.
-use mathlib.Core.Path.{◌≡◌, refl, sym, ap, ◌∙◌, subst}
-use mathlib.Core.Logic.{◌⊎◌, inl, inr}
-use mathlib.Core.Bool.{Bool, true, false, true≢false}
-use mathlib.Core.List.{List}
-use mathlib.Core.Option.{none, some}
-use Prim.Native.Nat.{ℕ, zero, suc, ◌≤◌, ◌<◌}
-use native.Mathlib.Omega.{arith}
-use lib.ListN.{length}
-use borrow.Author.Tests.{le-ltb, eq-eqb}
+use Rattle.std.proofs.Common.{◌≡◌, refl, sym, ap, ◌∙◌, subst, ◌⊎◌, inl, inr, Bool, true, false, true≢false, List, None, Some, ℕ, zero, suc, ◌≤◌, ◌<◌, arith, length, le-ltb, eq-eqb, Ok, Err}
 use Rattle.sha256.specs.Sha256.{digest}
 use Rattle.sha256.proofs.DigestLaws.{length-digest}
 use Rattle.merkle.specs.Limits.{hash_length}
@@ -26,8 +18,7 @@ use Rattle.sender.specs.Job.{Image, Job, count, manifest_for, program_for}
 use Rattle.machine.specs.declared.state.Stage.{Stage}
 use Rattle.machine.specs.declared.state.Stage.TheVariants.{Idle, Loading, Complete}
 use Rattle.machine.specs.declared.state.Device.{Device}
-use Rattle.machine.specs.declared.state.Answer.{Answer}
-use Rattle.machine.specs.declared.state.Answer.TheVariants.{Accepted, Refused}
+use Rattle.machine.specs.Answer.{Answer, Accepted}
 use Rattle.machine.specs.Device.{serial_of, OutcomeOf, Situation, Outcome}
 use Rattle.machine.specs.Refusals.{wrong_version, senseless, no_kind, other_model, not_newer, not_loading, always, of_manifest, of_program, of_kind, refusals}
 use Rattle.machine.specs.Step.{accept_program, accept, answer_of, refusal_of, step, Call, step_call}
@@ -48,10 +39,10 @@ use Rattle.guarantee.proofs.ProgramLaws.{is-program, program-accepted}
 
 -- What the accepted messages say of a device's manifest and next number.
 data Standing (taken : Messages) : Type 0 where
-  nothing : last_program taken ≡ none → Standing taken
-  loading : (s : Manifest) (m : List ℕ) → last_program taken ≡ some s → last_carrier taken ≡ some m → manifest_in m ≡ s → wrong_version (manifest_in m) ≡ false
+  nothing : last_program taken ≡ None → Standing taken
+  loading : (s : Manifest) (m : List ℕ) → last_program taken ≡ Some s → last_carrier taken ≡ Some m → manifest_in m ≡ s → wrong_version (manifest_in m) ≡ false
       → Sized (manifest_in m).block_len (manifest_in m).image_len → blocks_since taken < count_of s → Standing taken
-  complete : (s : Manifest) (m : List ℕ) → last_program taken ≡ some s → last_carrier taken ≡ some m → wrong_version (manifest_in m) ≡ false
+  complete : (s : Manifest) (m : List ℕ) → last_program taken ≡ Some s → last_carrier taken ≡ Some m → wrong_version (manifest_in m) ≡ false
       → Sized (manifest_in m).block_len (manifest_in m).image_len → blocks_since taken ≡ count_of s → Standing taken
 
 -- a stage that the tests of kind 2 let pass
@@ -83,11 +74,11 @@ module _ (H : List ℕ → List ℕ) (valid : (key message signature : List ℕ)
       let k = (first cs).manifest m c in
       sense-complete (at cs).device (rw k v) (rw k z) ((first cs).exactly.1 (record { manifest = s; last = e; all = h }))
 
-  abbrev is-complete : (cs : Trace C) (s : Manifest) → last_program (taken cs) ≡ some s → blocks_since (taken cs) ≡ count_of s → (at cs).device.stage ≡ Complete
+  abbrev is-complete : (cs : Trace C) (s : Manifest) → last_program (taken cs) ≡ Some s → blocks_since (taken cs) ≡ count_of s → (at cs).device.stage ≡ Complete
   is-complete cs s e h = (first cs).exactly.1 (record { manifest = s; last = e; all = h })
 
   after-update : (cs : Trace C) (m : List ℕ) {least : ℕ} {signature : List ℕ} → Successor H valid (at cs).device (at cs).flash m least signature
-      → (last_program (taken cs ▷ m) ≡ last_program (taken cs)) × (blocks_since (taken cs ▷ m) ≡ blocks_since (taken cs)) × (last_carrier (taken cs ▷ m) ≡ some m) × (signature_in m ≡ signature)
+      → (last_program (taken cs ▷ m) ≡ last_program (taken cs)) × (blocks_since (taken cs ▷ m) ≡ blocks_since (taken cs)) × (last_carrier (taken cs ▷ m) ≡ Some m) × (signature_in m ≡ signature)
       → Standing (taken cs ▷ m)
   after-update cs m p a =
       let c : Completed (taken cs) = (first cs).exactly.0 (not-complete (at cs).device.stage p.complete) in
@@ -116,8 +107,8 @@ module _ (H : List ℕ → List ℕ) (valid : (key message signature : List ℕ)
   standing (cs ▷ c) = named (part.names c) refl (standing cs)
     where
       go : part.names c ≡ true → (a : Answer) → answer_to any d flash cs c ≡ a → Standing (taken cs) → Standing (taken (cs ▷ c))
-      go n Accepted e t = rw (n, accepted, e, accepted) (more cs (part.message c) (passes cs c n e) t)
-      go n (Refused r) e t = rw (n, accepted, e, accepted) t
+      go n (Ok _) e t = rw (n, accepted, e, accepted) (more cs (part.message c) (passes cs c n e) t)
+      go n (Err r) e t = rw (n, accepted, e, accepted) t
 
       named : (t : Bool) → part.names c ≡ t → Standing (taken cs) → Standing (taken (cs ▷ c))
       named true n t = go n (answer_to any d flash cs c) refl t
@@ -212,7 +203,7 @@ unfolding after answer_to answer_of refusal_of refusals always of_kind of_manife
 same-again H valid budget d e busy model flash m is long same =
     let s = d.manifest in
     let q = sound d e busy in
-    let first : refusal_of H valid budget d flash m ≡ some refusal.Serial =
+    let first : refusal_of H valid budget d flash m ≡ Some refusal.Serial =
     rw (is, same, e, le-ltb (length m) (least_length Program) long, q.0, q.1, eq-eqb s.model d.model model, own-serial d busy, le-ltb s.serial s.serial (omega arith)) in
     answered H valid budget d flash m ∙ ap answer_of first
 

@@ -1,16 +1,11 @@
 -- One call more: what it adds to a list for one part, and what no list changes.
-use mathlib.Core.Path.{◌≡◌, refl, sym, ◌∙◌}
-use mathlib.Core.Bool.{Bool, true, false, cond, true≢false}
-use mathlib.Core.List.{List}
-use Prim.Native.Nat.{ℕ}
-use native.Mathlib.Omega.{arith}
+use Rattle.std.proofs.Common.{◌≡◌, refl, sym, ◌∙◌, Bool, true, false, cond, true≢false, List, ℕ, Ok, Err}
 use Rattle.wire.specs.declared.kind.Kind.{Kind}
 use Rattle.wire.specs.declared.kind.Kind.TheVariants.{Program, Block, Update, PathUpdate, Unknown}
 use Rattle.wire.specs.declared.refusal.Refusal.{Refusal}
 use Rattle.wire.specs.Message.{kind, carries, manifest_in}
 use Rattle.machine.specs.declared.state.Device.{Device}
-use Rattle.machine.specs.declared.state.Answer.{Answer}
-use Rattle.machine.specs.declared.state.Answer.TheVariants.{Accepted, Refused}
+use Rattle.machine.specs.Answer.{Answer, Accepted, Refused}
 use Rattle.machine.specs.Device.{SituationOf, OutcomeOf, Situation}
 use Rattle.machine.specs.Step.{accept_program, accept_block, accept_update, accept}
 use Rattle.machine.proofs.RefusalLaws.{Passed}
@@ -109,8 +104,8 @@ module _ (H : List ℕ → List ℕ) (valid : (key message signature : List ℕ)
     does = named (part.names c) refl
       where
         answered : part.names c ≡ true → (a : Answer) → answer_to step d flash cs c ≡ a → Does
-        answered n Accepted e = takes n e
-        answered n (Refused r) e = stays (λ t a. let z : ◌≡◌ {A = ℕ} 0 1 = cc in omega arith) (same r e)
+        answered n (Ok _) e = takes n e
+        answered n (Err r) e = stays (λ t a. cc) (same r e)
 
         named : (t : Bool) → part.names c ≡ t → Does
         named true n = answered n (answer_to step d flash cs c) refl

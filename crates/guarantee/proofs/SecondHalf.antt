@@ -1,17 +1,11 @@
 -- Demand 3, second half: the honest run.
-use mathlib.Core.Path.{◌≡◌, sym, ap, ap₂, ◌∙◌, subst}
-use mathlib.Core.Logic.{◌⊎◌, inl, inr, ⊎_elim}
-use mathlib.Core.Bool.{Bool, true}
-use mathlib.Core.List.{List}
-use Prim.Native.Nat.{ℕ, suc, ◌≤◌, ◌<◌}
-use native.Mathlib.Omega.{arith}
-use lib.ListN.{length}
+use Rattle.std.proofs.Common.{◌≡◌, sym, ap, ap₂, ◌∙◌, subst, ◌⊎◌, inl, inr, ⊎_elim, Bool, true, List, ℕ, suc, ◌≤◌, ◌<◌, arith, length}
 use Rattle.merkle.specs.Limits.{hash_length}
 use Rattle.wire.specs.declared.kind.Kind.TheVariants.{Block}
 use Rattle.wire.specs.Message.{kind}
 use Rattle.wire.specs.Cost.{cost_due}
 use Rattle.sender.specs.Job.{Job, count, manifest_for, block_for}
-use Rattle.machine.specs.declared.state.Answer.TheVariants.{Accepted}
+use Rattle.machine.specs.Answer.{Accepted}
 use Rattle.machine.specs.Device.{OutcomeOf, Situation}
 use Rattle.machine.specs.Step.{total, accept}
 use Rattle.guarantee.specs.Part.{Part}

@@ -1,10 +1,5 @@
 -- What a device reads in the messages that the sender writes for a job.
-use mathlib.Core.Path.{◌≡◌, ap, ◌∙◌}
-use mathlib.Core.List.{List}
-use Prim.Native.Nat.{ℕ, suc, ◌*◌, ◌≤◌, ◌<◌}
-use native.Mathlib.Nat.{mul-le-mul_right}
-use native.Mathlib.Omega.{arith}
-use lib.ListN.{length}
+use Rattle.std.proofs.Common.{◌≡◌, ap, ◌∙◌, List, ℕ, suc, ◌*◌, ◌≤◌, ◌<◌, mul-le-mul_right, arith, length}
 use Rattle.merkle.specs.Limits.{max_blocks, hash_length}
 use Rattle.merkle.specs.Blocks.{block_count}
 use Rattle.merkle.specs.Shape.{shape}

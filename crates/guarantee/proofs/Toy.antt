@@ -1,15 +1,8 @@
 -- A world small enough to compute in, for wrong devices: a toy hash function, toy verdicts, images of two blocks, a flash; and what their steps are made of.
-use mathlib.Core.Path.{◌≡◌, refl, sym, ap}
-use mathlib.Core.Bool.{Bool, true, false, cond, not}
-use mathlib.Core.Logic.{⊎_elim}
+use Rattle.std.proofs.Common.{◌≡◌, refl, sym, ap, Bool, true, false, cond, not, ⊎_elim, List, [], ◌∷◌, ◌++◌, None, Some, ℕ, suc, arith, eqb, length, get_or, take, drop, replicate, length-append, length-take-le, Ok, Err}
 use mathlib.Core.List.Memᴰ
-use mathlib.Core.List.{List, [], ◌∷◌, ◌++◌, Memᴰ}
-use mathlib.Core.Option.{none, some}
-use Prim.Native.Nat.{ℕ, suc}
-use native.Mathlib.Omega.{arith}
-use lib.Dec.{eqb}
-use lib.ListN.{length, get_or, take, drop, replicate, length-append, length-replicate}
-use lib.Seq.{length-take-le}
+use mathlib.Core.List.{Memᴰ}
+use lib.ListN.{length-replicate}
 use Rattle.octets.specs.Octets.{bytes, number, joined, equal}
 use Rattle.octets.proofs.EqualLaws.{equal-self, equal-true}
 use Rattle.sha256.specs.Sha256.{zero_bits, padding, pad}
@@ -35,7 +28,7 @@ use Rattle.sender.specs.Job.{Image, Job, count, blocks, root_of, manifest_for, p
 use Rattle.machine.specs.declared.state.Stage.{Stage}
 use Rattle.machine.specs.declared.state.Stage.TheVariants.{Idle, Complete}
 use Rattle.machine.specs.declared.state.Device.{Device}
-use Rattle.machine.specs.declared.state.Answer.TheVariants.{Accepted, Refused}
+use Rattle.machine.specs.Answer.{Accepted, Refused}
 use Rattle.machine.specs.Device.{Fresh, serial_of, next_of, held_by, Outcome}
 use Rattle.machine.specs.Flash.{stored, updated}
 use Rattle.machine.specs.Refusals.{wrong_version, senseless, no_kind, other_model, not_newer, too_small, not_loading, not_complete, not_next, wrong_length, unlike, mismatch, lacks_root, last_altered, spent, unsigned, strays, of_manifest, always, of_program, of_block, of_successor, of_update, of_path_update, of_kind, refusals}
@@ -121,10 +114,10 @@ unfoldable pub right : Step
 right = step_call toy any
 
 unfoldable pub taking : Step
-taking d f c = let m = c.message in outcome none c.budget (total toy (kind m) d f m) d f (accept (kind m) d f m)
+taking d f c = let m = c.message in outcome None c.budget (total toy (kind m) d f m) d f (accept (kind m) d f m)
 
 unfoldable pub refusing_as : Refusal → Step
-refusing_as r d f c = outcome (some r) c.budget 0 d f (record { device = d; flash = f })
+refusing_as r d f c = outcome (Some r) c.budget 0 d f (record { device = d; flash = f })
 
 unfoldable pub refusing : Step
 refusing = refusing_as refusal.State
@@ -134,10 +127,10 @@ unfoldable pub leaving : Outcome → Device → List ℕ → Outcome
 leaving o d f = record { answer = o.answer; compressions = o.compressions; budget = o.budget; device = d; flash = f }
 
 unfoldable pub but : Outcome → Device → Outcome
-but o d = elim o.answer [ Accepted ↦ leaving o d o.flash | Refused r ↦ o ]
+but o d = elim o.answer [ Ok _ ↦ leaving o d o.flash | Err r ↦ o ]
 
 unfoldable pub but_flash : Outcome → List ℕ → Outcome
-but_flash o f = elim o.answer [ Accepted ↦ leaving o o.device f | Refused r ↦ o ]
+but_flash o f = elim o.answer [ Ok _ ↦ leaving o o.device f | Err r ↦ o ]
 
 -- a device with a step for each kind
 unfoldable pub by_kind : Step → Step → Step → Step → Step

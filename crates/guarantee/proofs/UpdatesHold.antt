@@ -1,13 +1,5 @@
 -- The sender's updates are taken, of either kind, by a device that has the image that they change.
-use mathlib.Core.Path.{◌≡◌, refl, sym, ap, ap₂, ◌∙◌}
-use mathlib.Core.Logic.{◌≢◌}
-use mathlib.Core.Bool.{Bool, false, not}
-use mathlib.Core.List.{List}
-use mathlib.Core.Option.{none}
-use Prim.Native.Nat.{ℕ, suc, pred, ◌^◌, ◌≤◌, ◌<◌}
-use native.Mathlib.Omega.{arith}
-use lib.ListN.{length, length-append}
-use borrow.Author.Tests.{lt-ltb, le-ltb, eq-eqb}
+use Rattle.std.proofs.Common.{◌≡◌, refl, sym, ap, ap₂, ◌∙◌, ◌≢◌, Bool, false, not, List, None, ℕ, suc, pred, ◌^◌, ◌≤◌, ◌<◌, arith, length, length-append, lt-ltb, le-ltb, eq-eqb}
 use Rattle.sha256.specs.Sha256.{digest}
 use Rattle.sha256.proofs.DigestLaws.{length-digest}
 use Rattle.merkle.specs.Limits.{hash_length}
@@ -130,7 +122,7 @@ module _ (H : List ℕ → List ℕ) (hash-long : (x : List ℕ) → length (H x
     unfolding updated manifest_for
     after = rw (size, c.block, read, c.number) flash-new
 
-    done : accept (kind m) d flash m ≡ accept_update d flash m → refusal_of H valid budget d flash m ≡ none → Updated H b old (step H valid budget d flash m)
+    done : accept (kind m) d flash m ≡ accept_update d flash m → refusal_of H valid budget d flash m ≡ None → Updated H b old (step H valid budget d flash m)
     unfolding accept_update
     done is unrefused = rw (accepted-step H valid budget d flash m unrefused, is) (record { taken = refl; installed = record { stage = was.stage; manifest = read; image = after } })
 

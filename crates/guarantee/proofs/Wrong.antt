@@ -1,6 +1,5 @@
 -- None of the wrong devices meets demand 3; the right device does, with the same hash function and verdicts (`meets`, `meets-nobody` in Toy).
-use mathlib.Core.List.{[]}
-use lib.ListN.{replicate}
+use Rattle.std.proofs.Common.{[], replicate}
 use Rattle.guarantee.specs.Demand3.{Demand3}
 use Rattle.guarantee.proofs.Toy.{toy, any, nobody, fresh, flash, taking, is-fresh}
 use Rattle.guarantee.proofs.WrongCalls.{closed, closed-caught, unaware, unaware-caught, hasty, hasty-caught, rash, rash-caught, scribbling, scribbling-caught, turning, turning-caught, rekeying, rekeying-caught, leaking, leaking-caught, spilling, spilling-caught, reordering, reordering-caught, demanding, demanding-caught, swapping, swapping-caught}

@@ -1,12 +1,7 @@
 -- Budgets in the toy world: what the right device answers and reports below, at and above a total; and wrong devices. Where the comment says 'alone', all other clauses of
 -- demand 3 hold of the device, by reading. A block of 64 bytes takes 2 compressions and two hashes 2, so the first block of the two costs 4, and the last one 2 and the
 -- whole tree's 6.
-use mathlib.Core.Path.{◌≡◌, refl, ap}
-use mathlib.Core.Bool.{Bool, false, cond, ◌&&◌, not}
-use mathlib.Core.List.{List, [], ◌∷◌, ◌++◌}
-use Prim.Native.Nat.{ℕ, pred, ◌+◌, ◌-◌}
-use native.Mathlib.Omega.{arith}
-use lib.Dec.{eqb, ltb, lit<, lit≤}
+use Rattle.std.proofs.Common.{◌≡◌, refl, ap, Bool, false, cond, ◌&&◌, not, List, [], ◌∷◌, ◌++◌, ℕ, pred, ◌+◌, ◌-◌, arith, eqb, ltb, lit<, lit≤, Ok, Err}
 use Rattle.merkle.specs.Shape.{shape}
 use Rattle.merkle.specs.Hash.{plain}
 use Rattle.merkle.specs.Cost.{cost_without}
@@ -17,7 +12,7 @@ use Rattle.wire.specs.Geometry.{count_of, blocks_of}
 use Rattle.wire.specs.Cost.{comparison_cost}
 use Rattle.sender.specs.Job.{block_for, update_for, path_for}
 use Rattle.machine.specs.declared.state.Device.{Device}
-use Rattle.machine.specs.declared.state.Answer.TheVariants.{Accepted, Refused}
+use Rattle.machine.specs.Answer.{Accepted}
 use Rattle.machine.specs.Device.{next_of, Outcome}
 use Rattle.machine.specs.Refusals.{mismatch, spent, refusals}
 use Rattle.machine.specs.Readers.{number_of}
@@ -202,7 +197,7 @@ undercounting-caught h =
     omega arith
 
 pub charging : Step
-charging = reporting (λ o. elim o.answer [ Accepted ↦ o.budget | Refused r ↦ 0 ]) (λ o. o.budget)
+charging = reporting (λ o. elim o.answer [ Ok _ ↦ o.budget | Err r ↦ 0 ]) (λ o. o.budget)
 
 pub charging-caught : Calls toy any part charging fresh flash begun → ⊥
 unfolding counting saying reporting charging
@@ -221,7 +216,7 @@ settling-caught h =
 
 -- It reports of a refused block what its comparison took; or 1 of an accepted update: each alone.
 pub owning : Step
-owning = by_kind right (λ d f c. saying (λ o. elim o.answer [ Accepted ↦ o.compressions | Refused r ↦ compared d f c ]) (λ o. o.budget) d f c) right right
+owning = by_kind right (λ d f c. saying (λ o. elim o.answer [ Ok _ ↦ o.compressions | Err r ↦ compared d f c ]) (λ o. o.budget) d f c) right right
 
 pub owning-caught : Calls toy any part owning fresh flash half → ⊥
 unfolding counting compared saying owning
@@ -230,7 +225,7 @@ owning-caught h =
     omega arith
 
 pub inventing : Step
-inventing = by_kind right right (saying (λ o. elim o.answer [ Accepted ↦ 1 | Refused r ↦ 0 ]) (λ o. o.budget)) right
+inventing = by_kind right right (saying (λ o. elim o.answer [ Ok _ ↦ 1 | Err r ↦ 0 ]) (λ o. o.budget)) right
 
 pub inventing-caught : Calls toy any part inventing fresh flash loaded → ⊥
 unfolding counting saying inventing

@@ -1,11 +1,5 @@
 -- Wrong devices that break what is said of each call. Where the comment says 'alone', all other clauses of demand 3 hold of the device, by reading.
-use mathlib.Core.Path.{◌≡◌, refl, ap}
-use mathlib.Core.Bool.{cond, ◌&&◌}
-use mathlib.Core.List.{List, [], ◌∷◌}
-use Prim.Native.Nat.{ℕ, ◌-◌, ◌*◌}
-use native.Mathlib.Omega.{arith}
-use lib.Dec.{eqb, ltb}
-use lib.ListN.{length, set, take, drop, replicate}
+use Rattle.std.proofs.Common.{◌≡◌, refl, ap, cond, ◌&&◌, List, [], ◌∷◌, ℕ, ◌-◌, ◌*◌, arith, eqb, ltb, length, set, take, drop, replicate, Ok, Err}
 use Rattle.octets.specs.Octets.{number}
 use Rattle.merkle.specs.Limits.{held_bytes}
 use Rattle.wire.specs.declared.kind.Kind.TheVariants.{PathUpdate}
@@ -14,7 +8,7 @@ use Rattle.wire.specs.Geometry.{count_of}
 use Rattle.wire.specs.Message.{update_message, path_message, manifest_in}
 use Rattle.sender.specs.Job.{manifest_for}
 use Rattle.machine.specs.declared.state.Device.{Device}
-use Rattle.machine.specs.declared.state.Answer.TheVariants.{Accepted, Refused}
+use Rattle.machine.specs.Answer.{Accepted, Refused}
 use Rattle.machine.specs.Device.{Situation}
 use Rattle.machine.specs.Flash.{updated}
 use Rattle.machine.specs.Refusals.{too_small, not_loading, refusals}
@@ -33,8 +27,7 @@ pub closed-caught : Calls toy any part closed fresh flash empty → ⊥
 unfolding computing closed
 closed-caught h =
     let e : Refused refusal.State ≡ Accepted = h.answers program in
-    let z : ◌≡◌ {A = ℕ} 0 1 = cc in
-    omega arith
+    cc
 
 pub unaware : Step
 unaware = by_kind right right right refusing
@@ -43,8 +36,7 @@ pub unaware-caught : Calls toy any part unaware fresh flash loaded → ⊥
 unfolding computing unaware
 unaware-caught h =
     let e : Refused refusal.State ≡ Accepted = h.answers (send_path newer 2) in
-    let z : ◌≡◌ {A = ℕ} 0 1 = cc in
-    omega arith
+    cc
 
 -- It writes an updated block before its root agrees, or a path update's before its paths do.
 writing : Step
@@ -75,8 +67,8 @@ pub scribbling : Step
 scribbling d f c =
     let o = right d f c in
     elim o.answer [
-      | Accepted ↦ o
-      | Refused r ↦ cond (not_loading d.stage) (leaving o (record { model = d.model; key = d.key; stage = d.stage; manifest = d.manifest; hashes = set d.hashes 0 7 }) f) o
+      | Ok _ ↦ o
+      | Err r ↦ cond (not_loading d.stage) (leaving o (record { model = d.model; key = d.key; stage = d.stage; manifest = d.manifest; hashes = set d.hashes 0 7 }) f) o
     ]
 
 pub scribbling-caught : Calls toy any part scribbling fresh flash empty → ⊥

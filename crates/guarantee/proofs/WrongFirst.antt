@@ -1,14 +1,7 @@
 -- Wrong devices that break the first half. Where the comment says 'alone', all other clauses of demand 3 hold of the device, by reading.
-use mathlib.Core.Path.{◌≡◌, refl, sym, ap, ◌∙◌}
-use mathlib.Core.Logic.{⊎_elim}
-use mathlib.Core.Bool.{false, cond, ◌&&◌, ◌||◌, true≢false, false≢true}
+use Rattle.std.proofs.Common.{◌≡◌, refl, sym, ap, ◌∙◌, ⊎_elim, false, cond, ◌&&◌, ◌||◌, true≢false, List, [], ◌++◌, None, Some, ℕ, pred, ◌-◌, arith, eqb, ltb, lit<, length, get_or, set, take, drop, replicate, Ok, Err}
+use mathlib.Core.Bool.{false≢true}
 use mathlib.Core.List.Memᴰ
-use mathlib.Core.List.{List, [], ◌++◌}
-use mathlib.Core.Option.{none, some}
-use Prim.Native.Nat.{ℕ, pred, ◌-◌}
-use native.Mathlib.Omega.{arith}
-use lib.Dec.{eqb, ltb, lit<}
-use lib.ListN.{length, get_or, set, take, drop, replicate}
 use Rattle.octets.specs.Octets.{number, equal}
 use Rattle.octets.proofs.EqualLaws.{equal-self}
 use Rattle.merkle.specs.Shape.{leaf, node}
@@ -20,7 +13,6 @@ use Rattle.wire.specs.Message.{path_message, manifest_in, block_in, update_numbe
 use Rattle.sender.specs.Job.{manifest_for}
 use Rattle.machine.specs.declared.state.Stage.TheVariants.{Idle, Loading, Complete}
 use Rattle.machine.specs.declared.state.Device.{Device}
-use Rattle.machine.specs.declared.state.Answer.TheVariants.{Accepted, Refused}
 use Rattle.machine.specs.Device.{next_of}
 use Rattle.machine.specs.Readers.{number_of}
 use Rattle.machine.specs.Step.{accept_update, outcome, Call}
@@ -91,7 +83,7 @@ unfolding computing blind clashing blind-list
 blind-caught = unrooted blind blind-list (unmisled toy any part blind fresh flash blind-list refl) (record { manifest = manifest_for toy job; last = refl; all = refl }) refl
 
 -- Its manifest is not the last accepted message's.
-other-serial : (wrong : Step) (cs : Trace Call) (c : Call) → last_carrier (accepted wrong fresh flash part cs) ≡ some c.message
+other-serial : (wrong : Step) (cs : Trace Call) (c : Call) → last_carrier (accepted wrong fresh flash part cs) ≡ Some c.message
     → ((after wrong fresh flash cs).device.manifest.serial ≡ (manifest_in c.message).serial → ⊥) → FirstHalf toy any part wrong fresh flash cs → ⊥
 other-serial wrong cs c e n h = n (ap (λ (s : Manifest). s.serial) (h.manifest c.message e))
 
@@ -149,8 +141,7 @@ pub idling-caught : FirstHalf toy any part idling fresh flash (empty ▷ nobodys
 unfolding computing idling at
 idling-caught h =
     let e : Idle ≡ Loading 1 = h.loading (manifest_in nobodys.message) refl (lit< tt) in
-    let z : ◌≡◌ {A = ℕ} 0 1 = cc in
-    omega arith
+    cc
 
 -- It is complete after the first block.
 pub early : Step
@@ -160,7 +151,7 @@ pub early-list : Trace Call
 early-list = empty ▷ program ▷ send_block job.image 1
 
 early-runs : ((after early fresh flash early-list).device.stage ≡ Complete) × (blocks_since (accepted early fresh flash part early-list) ≡ 1)
-    × (last_program (accepted early fresh flash part early-list) ≡ some (manifest_for toy job)) × (count_of (manifest_for toy job) ≡ 2)
+    × (last_program (accepted early fresh flash part early-list) ≡ Some (manifest_for toy job)) × (count_of (manifest_for toy job) ≡ 2)
 unfolding computing early at early-list
 early-runs = (refl, refl, refl, refl)
 
@@ -169,7 +160,7 @@ early-caught h =
     let r = early-runs in
     let c = h.exactly.0 r.0 in
     let l = c.last in
-    let q : c.manifest ≡ manifest_for toy job = let k = r.2 in cc in
+    let q : c.manifest ≡ manifest_for toy job = cc r.2 in
     let z : ◌≡◌ {A = ℕ} 1 2 = sym r.1 ∙ c.all ∙ ap count_of q ∙ r.3 in
     omega arith
 
@@ -182,8 +173,7 @@ pub lapsing-caught : FirstHalf toy any part lapsing fresh flash (loaded ▷ send
 unfolding computing lapsing at
 lapsing-caught h =
     let e : Idle ≡ Complete = h.exactly.1 (record { manifest = manifest_for toy job; last = refl; all = refl }) in
-    let z : ◌≡◌ {A = ℕ} 0 1 = cc in
-    omega arith
+    cc
 
 -- It takes an update's manifest, or a path update's, and leaves the block as it was: each alone, but for the image, which follows from the root. The sender's path
 -- has the tree's hash inputs, so it misleads no device.
@@ -208,7 +198,7 @@ untouched-caught = by-path untouched (send_path newer 2) refl (none-collides (re
 
 -- It takes a path update as if the current root were another.
 holding : List ℕ → Step
-holding root d f c = let o = right (with_manifest d.manifest.serial root d) f c in elim o.answer [ Accepted ↦ o | Refused r ↦ leaving o d f ]
+holding root d f c = let o = right (with_manifest d.manifest.serial root d) f c in elim o.answer [ Ok _ ↦ o | Err r ↦ leaving o d f ]
 
 -- It does not compare where the old block leads. So it takes a path of the newer image, whose second block its flash does not have.
 pub trusting : Step
@@ -234,7 +224,7 @@ nearsighted = by_kind right right right (λ d f c.
     let m = c.message in
     let s = manifest_in m in
     cond (eqb n 0 || eqb n (refusal_number refusal.Mismatch))
-    (outcome (cond (equal (toy (update_block (block_length s.block_len s.image_len (update_number m)) m)) s.root) none (some refusal.Mismatch)) c.budget 0 d f (accept_update d f m)) o)
+    (outcome (cond (equal (toy (update_block (block_length s.block_len s.image_len (update_number m)) m)) s.root) None (Some refusal.Mismatch)) c.budget 0 d f (accept_update d f m)) o)
 
 pub own_hash : Call
 own_hash = ample (path_message (manifest_with 2 (toy (replicate 64 4))) 2 (replicate 64 4) (toy (replicate 64 3)) [])

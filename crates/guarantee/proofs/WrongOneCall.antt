@@ -1,14 +1,6 @@
 -- Wrong devices that break what is said of one call (specs/OneCall). Where the comment says 'alone', all other clauses hold of the device, by reading. Demand 3 does
 -- not see `nodding`, `late`, `believing` and `adopting`: they differ from the right device only where a block is refused 19, and in a list none is (`nobody-else` in AlteredHolds).
-use mathlib.Core.Path.{◌≡◌, refl, sym, ap, ◌∙◌}
-use mathlib.Core.Logic.{⊎_elim}
-use mathlib.Core.Bool.{Bool, cond, ◌&&◌}
-use mathlib.Core.List.{List, [], ◌∷◌, ◌++◌}
-use mathlib.Core.Option.{none}
-use Prim.Native.Nat.{ℕ}
-use native.Mathlib.Omega.{arith}
-use lib.Dec.{eqb}
-use lib.ListN.{get_or, replicate}
+use Rattle.std.proofs.Common.{◌≡◌, refl, sym, ap, ◌∙◌, ⊎_elim, Bool, cond, ◌&&◌, List, [], ◌∷◌, ◌++◌, None, ℕ, arith, eqb, get_or, replicate}
 use Rattle.wire.specs.declared.kind.Kind.TheVariants.{Program, Block, Update, PathUpdate}
 use Rattle.wire.specs.declared.manifest.Manifest.{Manifest}
 use Rattle.wire.specs.declared.refusal.Refusal.{Refusal}
@@ -19,7 +11,7 @@ use Rattle.wire.specs.Message.{kind, update_message}
 use Rattle.sender.specs.Job.{program_for, block_for}
 use Rattle.machine.specs.declared.state.Stage.TheVariants.{Complete}
 use Rattle.machine.specs.declared.state.Device.{Device}
-use Rattle.machine.specs.declared.state.Answer.TheVariants.{Accepted, Refused}
+use Rattle.machine.specs.Answer.{Accepted, Refused}
 use Rattle.machine.specs.Device.{next_of, Situation, Outcome}
 use Rattle.machine.specs.Refusals.{lacks_root, refusals}
 use Rattle.machine.specs.Readers.{number_of}
@@ -89,7 +81,7 @@ pub nodding : Step
 nodding = by_kind device (λ d f c.
     let o = device d f c in
     let m = c.message in
-    cond (eqb (number_of o.answer) (refusal_number refusal.Altered)) (outcome none c.budget (total weak (kind m) d f m) d f (record { device = d; flash = f })) o) device device
+    cond (eqb (number_of o.answer) (refusal_number refusal.Altered)) (outcome None c.budget (total weak (kind m) d f m) d f (record { device = d; flash = f })) o) device device
 
 pub nodding-caught : Of nodding waiting worn threes → ⊥
 unfolding calling nodding
@@ -182,8 +174,8 @@ waking = by_kind (λ d f c. let o = device d f c in but o (at Complete o.device)
 pub waking-caught : Of waking fresh flash (ample (program_for weak pair [])) → ⊥
 unfolding calling waking at
 waking-caught h =
-    ⊎_elim (λ (e : Program ≡ Block). let z : ◌≡◌ {A = ℕ} 0 1 = cc in omega arith)
-    (λ r. ⊎_elim (λ (e : Program ≡ Update). let z : ◌≡◌ {A = ℕ} 0 1 = cc in omega arith) (λ (e : Program ≡ PathUpdate). let z : ◌≡◌ {A = ℕ} 0 1 = cc in omega arith) r) (h.only refl refl)
+    ⊎_elim (λ (e : Program ≡ Block). cc)
+    (λ r. ⊎_elim (λ (e : Program ≡ Update). cc) (λ (e : Program ≡ PathUpdate). cc) r) (h.only refl refl)
 
 -- Where the right one says 19 at the last block it takes that, and the root that it finds: caught at `last`, and at `answers` and `manifest`.
 pub adopting : Step
@@ -192,7 +184,7 @@ adopting = by_kind device (λ d f c.
     let m = c.message in
     let t = accept_block d f m in
     let taken : Situation = record { device = with_manifest d.manifest.serial (tree_over weak d.manifest t.flash) t.device; flash = t.flash } in
-    cond (eqb (number_of o.answer) (refusal_number refusal.Altered)) (outcome none c.budget (total weak (kind m) d f m) d f taken) o) device device
+    cond (eqb (number_of o.answer) (refusal_number refusal.Altered)) (outcome None c.budget (total weak (kind m) d f m) d f taken) o) device device
 
 pub adopting-caught : Of adopting waiting worn threes → ⊥
 unfolding calling adopting with_manifest

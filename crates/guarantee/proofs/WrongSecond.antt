@@ -1,17 +1,11 @@
 -- Wrong devices that break the second half. Where the comment says 'alone', all other clauses of demand 3 hold of the device, by reading.
-use mathlib.Core.Path.{◌≡◌, refl, ap}
-use mathlib.Core.Bool.{cond, ◌&&◌}
-use mathlib.Core.List.{List}
-use Prim.Native.Nat.{ℕ, suc, pred, ◌-◌, ◌%◌}
-use native.Mathlib.Omega.{arith}
-use lib.Dec.{eqb, lit<, lit≤}
-use lib.ListN.{length, get_or, set, take, drop, replicate}
+use Rattle.std.proofs.Common.{◌≡◌, refl, ap, cond, ◌&&◌, List, ℕ, suc, pred, ◌-◌, ◌%◌, arith, eqb, lit<, lit≤, length, get_or, set, take, drop, replicate}
 use Rattle.octets.specs.Octets.{number, joined}
 use Rattle.merkle.specs.Limits.{held_bytes}
 use Rattle.sender.specs.Job.{Job}
 use Rattle.machine.specs.declared.state.Stage.TheVariants.{Loading}
 use Rattle.machine.specs.declared.state.Device.{Device}
-use Rattle.machine.specs.declared.state.Answer.TheVariants.{Accepted}
+use Rattle.machine.specs.Answer.{Accepted}
 use Rattle.machine.specs.Device.{next_of}
 use Rattle.guarantee.specs.Run.{empty, ◌▷◌, answer_to, blocks_since}
 use Rattle.guarantee.specs.Demand3.{Begun, begin, next, SecondHalf}

@@ -5,7 +5,7 @@ use Rattle.wire.specs.declared.refusal.Refusal.TheVariants as refusal
 use Rattle.wire.specs.Message.{kind}
 use Rattle.machine.specs.declared.state.Stage.TheVariants.{Complete}
 use Rattle.machine.specs.declared.state.Device.{Device}
-use Rattle.machine.specs.declared.state.Answer.TheVariants.{Accepted, Refused}
+use Rattle.machine.specs.Answer.{Accepted, Refused}
 use Rattle.machine.specs.Device.{Fresh, OutcomeOf}
 use Rattle.machine.specs.Step.{step}
 use Rattle.machine.specs.BootCheck.{boot_check}

@@ -1,6 +1,5 @@
 -- Demand 3, of any device: for any hash function H, any verdict on signatures, any step of the device, and one part of it (specs/Part).
-use Rattle.std.specs.Prelude.{◌≡◌, ◌⊎◌, ◌↔◌, Bool, true, false, List, [], ℕ, zero, suc, pred, ◌^◌, max, ◌≤◌, ◌<◌, length, take, drop}
-use Rattle.std.proofs.Math.Option.{Option, none, some}
+use Rattle.std.specs.Prelude.{◌≡◌, ◌⊎◌, ◌↔◌, Bool, true, false, List, [], ℕ, zero, suc, pred, ◌^◌, max, ◌≤◌, ◌<◌, length, take, drop, Option, None, Some, Ok, Err}
 use Rattle.merkle.specs.Shape.{shape, depth}
 use Rattle.merkle.specs.Hash.{plain, hashes, Collision}
 use Rattle.merkle.specs.Frontier.{frontier}
@@ -17,8 +16,7 @@ use Rattle.wire.specs.Message.{kind, carries, manifest_bytes, manifest_in, updat
 use Rattle.sender.specs.Job.{Image, Job, count, blocks, manifest_for, block_for}
 use Rattle.machine.specs.declared.state.Stage.TheVariants.{Idle, Loading, Complete}
 use Rattle.machine.specs.declared.state.Device.{Device}
-use Rattle.machine.specs.declared.state.Answer.{Answer}
-use Rattle.machine.specs.declared.state.Answer.TheVariants.{Accepted, Refused}
+use Rattle.machine.specs.Answer.{Answer, Accepted, Refused}
 use Rattle.machine.specs.Device.{Fresh, held_by, OutcomeOf, Outcome}
 use Rattle.machine.specs.Readers.{number_of}
 use Rattle.machine.specs.Step.{answer_of, Call}
@@ -89,12 +87,12 @@ module _ (H : List ℕ → List ℕ) (valid : (key message signature : List ℕ)
     -- "Accepted: .. exactly where none of the drive's refusals .. applies"; and otherwise it gets its refusal number
     pub answers : (c : C) → answer cs c ≡ answer_of (refusal cs c)
     -- the same by number: 0, or 01's number of the first refusal that applies
-    pub numbers : (c : C) → number_of (answer cs c) ≡ elim (refusal cs c) [ none ↦ 0 | some r ↦ refusal_number r ]
+    pub numbers : (c : C) → number_of (answer cs c) ≡ elim (refusal cs c) [ None ↦ 0 | Some r ↦ refusal_number r ]
     -- "a refused one leaves both as they were"
     pub refused : (c : C) (r : Refusal) → answer cs c ≡ Refused r → after step d flash (cs ▷ c) ≡ after step d flash cs
     -- 02, change 7: "an accepted one reports its total"; a refused one reports 0. 01's form: "count and caller's budget as numbers in the result".
     pub reports : (c : C) → part.names c ≡ true
-        → ((outcome cs c).compressions ≡ elim (outcome cs c).answer [ Accepted ↦ total cs c | Refused r ↦ 0 ]) × ((outcome cs c).budget ≡ part.budget c)
+        → ((outcome cs c).compressions ≡ elim (outcome cs c).answer [ Ok _ ↦ total cs c | Err r ↦ 0 ]) × ((outcome cs c).budget ≡ part.budget c)
     -- a call that does not name the part leaves its device and its flash as they were
     pub leaves : (c : C) → part.names c ≡ false → (device_after (cs ▷ c) ≡ device_after cs) × (flash_after (cs ▷ c) ≡ flash_after cs)
     -- "no call changes model or key"
@@ -120,7 +118,7 @@ module _ (H : List ℕ → List ℕ) (valid : (key message signature : List ℕ)
   -- A list after which the device is complete with manifest s, and its flash f.
   pub record Bound (cs : Trace C) (s : Manifest) (f : List ℕ) : Type 0 where
     pub carrier : List ℕ
-    pub last : last_carrier (accepted_of cs) ≡ some carrier
+    pub last : last_carrier (accepted_of cs) ≡ Some carrier
     -- "signed means that this message's signature over it is valid under the drive's key"
     pub signed : valid (part.device d).key (manifest_bytes carrier) (signature_in carrier) ≡ true
     -- "the area must have T bytes"
@@ -131,11 +129,11 @@ module _ (H : List ℕ → List ℕ) (valid : (key message signature : List ℕ)
   -- The first half.
   pub record FirstHalf (cs : Trace C) : Type 0 where
     -- "The drive's slip is that of the last accepted message that carries one"
-    pub manifest : (m : List ℕ) → last_carrier (accepted_of cs) ≡ some m → (device_after cs).manifest ≡ manifest_in m
+    pub manifest : (m : List ℕ) → last_carrier (accepted_of cs) ≡ Some m → (device_after cs).manifest ≡ manifest_in m
     -- "The stage is complete exactly then." Before, it is idle while no kind 1 was accepted, and then loading, with the number after the accepted blocks.
     pub exactly : ((device_after cs).stage ≡ Complete) ↔ Completed (accepted_of cs)
-    pub idle : last_program (accepted_of cs) ≡ none → (device_after cs).stage ≡ Idle
-    pub loading : (s : Manifest) → last_program (accepted_of cs) ≡ some s → blocks_since (accepted_of cs) < count_of s
+    pub idle : last_program (accepted_of cs) ≡ None → (device_after cs).stage ≡ Idle
+    pub loading : (s : Manifest) → last_program (accepted_of cs) ≡ Some s → blocks_since (accepted_of cs) < count_of s
         → (device_after cs).stage ≡ Loading (suc (blocks_since (accepted_of cs)))
     -- "The area is one throughout"
     pub one : length (flash_after cs) ≡ length (part.flash flash)

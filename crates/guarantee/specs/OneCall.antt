@@ -1,7 +1,6 @@
 -- One call, with nothing assumed (02, change 5: "A program reported complete by either then has its root at that moment, with nothing assumed of the area"). Said of
 -- any step of the device, as demand 3 is, but for every state and every flash handed in, reached by a list or not.
-use Rattle.std.specs.Prelude.{◌≡◌, ◌⊎◌, Bool, List, ℕ, ◌≤◌, length}
-use Rattle.std.proofs.Math.Option.{Option}
+use Rattle.std.specs.Prelude.{◌≡◌, ◌⊎◌, Bool, List, ℕ, ◌≤◌, length, Option, Ok, Err}
 use Rattle.wire.specs.declared.kind.Kind.TheVariants.{Block, Update, PathUpdate}
 use Rattle.wire.specs.declared.manifest.Manifest.{Manifest}
 use Rattle.wire.specs.declared.refusal.Refusal.{Refusal}
@@ -9,7 +8,7 @@ use Rattle.wire.specs.Geometry.{tree_over}
 use Rattle.wire.specs.Message.{kind, manifest_in}
 use Rattle.machine.specs.declared.state.Stage.TheVariants.{Complete}
 use Rattle.machine.specs.declared.state.Device.{Device}
-use Rattle.machine.specs.declared.state.Answer.TheVariants.{Accepted, Refused}
+use Rattle.machine.specs.Answer.{Accepted, Refused}
 use Rattle.machine.specs.Device.{Outcome}
 use Rattle.machine.specs.Step.{answer_of, total, refusal_of, step}
 use Rattle.guarantee.specs.Behind.{goes_by}
@@ -25,7 +24,7 @@ pub record OneCall (H : List ℕ → List ℕ) (refusal : Device → List ℕ �
   -- It is accepted where none of the refusals applies, and otherwise gets the first that does: so 19 and 20 are given where they apply.
   pub answers : (step d flash m).answer ≡ answer_of (refusal d flash m)
   -- An accepted call reports its total, a refused one 0, and both the budget handed in.
-  pub reports : ((step d flash m).compressions ≡ elim (step d flash m).answer [ Accepted ↦ total H (kind m) d flash m | Refused r ↦ 0 ]) × ((step d flash m).budget ≡ budget)
+  pub reports : ((step d flash m).compressions ≡ elim (step d flash m).answer [ Ok _ ↦ total H (kind m) d flash m | Err r ↦ 0 ]) × ((step d flash m).budget ≡ budget)
   -- A refused call leaves device and flash as they were.
   pub refused : (r : Refusal) → (step d flash m).answer ≡ Refused r → ((step d flash m).device ≡ d) × ((step d flash m).flash ≡ flash)
   -- An accepted one leaves the manifest that it goes by: its own, or else the device's.

@@ -1,7 +1,6 @@
 -- A part of a device, as it is seen in what the caller keeps and in what it hands over: any state D, any flash F (01: area), any call C. Demand 3 is said of one part,
 -- with the calls that name it and its own flash.
-use Rattle.std.specs.Prelude.{Bool, true, List, ℕ}
-use Rattle.std.proofs.Math.Option.{Option}
+use Rattle.std.specs.Prelude.{Bool, true, List, ℕ, Option}
 use Rattle.wire.specs.declared.refusal.Refusal.{Refusal}
 use Rattle.wire.specs.Message.{kind}
 use Rattle.machine.specs.declared.state.Device.{Device}

@@ -11,7 +11,7 @@ use Rattle.wire.specs.Geometry.{count_of, block_start, blocks_of}
 use Rattle.wire.specs.Message.{kind, manifest_in, update_number}
 use Rattle.machine.specs.declared.state.Stage.TheVariants.{Loading, Complete}
 use Rattle.machine.specs.declared.state.Device.{Device}
-use Rattle.machine.specs.declared.state.Answer.TheVariants.{Accepted, Refused}
+use Rattle.machine.specs.Answer.{Accepted, Refused}
 use Rattle.machine.specs.Step.{step, Call, step_call}
 use Rattle.guarantee.specs.Run.{Trace, empty, ◌▷◌, after, outcome_to, answer_to, siblings_in}
 

@@ -10,7 +10,7 @@ use Rattle.wire.specs.Cost.{cost_due}
 use Rattle.sender.specs.Job.{Image, Job, count, manifest_for, program_for, block_for}
 use Rattle.machine.specs.declared.state.Stage.TheVariants.{Idle}
 use Rattle.machine.specs.declared.state.Device.{Device}
-use Rattle.machine.specs.declared.state.Answer.TheVariants.{Accepted, Refused}
+use Rattle.machine.specs.Answer.{Accepted, Refused}
 use Rattle.machine.specs.Device.{Fresh, serial_of, Outcome}
 use Rattle.machine.specs.Refusals.{senseless}
 use Rattle.machine.specs.Step.{step, Call, step_call}

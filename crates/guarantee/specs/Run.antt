@@ -1,14 +1,12 @@
 -- Lists of calls, and what a device makes of them (01, 'The list that demand 3 speaks of').
-use Rattle.std.specs.Prelude.{◌≡◌, true, false, cond, List, [], ℕ, suc, pred}
-use Rattle.std.proofs.Math.Option.{Option, none, some}
+use Rattle.std.specs.Prelude.{◌≡◌, true, false, cond, List, [], ℕ, suc, pred, Option, None, Some, Ok, Err}
 use Rattle.merkle.specs.Path.{leaf_depth}
 use Rattle.merkle.specs.Held.{hashes_in}
 use Rattle.wire.specs.declared.kind.Kind.TheVariants.{Program, Block, Update, PathUpdate, Unknown}
 use Rattle.wire.specs.declared.manifest.Manifest.{Manifest}
 use Rattle.wire.specs.Geometry.{count_of, block_length}
 use Rattle.wire.specs.Message.{kind, carries, manifest_in, program_signature, update_number, update_signature, path_in, path_signature}
-use Rattle.machine.specs.declared.state.Answer.{Answer}
-use Rattle.machine.specs.declared.state.Answer.TheVariants.{Accepted, Refused}
+use Rattle.machine.specs.Answer.{Answer}
 use Rattle.machine.specs.Device.{SituationOf, OutcomeOf}
 use Rattle.guarantee.specs.Part.{Part}
 
@@ -40,14 +38,14 @@ module _ {D F C : Type 0} (step : D → F → C → OutcomeOf D F) (d : D) (flas
   accepted part empty = empty
   accepted part (cs ▷ c) =
       elim (part.names c) [
-        | true ↦ elim (answer_to cs c) [ Accepted ↦ accepted part cs ▷ part.message c | Refused r ↦ accepted part cs ]
+        | true ↦ elim (answer_to cs c) [ Ok _ ↦ accepted part cs ▷ part.message c | Err r ↦ accepted part cs ]
         | false ↦ accepted part cs
       ]
 
 -- The manifest of the last kind 1 among accepted messages.
 unfoldable pub last_program : Messages → Option Manifest
-last_program empty = none
-last_program (ms ▷ m) = elim (kind m) [ Program ↦ some (manifest_in m) | Block ↦ last_program ms | Update ↦ last_program ms | PathUpdate ↦ last_program ms | Unknown ↦ last_program ms ]
+last_program empty = None
+last_program (ms ▷ m) = elim (kind m) [ Program ↦ Some (manifest_in m) | Block ↦ last_program ms | Update ↦ last_program ms | PathUpdate ↦ last_program ms | Unknown ↦ last_program ms ]
 
 -- How many kind 2 messages were accepted since the last kind 1.
 unfoldable pub blocks_since : Messages → ℕ
@@ -61,8 +59,8 @@ paths_since (ms ▷ m) = elim (kind m) [ Program ↦ 0 | Block ↦ paths_since m
 
 -- The last accepted message that carries a manifest.
 unfoldable pub last_carrier : Messages → Option (List ℕ)
-last_carrier empty = none
-last_carrier (ms ▷ m) = cond (carries (kind m)) (some m) (last_carrier ms)
+last_carrier empty = None
+last_carrier (ms ▷ m) = cond (carries (kind m)) (Some m) (last_carrier ms)
 
 -- The signature of a message that carries a manifest.
 unfoldable pub signature_in : List ℕ → List ℕ
@@ -87,5 +85,5 @@ siblings_in m =
 -- "Complete: the list has an accepted kind 1, and since the last of these as many kind 2 messages were accepted as its slip has blocks."
 pub record Completed (taken : Messages) : Type 0 where
   pub manifest : Manifest
-  pub last : last_program taken ≡ some manifest
+  pub last : last_program taken ≡ Some manifest
   pub all : blocks_since taken ≡ count_of manifest

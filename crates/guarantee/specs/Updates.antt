@@ -5,7 +5,7 @@ use Rattle.wire.specs.Message.{at_start}
 use Rattle.sender.specs.Job.{Job, count, blocks, manifest_for, update_for, path_for}
 use Rattle.machine.specs.declared.state.Stage.TheVariants.{Complete}
 use Rattle.machine.specs.declared.state.Device.{Device}
-use Rattle.machine.specs.declared.state.Answer.TheVariants.{Accepted}
+use Rattle.machine.specs.Answer.{Accepted}
 use Rattle.machine.specs.Device.{Outcome}
 use Rattle.machine.specs.Step.{step}
 use Rattle.guarantee.specs.Demand3.{Sendable}

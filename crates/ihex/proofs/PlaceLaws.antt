@@ -2,12 +2,12 @@
 use mathlib.Core.Path.{◌≡◌, refl, sym, ap, ◌∙◌}
 use mathlib.Core.Bool.{Bool, true, false, cond, ◌||◌}
 use mathlib.Core.List.{List, [], ◌∷◌, ◌++◌, append-nil}
-use mathlib.Core.Option.{Option, none, some}
+use Rattle.std.specs.Prelude.{Option, None, Some}
 use Prim.Native.Nat.{ℕ, suc, ◌+◌, ◌-◌, ◌*◌, ◌%◌, ◌^◌, ◌≤◌, ◌<◌}
 use native.Mathlib.Decide.{dec_lt}
 use native.Mathlib.Omega.{arith}
 use lib.Dec.{ltb}
-use lib.ListN.{length, take, drop, get_or, replicate, get_or-append, drop_of_length-le}
+use lib.ListN.{length, take, get_or, replicate, get_or-append}
 use lib.Seq.{paste, take-length, take-paste, drop-paste, length-paste, get_or-take, get_or-drop, get_or-append-add, length-take-le, ext_get_or}
 use borrow.Author.Tests.{le-ltb, le-leb, lt-leb, ltb-false}
 use Rattle.wire.specs.declared.refusal.Refusal.TheVariants.{Text}
@@ -17,10 +17,10 @@ use Rattle.ihex.specs.Line as spec
 use Rattle.ihex.specs.Line.{data00, line_of}
 use Rattle.ihex.specs.Text.{lines, Byte, placed, any_outside, is_named, any_repeated, value_at, image_of}
 use Rattle.ihex.specs.Read.{Before, start, named_by, upper_after, is_broken, after, refusals, names, fault, judge, judged}
-use Rattle.ihex.specs.Code.{first_line, Places}
+use Rattle.ihex.specs.Code.{Places}
 use Rattle.ihex.proofs.NamedLaws.{value-named, value-unnamed, value_none, image-length, image-at, image-none, placed_at, placed-named, placed-value, placed-outside, unrepeated}
 use Rattle.ihex.proofs.StepLaws.{Fits}
-use Rattle.ihex.proofs.JudgeLaws.{lines_at, end-within}
+use Rattle.ihex.proofs.LineLaws.{Cut, lines-none}
 use Rattle.ihex.proofs.ReadLaws.{clear, unfaulted}
 
 -- what stands at i after a copy of s over d, from `from` on
@@ -119,69 +119,59 @@ module _ (base k u : ℕ) {out : List ℕ} where
   places-nothing x e = record { upper = refl; image = λ bs o i. rw (e, append-nil bs) i }
 
   module _ (a : ℕ) (vs : List ℕ) where
-    pub places-empty : length vs ≡ 0 → Places base k u (some (data00 a vs)) out u out
+    pub places-empty : length vs ≡ 0 → Places base k u (Some (data00 a vs)) out u out
     unfolding placed
     places-empty e = go vs e
       where
-        go : (ws : List ℕ) → length ws ≡ 0 → Places base k u (some (data00 a ws)) out u out
-        go [] g = places-nothing (some (data00 a [])) refl
+        go : (ws : List ℕ) → length ws ≡ 0 → Places base k u (Some (data00 a ws)) out u out
+        go [] g = places-nothing (Some (data00 a [])) refl
         go (w ∷ ws) g = absurd (omega arith)
 
-    pub places-data : {next : List ℕ} → Fits base k → DataInside base k u a vs → next ≡ paste out (u * 65536 + a - base) vs (length vs) → Places base k u (some (data00 a vs)) out u next
+    pub places-data : {next : List ℕ} → Fits base k → DataInside base k u a vs → next ≡ paste out (u * 65536 + a - base) vs (length vs) → Places base k u (Some (data00 a vs)) out u next
     places-data f i e = record { upper = refl; image = λ bs o g. e ∙ rw g (image-placed base k (u * 65536 + a) vs f.last i.low i.high bs o) }
 
--- The lines of a text with no fault, that names `all`: before the line that starts at `from`.
-pub record Writing (text : List ℕ) (base k : ℕ) (all : List Byte) (out : List ℕ) (u from : ℕ) : Type 0 where
+-- The lines of a text with no fault, that names `all`: before those of `rest`.
+pub record Writing (base k : ℕ) (all : List Byte) (out : List ℕ) (u : ℕ) (rest : List ℕ) : Type 0 where
   pub before : Before
   pub number : ℕ
   pub upper : u ≡ before.upper
   pub image : out ≡ image_of base k before.named
-  pub within : from ≤ length text
-  pub same : judge base k before number (lines (drop from text)) ≡ names all
+  pub same : judge base k before number (lines rest) ≡ names all
 
-module _ (text : List ℕ) (base k : ℕ) (all : List Byte) where
-  pub writing_start : {out : List ℕ} → out ≡ replicate k 255 → judged base k text ≡ names all → Writing text base k all out 0 0
+module _ (base k : ℕ) (all : List Byte) where
+  pub writing_start : {text out : List ℕ} → out ≡ replicate k 255 → judged base k text ≡ names all → Writing base k all out 0 text
   unfolding judged start
-  writing_start e j = record { before = start; number = 1; upper = refl; image = e ∙ sym (image-none base k); within = omega arith; same = j }
+  writing_start e j = record { before = start; number = 1; upper = refl; image = e ∙ sym (image-none base k); same = j }
 
-  module _ {out : List ℕ} {u from : ℕ} (w : Writing text base k all out u from) where
-    pub writing-done : length text ≤ from → out ≡ image_of base k all
-    unfolding judge lines
-    writing-done h =
-        let e : drop from text ≡ [] = drop_of_length-le text {i = from} h in
-        w.image ∙ ap (image_of base k) (go w.before.ended (ap (λ (s : List ℕ). judge base k w.before w.number (lines s)) (sym e) ∙ w.same))
+  module _ {out : List ℕ} {u : ℕ} {rest : List ℕ} (w : Writing base k all out u rest) where
+    pub writing-done : length rest ≡ 0 → out ≡ image_of base k all
+    unfolding judge
+    writing-done h = w.image ∙ ap (image_of base k) (go w.before.ended (ap (judge base k w.before w.number) (sym (lines-none rest h)) ∙ w.same))
       where
         go : (t : Bool) → cond t (names w.before.named) (fault Text w.number) ≡ names all → w.before.named ≡ all
         go true q = cc
-        go false q = let z : ◌≡◌ {A = ℕ} 0 1 = cc in absurd (omega arith)
+        go false q = cc
 
-    module _ (h : from < length text) where
-      abbrev l : List ℕ
-      l = first_line (drop from text)
-
-      split : judge base k w.before w.number (l ∷ lines (drop (from + length l) text)) ≡ names all
-      split = ap (judge base k w.before w.number) (sym (lines_at text from h)) ∙ w.same
-
+    module _ {line left : List ℕ} (cut : Cut rest line left) where
       -- no refusal applies to the line
-      good : (first_that_applies (refusals base k w.before (line_of l)) ≡ none) × (judge base k (after w.before (line_of l)) (suc w.number) (lines (drop (from + length l) text)) ≡ names all)
+      good : (first_that_applies (refusals base k w.before (line_of line)) ≡ None) × (judge base k (after w.before (line_of line)) (suc w.number) (lines left) ≡ names all)
       unfolding judge
-      good = unfaulted (first_that_applies (refusals base k w.before (line_of l))) _ w.number all split
+      good = unfaulted (first_that_applies (refusals base k w.before (line_of line))) _ w.number all (ap (judge base k w.before w.number) (sym cut.lines) ∙ w.same)
 
-      tests : (w.before.ended || is_broken (line_of l) ≡ false) × (any_outside base k (named_by w.before.upper (line_of l)) ≡ false) × (any_repeated w.before.named (named_by w.before.upper (line_of l)) ≡ false)
+      tests : (w.before.ended || is_broken (line_of line) ≡ false) × (any_outside base k (named_by w.before.upper (line_of line)) ≡ false) × (any_repeated w.before.named (named_by w.before.upper (line_of line)) ≡ false)
       unfolding refusals
       tests = clear _ _ _ good.0
 
-      pub writing-inside : any_outside base k (named_by u (line_of l)) ≡ false
+      pub writing-inside : any_outside base k (named_by u (line_of line)) ≡ false
       writing-inside = rw w.upper tests.1
 
-      pub writing-next : {next : List ℕ} {v : ℕ} → Places base k u (line_of l) out v next → Writing text base k all next v (from + length l)
+      pub writing-next : {next : List ℕ} {v : ℕ} → Places base k u (line_of line) out v next → Writing base k all next v left
       unfolding after
       writing-next p =
           record {
-            before = after w.before (line_of l);
+            before = after w.before (line_of line);
             number = suc w.number;
             upper = p.upper ∙ rw w.upper;
             image = rw w.upper at (p.image w.before.named (rw w.upper tests.2) w.image);
-            within = end-within text from w.within;
             same = good.1;
           }

@@ -2,7 +2,7 @@
 use mathlib.Core.Path.{◌≡◌, refl, sym, ap, ◌∙◌}
 use mathlib.Core.Bool.{Bool, true, false, cond, ◌||◌, or_assoc, true≢false}
 use mathlib.Core.List.{List, [], ◌∷◌, ◌++◌, append-nil, append_assoc}
-use mathlib.Core.Option.{Option, none, some}
+use Rattle.std.specs.Prelude.{Option, None, Some, Err}
 use Prim.Native.Nat.{ℕ, suc, ◌+◌, ◌*◌, ◌≤◌, ◌<◌}
 use native.Mathlib.Decide.{dec_lt}
 use native.Mathlib.Omega.{arith}
@@ -12,10 +12,10 @@ use Rattle.wire.specs.declared.refusal.Refusal.{Refusal}
 use Rattle.wire.specs.declared.refusal.Refusal.TheVariants as refusal
 use Rattle.wire.specs.Refusal.{first_that_applies}
 use Rattle.wire.proofs.SizeLaws.{or-false}
-use Rattle.ihex.specs.declared.reading.TextAnswer.TheVariants.{Read, Refused}
+use Rattle.ihex.specs.declared.reading.Fault as code
 use Rattle.ihex.specs.Line.{Line, data00, end01, upper04, line_of}
 use Rattle.ihex.specs.Text.{lines, Byte, placed, Names, ended, named, under, outside, any_outside, is_named, any_repeated, image_of}
-use Rattle.ihex.specs.Read.{wrong_length, Before, start, named_by, upper_after, is_end, is_broken, after, refusals, Judged, names, fault, judge, judged, TextOutcome, text_outcome, read}
+use Rattle.ihex.specs.Read.{Read, Refused, wrong_length, Before, start, named_by, upper_after, is_end, is_broken, after, refusals, Judged, names, fault, judge, judged, TextOutcome, text_outcome, read}
 use Rattle.ihex.specs.Code.{text_answer}
 use Rattle.ihex.specs.Claims.{Denotes, AllRead}
 use Rattle.ihex.proofs.StepLaws.{unended}
@@ -39,22 +39,22 @@ After false u ls new = Names u ls new
 
 after_line : (u : ℕ) (l : List ℕ) (ls : List (List ℕ)) (new : List Byte) (x : Option Line) → line_of l ≡ x → is_broken x ≡ false
     → After (is_end x) (upper_after u x) ls new → Names u (l ∷ ls) (named_by u x ++ new)
-after_line u l ls new none e q a = absurd (true≢false q)
-after_line u l ls new (some (data00 x vs)) e q a = named e a
-after_line u l ls new (some end01) e q a = rw (a.0, a.1) (ended e)
-after_line u l ls new (some (upper04 v)) e q a = under e a
+after_line u l ls new None e q a = absurd (true≢false q)
+after_line u l ls new (Some (data00 x vs)) e q a = named e a
+after_line u l ls new (Some end01) e q a = rw (a.0, a.1) (ended e)
+after_line u l ls new (Some (upper04 v)) e q a = under e a
 
 -- no refusal of a line applies, so none of its tests is true
-pub clear : (s o r : Bool) → first_that_applies ((refusal.Text, s) ∷ (refusal.Place, o) ∷ (refusal.Twice, r) ∷ []) ≡ none → (s ≡ false) × (o ≡ false) × (r ≡ false)
+pub clear : (s o r : Bool) → first_that_applies ((refusal.Text, s) ∷ (refusal.Place, o) ∷ (refusal.Twice, r) ∷ []) ≡ None → (s ≡ false) × (o ≡ false) × (r ≡ false)
 unfolding first_that_applies
 clear false false false q = (refl, refl, refl)
 clear true o r q = (cc, cc, cc)
 clear false true r q = (cc, cc, cc)
 clear false false true q = (cc, cc, cc)
 
-pub unfaulted : (f : Option Refusal) (j : Judged) (n : ℕ) (bs : List Byte) → elim f [ none ↦ j | some r ↦ fault r n ] ≡ names bs → (f ≡ none) × (j ≡ names bs)
-unfaulted none j n bs q = (refl, q)
-unfaulted (some r) j n bs q = (cc, cc)
+pub unfaulted : (f : Option Refusal) (j : Judged) (n : ℕ) (bs : List Byte) → elim f [ None ↦ j | Some r ↦ fault r n ] ≡ names bs → (f ≡ None) × (j ≡ names bs)
+unfaulted None j n bs q = (refl, q)
+unfaulted (Some r) j n bs q = (cc, cc)
 
 module _ (base k : ℕ) where
   -- these lines, after those that left b, end a text well: it names bs
@@ -70,7 +70,7 @@ module _ (base k : ℕ) where
   ends_last b n bs true e q = record { new = []; all = rw (append-nil b.named) (cc); rules = rw e (refl, refl); inside = refl; apart = refl }
   ends_last b n bs false e q = absurd (let z : ◌≡◌ {A = ℕ} 0 1 = cc in omega arith)
 
-  ends_more : (b : Before) (l : List ℕ) (ls : List (List ℕ)) (bs : List Byte) → first_that_applies (refusals base k b (line_of l)) ≡ none
+  ends_more : (b : Before) (l : List ℕ) (ls : List (List ℕ)) (bs : List Byte) → first_that_applies (refusals base k b (line_of l)) ≡ None
       → Ends (after b (line_of l)) ls bs → Ends b (l ∷ ls) bs
   unfolding refusals after
   ends_more b l ls bs sound r =
@@ -98,7 +98,7 @@ module _ (base k : ℕ) where
       → judge base k (unended u ns) n (l ∷ ls) ≡ judge base k (after (unended u ns) x) (suc n) ls
   unfolding judge refusals first_that_applies
   passes u ns n l ls x e s o r =
-      let f : first_that_applies (refusals base k (unended u ns) (line_of l)) ≡ none = rw (e, s, o, r) in
+      let f : first_that_applies (refusals base k (unended u ns) (line_of l)) ≡ None = rw (e, s, o, r) in
       rw (f, judge) (ap (λ (y : Option Line). judge base k (after (unended u ns) y) (suc n) ls) e)
 
   ends-judged : (u : ℕ) (ns : List Byte) (n : ℕ) (ls : List (List ℕ)) (new : List Byte) → Names u ls new → any_outside base k new ≡ false → any_repeated ns new ≡ false
@@ -166,9 +166,9 @@ pub answer-names : (j : Judged) → text_answer j ≡ Read → (bs : List Byte) 
 answer-names (names bs) e = (bs, refl)
 answer-names (fault r n) e = ([], cc)
 
-pub answer-fault : (j : Judged) (r : Refusal) (n : ℕ) → text_answer j ≡ Refused r n → j ≡ fault r n
-answer-fault (names bs) r n e = cc
-answer-fault (fault q m) r n e = cc
+pub answer-fault : (j : Judged) (f : code.Fault) → text_answer j ≡ Err f → j ≡ fault f.refusal f.line
+answer-fault (names bs) f e = cc
+answer-fault (fault q m) f e = let g : record { refusal = q; line = m } ≡ f = cc in rw (← g)
 
 pub all_read : AllRead
 unfolding text_outcome

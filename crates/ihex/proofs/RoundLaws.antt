@@ -2,7 +2,7 @@
 use mathlib.Core.Path.{◌≡◌, refl, sym, ap, ap₂, ◌∙◌}
 use mathlib.Core.Bool.{Bool, true, false, cond}
 use mathlib.Core.List.{List, [], ◌∷◌, ◌++◌, append-nil}
-use mathlib.Core.Option.{some, bind}
+use Rattle.std.specs.Prelude.{Some}
 use Prim.Native.Nat.{ℕ, zero, suc, ◌+◌, ◌-◌, ◌*◌, ◌/◌, ◌%◌, ◌^◌, ◌≤◌, ◌<◌}
 use native.Mathlib.Omega.{arith}
 use lib.Dec.{eqb}
@@ -11,10 +11,9 @@ use lib.Seq.{get_or-take, get_or-drop, ext_get_or}
 use borrow.Author.Tests.{eqb-true}
 use Rattle.octets.specs.Octets.{Bytes, bytes}
 use Rattle.octets.proofs.NumberLaws.{number-back}
-use Rattle.ihex.specs.declared.reading.TextAnswer.{TextAnswer}
 use Rattle.ihex.specs.Line.{data00, end01, upper04, meaning, line_of}
 use Rattle.ihex.specs.Text.{lines, Byte, placed, Names, ended, named, under, image_of}
-use Rattle.ihex.specs.Read.{wrong_length, TextOutcome}
+use Rattle.ihex.specs.Read.{TextAnswer, wrong_length, TextOutcome}
 use Rattle.ihex.specs.Write.{record_line, text_from, text_of}
 use Rattle.ihex.specs.Claims.{Denotes, RoundTrip}
 use Rattle.ihex.proofs.NamedLaws.{image-length, image-at, at-placed, placed-once, placed-value}
@@ -30,12 +29,12 @@ placed-split (suc n) a [] = refl
 placed-split (suc n) a (v ∷ s) = let e : a + suc n ≡ suc a + n = omega arith in rw (e, placed-split n (suc a) s)
 
 -- what the written lines say
-end_read : line_of (record_line 0 1 []) ≡ some end01
-unfolding line_of bind meaning
+end_read : line_of (record_line 0 1 []) ≡ Some end01
+unfolding line_of meaning
 end_read = rw (line-back 0 1 [] (omega arith) (omega arith) (omega arith) (λ i l. absurd (omega arith)))
 
-data-read : (a : ℕ) (s : List ℕ) → a < 65536 → length s < 256 → Bytes s → line_of (record_line a 0 s) ≡ some (data00 a s)
-unfolding line_of bind meaning
+data-read : (a : ℕ) (s : List ℕ) → a < 65536 → length s < 256 → Bytes s → line_of (record_line a 0 s) ≡ Some (data00 a s)
+unfolding line_of meaning
 data-read a s h l b = rw (line-back a 0 s h (omega arith) l b)
 
 two_bytes : (x : ℕ) → Bytes (bytes 2 x)
@@ -44,8 +43,8 @@ two_bytes x zero l = omega arith
 two_bytes x (suc zero) l = omega arith
 two_bytes x (suc (suc i)) l = absurd (omega arith)
 
-upper-read : (v : ℕ) → v < 65536 → line_of (record_line 0 4 (bytes 2 v)) ≡ some (upper04 v)
-unfolding line_of bind meaning bytes
+upper-read : (v : ℕ) → v < 65536 → line_of (record_line 0 4 (bytes 2 v)) ≡ Some (upper04 v)
+unfolding line_of meaning bytes
 upper-read v h = rw (line-back 0 4 (bytes 2 v) (omega arith) (omega arith) (omega arith) (two_bytes v), number-back 2 v refl h)
 
 -- a record 04 where the upper half h is another than u

@@ -1,13 +1,12 @@
 -- What is shown of the definitions (in proofs/).
 use Rattle.std.specs.Prelude.{◌≡◌, ◌↔◌, false, ℕ, ◌+◌, ◌-◌, ◌*◌, ◌≤◌, ◌<◌, length, get_or}
 use mathlib.Core.List.{List, [], ◌∷◌, Memᴰ}
-use Rattle.std.proofs.Math.Option.{some}
+use Rattle.std.specs.Prelude.{Some}
 use Rattle.octets.specs.Octets.{Bytes}
 use Rattle.wire.specs.Message.{at_start}
-use Rattle.ihex.specs.declared.reading.TextAnswer.TheVariants.{Read}
 use Rattle.ihex.specs.Line.{data00, line_of}
 use Rattle.ihex.specs.Text.{lines, Byte, placed, Names, image_of}
-use Rattle.ihex.specs.Read.{wrong_length, read}
+use Rattle.ihex.specs.Read.{Read, wrong_length, read}
 use Rattle.ihex.specs.Write.{text_of}
 
 -- no byte outside the k bytes from address base on
@@ -49,7 +48,7 @@ SameImage = (text other : List ℕ) (base k : ℕ) (buffer : List ℕ) (bs cs : 
 
 -- One line never names a byte twice.
 abbrev pub OnceInLine : Type 0
-OnceInLine = (u a : ℕ) (l vs : List ℕ) → line_of l ≡ some (data00 a vs) → Once (placed (u * 65536 + a) vs)
+OnceInLine = (u a : ℕ) (l vs : List ℕ) → line_of l ≡ Some (data00 a vs) → Once (placed (u * 65536 + a) vs)
 
 -- The text for an image is read back as that image.
 abbrev pub RoundTrip : Type 0

@@ -1,55 +1,54 @@
 -- For the code alone: what it reads, as its own types say it.
-use Rattle.std.specs.Prelude.{◌≡◌, Bool, true, false, cond, ◌&&◌, ◌||◌, List, [], ◌∷◌, ◌++◌, ℕ, ◌+◌, ◌*◌, ◌/◌, ◌%◌, ◌^◌, ◌<◌, leb, ltb, eqb, length, get_or}
-use Rattle.std.proofs.Math.Option.{Option, none, some}
+use Rattle.std.specs.Prelude.{◌≡◌, Bool, true, false, cond, ◌&&◌, ◌||◌, List, [], ◌++◌, ℕ, ◌+◌, ◌*◌, ◌/◌, ◌%◌, ◌^◌, ◌<◌, leb, ltb, eqb, length, get_or}
+use Rattle.std.specs.Prelude.{Option, None, Some, option_map, Result, Ok, Err}
 use Rattle.wire.specs.declared.refusal.Refusal.{Refusal}
 use Rattle.wire.specs.Refusal.{first_that_applies}
-use Rattle.ihex.specs.declared.record.RecordRead.{RecordRead}
-use Rattle.ihex.specs.declared.record.RecordRead.TheVariants.{Sound, Broken}
+use Rattle.ihex.specs.declared.record.Record as code
 use Rattle.ihex.specs.declared.line.Line as code_line
 use Rattle.ihex.specs.declared.line.Line.TheVariants as line
-use Rattle.ihex.specs.declared.judge.Step.{Step}
-use Rattle.ihex.specs.declared.judge.Step.TheVariants.{Next, End, Fault}
-use Rattle.ihex.specs.declared.reading.TextAnswer.{TextAnswer}
-use Rattle.ihex.specs.declared.reading.TextAnswer.TheVariants.{Read, Refused}
-use Rattle.ihex.specs.Line.{LF, digit, Record, sum, Line, data00, end01, upper04}
+use Rattle.ihex.specs.Line.{digit, Record, sum, Line, data00, end01, upper04}
 use Rattle.ihex.specs.Text.{Byte, any_outside, is_named, any_repeated, image_of}
-use Rattle.ihex.specs.Read.{wrong_length, named_by, upper_after, is_end, Judged, names, fault, refusals}
+use Rattle.ihex.specs.Read.{TextAnswer, Read, Refused, Before, wrong_length, named_by, upper_after, is_end, Judged, names, fault, refusals}
 
--- a digit's value, 16 for none
-abbrev pub digit_or : Option ℕ → ℕ
-digit_or none = 16
-digit_or (some d) = d
+-- the byte of two digits
+abbrev pub byte_of : Option ℕ → Option ℕ → Option ℕ
+byte_of None low = None
+byte_of (Some h) None = None
+byte_of (Some h) (Some l) = Some (16 * h + l)
 
--- byte i of a line's record; means nothing where its two characters are not both digits
-unfoldable pub octet_at : List ℕ → ℕ → ℕ
-octet_at l i = 16 * digit_or (digit (get_or l (1 + 2 * i) 0)) + digit_or (digit (get_or l (2 + 2 * i) 0))
+-- byte i of a line's record
+unfoldable pub octet_at : List ℕ → ℕ → Option ℕ
+octet_at l i = byte_of (digit (get_or l (1 + 2 * i) 0)) (digit (get_or l (2 + 2 * i) 0))
 
--- the sum of a and these bytes modulo 256, or 256 where they are not all written in digits
-abbrev pub sum_of : ℕ → Option (List ℕ) → ℕ
-sum_of a none = 256
-sum_of a (some bs) = (a + sum bs) % 256
+-- the number in two bytes
+abbrev pub pair_of : Option ℕ → Option ℕ → Option ℕ
+pair_of None low = None
+pair_of (Some h) None = None
+pair_of (Some h) (Some l) = Some (h * 256 + l)
 
-abbrev pub record_read : Option Record → RecordRead
-record_read none = Broken
-record_read (some r) = Sound (record { address = r.address; kind = r.type; count = length r.bytes })
+-- the number in bytes i and i + 1 of a line's record
+abbrev pub pair_at : List ℕ → ℕ → Option ℕ
+pair_at l i = pair_of (octet_at l i) (octet_at l (i + 1))
 
-abbrev pub line_read : Option Line → code_line.Line
-line_read none = line.Broken
-line_read (some (data00 a vs)) = line.Data a (length vs)
-line_read (some end01) = line.End
-line_read (some (upper04 v)) = line.Upper v
+-- the sum of a and these bytes modulo 256, if they are all written in digits
+abbrev pub sum_of : ℕ → Option (List ℕ) → Option ℕ
+sum_of a = option_map (λ bs. (a + sum bs) % 256)
+
+abbrev pub record_read : Option Record → Option code.Record
+record_read = option_map (λ r. record { address = r.address; kind = r.type; count = length r.bytes })
+
+abbrev pub line_read : Option Line → Option code_line.Line
+line_read None = None
+line_read (Some (data00 a vs)) = Some (line.Data a (length vs))
+line_read (Some end01) = Some line.End
+line_read (Some (upper04 v)) = Some (line.Upper v)
 
 -- the bytes of a line's data
 abbrev pub data_in : Option Line → List ℕ
-data_in none = []
-data_in (some (data00 a vs)) = vs
-data_in (some end01) = []
-data_in (some (upper04 v)) = []
-
--- the line that a text begins with
-unfoldable pub first_line : List ℕ → List ℕ
-first_line [] = []
-first_line (c ∷ s) = c ∷ cond (eqb c LF) [] (first_line s)
+data_in None = []
+data_in (Some (data00 a vs)) = vs
+data_in (Some end01) = []
+data_in (Some (upper04 v)) = []
 
 -- bit i of the bytes
 unfoldable pub bit : List ℕ → ℕ → Bool
@@ -68,15 +67,22 @@ pub record Marked (before : List ℕ) (from count : ℕ) (found : Bool) (after :
 abbrev pub Seen : (base k : ℕ) → List Byte → List ℕ → Type 0
 Seen base k bs seen = (i : ℕ) → i < k → bit seen i ≡ is_named (base + i) bs
 
-abbrev pub step_of : Option Refusal → ℕ → Option Line → Step
-step_of (some r) u x = Fault r
-step_of none u x = cond (is_end x) End (Next (upper_after u x))
+-- the last 04 value, or none after the end record
+abbrev pub state_of : Before → Option ℕ
+state_of b = cond b.ended None (Some b.upper)
 
--- A line x was judged after lines that named bs.
-pub record Steps (base k u : ℕ) (x : Option Line) (before : List ℕ) (r : Step) (after : List ℕ) : Type 0 where
-  pub answered : (bs : List Byte) → Seen base k bs before → r ≡ step_of (first_that_applies (refusals base k (record { upper = u; named = bs; ended = false }) x)) u x
-  pub seen : (bs : List Byte) → Seen base k bs before → first_that_applies (refusals base k (record { upper = u; named = bs; ended = false }) x) ≡ none
-      → Seen base k (bs ++ named_by u x) after
+abbrev pub Step : Type 0
+Step = Result (Option ℕ) Refusal
+
+-- what a line leads to, after lines that left b: what they leave with it
+abbrev pub step_of : Option Refusal → Before → Option Line → Step
+step_of (Some r) b x = Err r
+step_of None b x = Ok (cond (is_end x) None (Some (upper_after b.upper x)))
+
+-- A line x was judged after lines that left u.
+pub record Steps (base k : ℕ) (u : Option ℕ) (x : Option Line) (before : List ℕ) (r : Step) (after : List ℕ) : Type 0 where
+  pub answered : (b : Before) → u ≡ state_of b → Seen base k b.named before → r ≡ step_of (first_that_applies (refusals base k b x)) b x
+  pub seen : (b : Before) → u ≡ state_of b → Seen base k b.named before → first_that_applies (refusals base k b x) ≡ None → Seen base k (b.named ++ named_by b.upper x) after
 
 -- A line x whose bytes are in an image of an allowed length and place.
 abbrev pub Placeable : (base k u : ℕ) → Option Line → Type 0

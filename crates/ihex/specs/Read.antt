@@ -1,12 +1,11 @@
 -- What reading a text answers, and what it leaves in the caller's buffer (02, change 3).
 use Rattle.std.specs.Prelude.{Bool, true, false, cond, ◌||◌, List, [], ◌∷◌, ◌++◌, ℕ, suc, ◌+◌, ◌*◌, ◌^◌, ltb, length}
-use Rattle.std.proofs.Math.Option.{Option, none, some}
+use Rattle.std.specs.Prelude.{Option, None, Some, Result, Ok, Err}
 use Rattle.wire.specs.declared.refusal.Refusal.{Refusal}
 use Rattle.wire.specs.declared.refusal.Refusal.TheVariants as refusal
 use Rattle.wire.specs.Refusal.{first_that_applies}
 use Rattle.wire.specs.Message.{at_start}
-use Rattle.ihex.specs.declared.reading.TextAnswer.{TextAnswer}
-use Rattle.ihex.specs.declared.reading.TextAnswer.TheVariants.{Read, Refused}
+use Rattle.ihex.specs.declared.reading.Fault.{Fault}
 use Rattle.ihex.specs.Line.{Line, data00, end01, upper04, line_of}
 use Rattle.ihex.specs.Text.{lines, Byte, placed, any_outside, any_repeated, image_of}
 
@@ -29,26 +28,26 @@ start = record { upper = 0; named = []; ended = false }
 
 -- the bytes that a line names; the last 04 value after it; whether it is the end record
 abbrev pub named_by : ℕ → Option Line → List Byte
-named_by u none = []
-named_by u (some (data00 a vs)) = placed (u * 65536 + a) vs
-named_by u (some end01) = []
-named_by u (some (upper04 v)) = []
+named_by u None = []
+named_by u (Some (data00 a vs)) = placed (u * 65536 + a) vs
+named_by u (Some end01) = []
+named_by u (Some (upper04 v)) = []
 
 abbrev pub upper_after : ℕ → Option Line → ℕ
-upper_after u none = u
-upper_after u (some (data00 a vs)) = u
-upper_after u (some end01) = u
-upper_after u (some (upper04 v)) = v
+upper_after u None = u
+upper_after u (Some (data00 a vs)) = u
+upper_after u (Some end01) = u
+upper_after u (Some (upper04 v)) = v
 
 abbrev pub is_end : Option Line → Bool
-is_end none = false
-is_end (some (data00 a vs)) = false
-is_end (some end01) = true
-is_end (some (upper04 v)) = false
+is_end None = false
+is_end (Some (data00 a vs)) = false
+is_end (Some end01) = true
+is_end (Some (upper04 v)) = false
 
 abbrev pub is_broken : Option Line → Bool
-is_broken none = true
-is_broken (some x) = false
+is_broken None = true
+is_broken (Some x) = false
 
 -- what is left after one line more, which is not refused, and so does not stand behind the end record
 unfoldable pub after : Before → Option Line → Before
@@ -68,10 +67,20 @@ pub data Judged : Type 0 where
 -- "the earliest line first"; these lines are numbered from n on, and a missing end is at the line after the last
 unfoldable pub judge : (base k : ℕ) → Before → ℕ → List (List ℕ) → Judged
 judge base k b n [] = cond b.ended (names b.named) (fault refusal.Text n)
-judge base k b n (l ∷ ls) = elim (first_that_applies (refusals base k b (line_of l))) [ none ↦ judge base k (after b (line_of l)) (suc n) ls | some r ↦ fault r n ]
+judge base k b n (l ∷ ls) = elim (first_that_applies (refusals base k b (line_of l))) [ None ↦ judge base k (after b (line_of l)) (suc n) ls | Some r ↦ fault r n ]
 
 unfoldable pub judged : (base k : ℕ) → List ℕ → Judged
 judged base k text = judge base k start 1 (lines text)
+
+-- an answer: the image is in the buffer, or a refusal, with the number of the line at fault
+abbrev pub TextAnswer : Type 0
+TextAnswer = Result (Unit {0}) Fault
+
+abbrev pub Read : TextAnswer
+Read = Ok tt
+
+abbrev pub Refused : Refusal → ℕ → TextAnswer
+Refused r n = Err (record { refusal = r; line = n })
 
 pub record TextOutcome : Type 0 where
   pub answer : TextAnswer
@@ -89,6 +98,6 @@ text_outcome base k buffer j =
 unfoldable pub read : (text : List ℕ) (base k : ℕ) (buffer : List ℕ) → TextOutcome
 read text base k buffer =
     elim (first_that_applies ((refusal.Size, wrong_length base k) ∷ (refusal.Area, ltb (length buffer) k) ∷ [])) [
-      | none ↦ text_outcome base k buffer (judged base k text)
-      | some r ↦ record { answer = Refused r 0; buffer = buffer }
+      | None ↦ text_outcome base k buffer (judged base k text)
+      | Some r ↦ record { answer = Refused r 0; buffer = buffer }
     ]

@@ -1,6 +1,6 @@
 -- A text's lines, and the bytes that they name (02, change 3).
 use Rattle.std.specs.Prelude.{◌≡◌, Bool, false, cond, ◌||◌, List, [], ◌∷◌, ◌++◌, ℕ, zero, suc, ◌+◌, ◌*◌, ◌%◌, ◌^◌, leb, ltb, eqb}
-use Rattle.std.proofs.Math.Option.{some}
+use Rattle.std.specs.Prelude.{Some}
 use Rattle.ihex.specs.Line.{LF, data00, end01, upper04, line_of}
 
 -- a byte before the first of these lines
@@ -25,9 +25,9 @@ placed a (v ∷ vs) = record { address = a % 2 ^ 32; value = v } ∷ placed (suc
 
 -- Lines that keep the rules, and the bytes that they name, in their order: data and upper halves, and last the end record. u is the last 04 value.
 pub data Names : ℕ → List (List ℕ) → List Byte → Type 0 where
-  ended : {u : ℕ} {l : List ℕ} → line_of l ≡ some end01 → Names u (l ∷ []) []
-  named : {u a : ℕ} {l vs : List ℕ} {ls : List (List ℕ)} {bs : List Byte} → line_of l ≡ some (data00 a vs) → Names u ls bs → Names u (l ∷ ls) (placed (u * 65536 + a) vs ++ bs)
-  under : {u v : ℕ} {l : List ℕ} {ls : List (List ℕ)} {bs : List Byte} → line_of l ≡ some (upper04 v) → Names v ls bs → Names u (l ∷ ls) bs
+  ended : {u : ℕ} {l : List ℕ} → line_of l ≡ Some end01 → Names u (l ∷ []) []
+  named : {u a : ℕ} {l vs : List ℕ} {ls : List (List ℕ)} {bs : List Byte} → line_of l ≡ Some (data00 a vs) → Names u ls bs → Names u (l ∷ ls) (placed (u * 65536 + a) vs ++ bs)
+  under : {u v : ℕ} {l : List ℕ} {ls : List (List ℕ)} {bs : List Byte} → line_of l ≡ Some (upper04 v) → Names v ls bs → Names u (l ∷ ls) bs
 
 -- whether a byte is outside the k bytes from address base on
 unfoldable pub outside : (base k a : ℕ) → Bool

@@ -11,5 +11,5 @@ mod seen;
 mod write;
 
 pub use line::record_at;
-pub use reading::{MAX_LEN, TextAnswer, read};
-pub use record::{Record, RecordRead};
+pub use reading::{Fault, MAX_LEN, read};
+pub use record::Record;

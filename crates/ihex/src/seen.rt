@@ -20,16 +20,13 @@ pub fn mark(seen: &mut [u8], from: usize, count: usize) -> bool
     requires { (from + count ≤ max_length) × (length seen.old ≡ max_length / 8) }
     ensures { Marked seen.old from count result seen.new }
 {
-    let end = from + count;
-    let mut i = from;
-    while i < end {
+    for i in from..from + count {
         let bit = 1u8 << (i % 8);
         let byte = seen[i / 8];
         if byte & bit != 0 {
             return true;
         }
         seen[i / 8] = byte | bit;
-        i += 1;
     }
     false
 }

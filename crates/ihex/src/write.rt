@@ -6,18 +6,14 @@ ghost use Rattle.ihex.specs.Text.{Byte, image_of};
 ghost use Rattle.ihex.specs.Read.{wrong_length, judged, names};
 ghost use Rattle.ihex.specs.Code.{data_in, Placeable, Places};
 
-use crate::digits::octet;
-use crate::line::{Line, line_end, line_of};
+use crate::digits::known_octet;
+use crate::line::{Line, line_of};
 
 // What no line names is 0xFF.
 fn clear(out: &mut [u8])
     ensures { out.new ≡ replicate (length out.old) 255 }
 {
-    let mut i: usize = 0;
-    while i < out.len() {
-        out[i] = 255;
-        i += 1;
-    }
+    out.fill(0xFF);
 }
 
 // The data of a line of type 00, to out[at..].
@@ -25,10 +21,8 @@ fn put(line: &[u8], count: usize, out: &mut [u8], at: usize)
     requires { (count ≡ length (data_in (line_of line.now))) × (at + count ≤ length out.old) }
     ensures { out.new ≡ paste out.old at (data_in (line_of line.now)) count }
 {
-    let mut i: usize = 0;
-    while i < count {
-        out[at + i] = octet(line, 4 + i) as u8;
-        i += 1;
+    for i in 0..count {
+        out[at + i] = known_octet(line, 4 + i);
     }
 }
 
@@ -38,17 +32,13 @@ fn place(line: &[u8], upper: u16, base: u32, out: &mut [u8]) -> u16
     ensures { Places base (length out.old) upper (line_of line.now) out.old result out.new }
 {
     match line_of(line) {
-        Line::Data { address, count } => {
-            if count == 0 {
-                return upper;
-            }
+        Some(Line::Data { address, count }) if count != 0 => {
             let first = upper as usize * 65536 + address as usize;
             put(line, count as usize, out, first - base as usize);
             upper
         }
-        Line::Upper(value) => value,
-        Line::End => upper,
-        Line::Broken => upper,
+        Some(Line::Upper(value)) => value,
+        _ => upper,
     }
 }
 
@@ -59,10 +49,7 @@ pub fn write(text: &[u8], base: u32, out: &mut [u8])
 {
     clear(out);
     let mut upper: u16 = 0;
-    let mut at: usize = 0;
-    while at < text.len() {
-        let end = line_end(text, at);
-        upper = place(&text[at..end], upper, base, out);
-        at = end;
+    for line in text.split_inclusive(|&c| c == b'\n') {
+        upper = place(line, upper, base, out);
     }
 }

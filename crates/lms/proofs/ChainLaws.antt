@@ -16,7 +16,7 @@ use Rattle.sha256.proofs.HashLaws.{digest-block}
 use Rattle.lms.specs.Notation.{u8str, u16str, u32str, coef, H}
 use Rattle.lms.specs.Ots.{chain, z, zs}
 use Rattle.octets.proofs.BufferLaws.{Begun, more, one, less}
-use Rattle.octets.proofs.CopyLaws.{part-part, paste-later}
+use Rattle.octets.proofs.CopyLaws.{paste-later}
 
 -- what every hash input begins with has 22 bytes
 pub start-length : (I : List ℕ) (r d : ℕ) → length I ≡ 16 → length (I ++ u32str r ++ u16str d) ≡ 22
@@ -61,12 +61,11 @@ module _ (I : List ℕ) (q i a : ℕ) (y : List ℕ) (j : ℕ) where
       pad55 m n ∙ ap₂ {C = List ℕ} (λ (x y : List ℕ). x ++ y) (sym (rw n at front.front)) (sym back) ∙ take-append-drop 55 block' in
       (less k (j ∷ []) (less (k ++ (j ∷ [])) tmp front), back, hashed ∙ digest-block m block' whole front.size ∙ stepped tmp l h g)
 
-module _ (I : List ℕ) (q w : ℕ) (S signature : List ℕ) (p i : ℕ) where
-  -- the chain that the code runs is chain i
-  pub z-found : (a top : ℕ) {r : List ℕ} → i < p → a ≡ coef S i w → top ≡ 2 ^ w - 1 → r ≡ chain I q i a (part (36 + 32 * i) 32 signature) (top - a)
-      → r ≡ z I q w S (part 36 (32 * p) signature) i
-  unfolding z
-  z-found a top h e f g = g ∙ rw (e, f, part-part signature 36 (32 * p) (32 * i) 32 (omega arith))
+-- the chain that the code runs is chain i
+pub z-found : (I : List ℕ) (q w : ℕ) (S y : List ℕ) (i a top : ℕ) {yi r : List ℕ} → a ≡ coef S i w → top ≡ 2 ^ w - 1 → yi ≡ part (32 * i) 32 y
+    → r ≡ chain I q i a yi (top - a) → r ≡ z I q w S y i
+unfolding z
+z-found I q w S y i a top e f g h = cc
 
 pub zs-suc : (s I : List ℕ) (q w : ℕ) (S y : List ℕ) (i : ℕ) → s ++ zs I q w S y i ++ z I q w S y i ≡ s ++ zs I q w S y (i + 1)
 unfolding zs

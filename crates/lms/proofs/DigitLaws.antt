@@ -10,7 +10,7 @@ use lib.Dec.{lit<, lit≤}
 use lib.Pow.{pow_mono, shl_exact}
 use Rattle.lms.specs.Notation.{coef}
 use Rattle.lms.specs.Ots.{Row, steps, Cksm}
-use Rattle.lms.specs.Types.{Sound}
+use Rattle.lms.specs.Sound.{Sound}
 
 -- the code's 1 << k, of n bits
 pub bit : (k n : ℕ) → k < n → (1 * 2 ^ k) % 2 ^ n ≡ 2 ^ k
@@ -21,23 +21,17 @@ pub largest-digit : (w : ℕ) → w ≤ 8 → 2 ^ w - 1 ≤ 255
 largest-digit w h = let l : 2 ^ w ≤ 2 ^ 8 = pow_mono h in omega arith
 
 module _ {w : ℕ} (some_bits : 1 ≤ w) where
-  -- one of k digits begins before their end
-  pub digit-starts : (i k n : ℕ) → i < k → k * w ≤ n → i * w < n
-  digit-starts i k n h e =
-      let m : suc i * w ≤ n = le_trans (mul-le-mul_right w h) e in
-      omega (arith, suc-mul i w)
-
   -- k digits are no more than their bits
-  pub digits-few : (k n : ℕ) → k * w ≤ n → k ≤ n
-  digits-few k n e = let l : k * 1 ≤ k * w = mul-le-mul_left k some_bits in omega arith
+  pub digits_few : (k n : ℕ) → k * w ≤ n → k ≤ n
+  digits_few k n e = let l : k * 1 ≤ k * w = mul-le-mul_left k some_bits in omega arith
 
   module _ (a_byte : w ≤ 8) where
     pub per-byte : 0 < 8 / w
     per-byte = (le-div_iff_mul-le some_bits).1 (omega arith)
 
     -- a digit ends within its byte
-    pub digit-ends : (i : ℕ) → w * (i % (8 / w)) + w ≤ 8
-    digit-ends i =
+    pub digit_ends : (i : ℕ) → w * (i % (8 / w)) + w ≤ 8
+    digit_ends i =
         let l : w * suc (i % (8 / w)) ≤ w * (8 / w) = mul-le-mul_left w (mod-lt i per-byte) in
         omega (arith, mul-suc w (i % (8 / w)), mul-div-le 8 w)
 
@@ -66,3 +60,8 @@ checksum-small t S s = lt_of_le_of_lt (mul-le-mul_right (2 ^ t.ls) (steps-le t.w
 pub checksum-shift : (t : Row) (S : List ℕ) {sum : ℕ} → Sound t → sum ≡ steps t.w S (256 / t.w) → (sum * 2 ^ t.ls) % 2 ^ 64 ≡ Cksm t S
 unfolding Cksm
 checksum-shift t S s e = rw e (mod-eq_of_lt (lt_of_lt_of_le (checksum-small t S s) (lit≤ tt)))
+
+-- how large a digit and a sum of digits are, for the search
+pub ruleset digits = (coef-le, largest-digit)
+
+pub ruleset sums = (coef-le, largest-digit, steps-small, digits_few)

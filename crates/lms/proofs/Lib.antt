@@ -1,4 +1,5 @@
 pub mod ChainLaws
+pub mod ChunkLaws
 pub mod CostLaws
 pub mod DigitLaws
 pub mod Examples
@@ -9,4 +10,3 @@ pub mod MostLaws
 pub mod StepLaws
 pub mod TableLaws
 pub mod TreeLaws
-pub mod VerdictLaws

@@ -1,7 +1,7 @@
 -- The most that a verdict costs, by the key's types.
 use mathlib.Core.Path.{◌≡◌, refl, sym, ap, ◌∙◌}
 use mathlib.Core.Bool.{Bool, true, false, cond, true≢false}
-use mathlib.Core.Option.{none, some}
+use Rattle.std.specs.Prelude.{None, Some}
 use mathlib.Core.List.{List, []}
 use Prim.Native.Nat.{ℕ, ◌+◌, ◌*◌, ◌≤◌}
 use native.Mathlib.Omega.{arith}
@@ -20,7 +20,7 @@ use Rattle.lms.specs.Claims.{MostSteps, VerdictCost, VerdictMost, VerdictsMost}
 use Rattle.lms.proofs.StepLaws.{chain_steps_lem}
 use Rattle.lms.proofs.CostLaws.{inputs-cost}
 
-module _ (t : Row) (h : ℕ) (key message signature : List ℕ) (ots : table1 (strTou32 (part 4 4 key)) ≡ some t) (tree : table2 (strTou32 (part 0 4 key)) ≡ some h) where
+module _ (t : Row) (h : ℕ) (key message signature : List ℕ) (ots : table1 (strTou32 (part 4 4 key)) ≡ Some t) (tree : table2 (strTou32 (part 0 4 key)) ≡ Some h) where
   abbrev well : Bool
   well = well_formed t h key signature
 
@@ -67,9 +67,9 @@ verdict-cost t h key message signature ek ots tree e = whole t h key message sig
 
 -- The sum for two type numbers, s their most steps.
 sum : (ots tree s : ℕ) → ℕ
-sum ots tree s = elim (table1 ots) [ none ↦ 0 | some t ↦ elim (table2 tree) [ none ↦ 0 | some h ↦ 2 + s + compressions_for (22 + 32 * t.p) + 1 + 2 * h ] ]
+sum ots tree s = elim (table1 ots) [ None ↦ 0 | Some t ↦ elim (table2 tree) [ None ↦ 0 | Some h ↦ 2 + s + compressions_for (22 + 32 * t.p) + 1 + 2 * h ] ]
 
-at : (ots tree s most h : ℕ) → table2 tree ≡ some h → MostSteps chain_steps ots s → sum ots tree s ≡ most → VerdictMost ots tree most
+at : (ots tree s most h : ℕ) → table2 tree ≡ Some h → MostSteps chain_steps ots s → sum ots tree s ≡ most → VerdictMost ots tree most
 unfolding sum
 at ots tree s most h et m e =
     let t : Row = m.row in

@@ -1,7 +1,6 @@
 -- How many steps the chains of a signature take: whatever the digit width, a hash value of zero bytes takes the most.
 use mathlib.Core.Path.{◌≡◌, refl, sym, ap, ap₂, ◌∙◌}
 use mathlib.Core.List.{List, ◌++◌}
-use mathlib.Core.Option.{some-injective}
 use Prim.Native.Nat.{ℕ, zero, suc, ◌+◌, ◌-◌, ◌*◌, ◌/◌, ◌%◌, ◌^◌, ◌≤◌, ◌<◌}
 use native.Mathlib.Nat.{add-zero, add_assoc, add-mul, mul_assoc, mul_comm, mul-suc, suc-mul, mul-sub, zero-mul, mul-zero, pow-zero, mul-le-mul_right, mul-add-mod_self_right, mod-eq_of_lt, mod-eq-sub-mod, div-eq_of_eq-mul_left, div-add-mod', mod-lt, div-one, zero-div, le-div_iff_mul-le, div-mul-le_self}
 use native.Mathlib.Decide.{dec_lt}
@@ -11,6 +10,7 @@ use lib.ListN.{length, length-append, get_or, replicate, get_or-append}
 use lib.Pow.{pow_pos, shl-shr, shr-shr, field, mod-mod-pow}
 use lib.Seq.{get_or-append-add}
 use Rattle.octets.specs.Octets.{bytes}
+use Rattle.std.proofs.lemmas.Option.{same_Some}
 use Rattle.lms.specs.Notation.{coef}
 use Rattle.lms.specs.Ots.{Row, steps, Cksm, checked, table1}
 use Rattle.lms.specs.Cost.{chain_steps, chain_inputs, z_inputs, zs_inputs}
@@ -226,6 +226,6 @@ unchecked t Q = steps t.w Q (8 * 32 / t.w)
 pub unchecked-fails : (MostSteps unchecked 4 8415 → ⊥) × (MostSteps unchecked 3 990 → ⊥)
 unfolding table1 unchecked steps coef
 unchecked-fails = (
-  λ claim. let e : ◌≡◌ {A = ℕ} 8160 8415 = ap (λ t. unchecked t (replicate 32 0)) (some-injective w8 claim.row claim.known) ∙ claim.zeros in omega arith,
-  λ claim. let e : ◌≡◌ {A = ℕ} 960 990 = ap (λ t. unchecked t (replicate 32 0)) (some-injective w4 claim.row claim.known) ∙ claim.zeros in omega arith,
+  λ claim. let e : ◌≡◌ {A = ℕ} 8160 8415 = ap (λ t. unchecked t (replicate 32 0)) (same_Some w8 claim.row claim.known) ∙ claim.zeros in omega arith,
+  λ claim. let e : ◌≡◌ {A = ℕ} 960 990 = ap (λ t. unchecked t (replicate 32 0)) (same_Some w4 claim.row claim.known) ∙ claim.zeros in omega arith,
 )

@@ -10,6 +10,8 @@ use lib.Arith.{lt_of_le-ne}
 use lib.Pow.{pow_mono, pow_pos, shr-shr}
 use Rattle.octets.specs.Octets.{part}
 use Rattle.lms.specs.Tree.{parent, climb}
+use Rattle.lms.proofs.ChunkLaws.{chunk}
+use Rattle.lms.proofs.DigitLaws.{bit}
 use Rattle.lms.specs.Claims.{Turns}
 
 pub node-halved : (leaf i : ℕ) {node : ℕ} → node ≡ leaf / 2 ^ i → node / 2 ≡ leaf / 2 ^ (i + 1)
@@ -39,3 +41,6 @@ module _ (h q : ℕ) (inside : q < 2 ^ h) where
 
 pub turns : Turns
 turns h q inside i l = (goes_on h q inside i l refl, ends h q inside i l refl)
+
+-- for the search: one turn of the loop
+pub ruleset climbing = (node-halved, climb-suc, chunk, bit)

@@ -1,13 +1,13 @@
 -- What is shown of the definitions (in proofs/).
 use Rattle.std.specs.Prelude.{◌≡◌, true, ◌&&◌, List, [], ◌∷◌, ◌++◌, ℕ, suc, ◌+◌, ◌-◌, ◌*◌, ◌/◌, ◌^◌, ◌≤◌, ◌<◌, length, replicate}
-use Rattle.std.proofs.Math.Option.{some}
+use Rattle.std.specs.Prelude.{Some}
 use Rattle.octets.specs.Octets.{part, equal}
 use Rattle.sha256.specs.Sha256.{compressions_for}
 use Rattle.lms.specs.Notation.{strTou32, coef, H}
 use Rattle.lms.specs.Ots.{Row, table1, checked, chain, z, Kc}
 use Rattle.lms.specs.Tree.{table2, climb, Tc}
 use Rattle.lms.specs.Lms.{key_length, valid_at}
-use Rattle.lms.specs.Types.{Sound}
+use Rattle.lms.specs.Sound.{Sound}
 use Rattle.lms.specs.Cost.{identifier, leaf_number, ots_signature, path_of, well_formed, chain_steps, chain_inputs, z_inputs, zs_inputs, climb_inputs, message_digest, inputs_at, verdict_inputs, cost_of}
 
 -- 3.1.3: the RFC's own examples of digits, of the string 0x1234
@@ -20,7 +20,7 @@ Turns = (h q : ℕ) → q < 2 ^ h → (i : ℕ) → i ≤ h → (let node = (2 ^
 
 -- Every row of table 1 has what the functions for a general digit width ask.
 abbrev pub Rows : Type 0
-Rows = (type : ℕ) (t : Row) → table1 type ≡ some t → Sound t
+Rows = (type : ℕ) (t : Row) → table1 type ≡ Some t → Sound t
 
 -- A verdict is these tests, then the top hash.
 abbrev pub TestsFirst : Type 0
@@ -70,7 +70,7 @@ ZerosMost = (t : Row) → WholeDigits t → (Q : List ℕ) → length Q ≡ 32 �
 -- "type 4 never takes more than 8,415 and type 3 never more than 990, and .. a digest of 32 zero bytes takes both"
 pub record MostSteps (taken : Row → List ℕ → ℕ) (type most : ℕ) : Type 0 where
   pub row : Row
-  pub known : table1 type ≡ some row
+  pub known : table1 type ≡ Some row
   pub never_more : (Q : List ℕ) → length Q ≡ 32 → taken row Q ≤ most
   pub zeros : taken row (replicate 32 0) ≡ most
 
@@ -80,8 +80,8 @@ ChainSteps = MostSteps chain_steps 4 8415 × MostSteps chain_steps 3 990
 -- The compressions of a verdict that is not refused before anything is hashed: Q's, one for each chain step, Kc's, the leaf's, and two for each turn.
 abbrev pub VerdictCost : Type 0
 VerdictCost =
-    (t : Row) (h : ℕ) (key message signature : List ℕ) → length key ≡ key_length → table1 (strTou32 (part 4 4 key)) ≡ some t
-    → table2 (strTou32 (part 0 4 key)) ≡ some h → well_formed t h key signature ≡ true
+    (t : Row) (h : ℕ) (key message signature : List ℕ) → length key ≡ key_length → table1 (strTou32 (part 4 4 key)) ≡ Some t
+    → table2 (strTou32 (part 0 4 key)) ≡ Some h → well_formed t h key signature ≡ true
     → cost_of (verdict_inputs key message signature)
     ≡ compressions_for (54 + length message) + chain_steps t (message_digest t key message signature) + compressions_for (22 + 32 * t.p) + 1 + 2 * h
 
@@ -91,7 +91,7 @@ VerdictCost =
 pub record VerdictMost (ots tree most : ℕ) : Type 0 where
   pub row : Row
   pub height : ℕ
-  pub known : (table1 ots ≡ some row) × (table2 tree ≡ some height)
+  pub known : (table1 ots ≡ Some row) × (table2 tree ≡ Some height)
   pub never_more : (key message signature : List ℕ) → strTou32 (part 4 4 key) ≡ ots → strTou32 (part 0 4 key) ≡ tree → length message ≤ 65
       → cost_of (verdict_inputs key message signature) ≤ most
   pub reached : (key message signature : List ℕ) → strTou32 (part 4 4 key) ≡ ots → strTou32 (part 0 4 key) ≡ tree → length key ≡ key_length → 2 ≤ length message

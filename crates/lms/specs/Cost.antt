@@ -1,7 +1,7 @@
 -- What a verdict costs (02, change 8): all that RFC 8554's algorithms 4b and 6a digest for it, one hash input after the other, by the recursions that hash them, and
 -- the SHA-256 compressions of these.
 use Rattle.std.specs.Prelude.{Bool, cond, ◌&&◌, List, [], ◌∷◌, ◌++◌, ℕ, zero, suc, ◌+◌, ◌-◌, ◌*◌, ◌/◌, ◌%◌, ◌^◌, eqb, ltb, length}
-use Rattle.std.proofs.Math.Option.{none, some}
+use Rattle.std.specs.Prelude.{None, Some}
 use Rattle.octets.specs.Octets.{part}
 use Rattle.sha256.specs.Sha256.{compressions}
 use Rattle.lms.specs.Notation.{u8str, u16str, u32str, strTou32, coef, D_PBLC, D_MESG, D_LEAF, D_INTR}
@@ -113,10 +113,10 @@ unfoldable pub verdict_inputs : (key message signature : List ℕ) → List (Lis
 verdict_inputs key message signature =
     cond (eqb (length key) key_length)
     (elim (table1 (strTou32 (part 4 4 key))) [
-      | none ↦ []
-      | some t ↦ elim (table2 (strTou32 (part 0 4 key))) [
-        | none ↦ []
-        | some h ↦ cond (well_formed t h key signature) (inputs_at t key message signature h) []
+      | None ↦ []
+      | Some t ↦ elim (table2 (strTou32 (part 0 4 key))) [
+        | None ↦ []
+        | Some h ↦ cond (well_formed t h key signature) (inputs_at t key message signature h) []
       ]
     ])
     []

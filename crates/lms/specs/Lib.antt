@@ -4,5 +4,6 @@ pub mod Tree
 pub mod Lms
 pub mod Cost
 pub mod Lengths
+pub mod Sound
 pub mod Types
 pub mod Claims

@@ -1,6 +1,6 @@
 -- RFC 8554, section 5.4.2: whether a signature over a message is valid under a public key.
 use Rattle.std.specs.Prelude.{Bool, false, ◌&&◌, List, ℕ, ◌+◌, ◌*◌, ◌^◌, eqb, ltb, length}
-use Rattle.std.proofs.Math.Option.{none, some}
+use Rattle.std.specs.Prelude.{None, Some}
 use Rattle.octets.specs.Octets.{part, equal}
 use Rattle.lms.specs.Notation.{strTou32}
 use Rattle.lms.specs.Ots.{Row, table1, Kc}
@@ -35,6 +35,6 @@ unfoldable pub valid : (key message signature : List ℕ) → Bool
 valid key message signature =
     eqb (length key) key_length
     && elim (table1 (strTou32 (part 4 4 key))) [
-      | none ↦ false
-      | some t ↦ elim (table2 (strTou32 (part 0 4 key))) [ none ↦ false | some h ↦ valid_at t h key message signature ]
+      | None ↦ false
+      | Some t ↦ elim (table2 (strTou32 (part 0 4 key))) [ None ↦ false | Some h ↦ valid_at t h key message signature ]
     ]

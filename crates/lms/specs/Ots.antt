@@ -1,6 +1,6 @@
 -- RFC 8554, section 4: LM-OTS, the one-time signature.
 use Rattle.std.specs.Prelude.{cond, List, ◌++◌, ℕ, zero, suc, ◌+◌, ◌-◌, ◌*◌, ◌/◌, ◌^◌, eqb}
-use Rattle.std.proofs.Math.Option.{Option, none, some}
+use Rattle.std.specs.Prelude.{Option, None, Some}
 use Rattle.octets.specs.Octets.{part, joined, up_to}
 use Rattle.lms.specs.Notation.{u8str, u16str, u32str, coef, H, D_PBLC, D_MESG}
 
@@ -12,9 +12,9 @@ pub record Row : Type 0 where
 
 unfoldable pub table1 : ℕ → Option Row
 table1 type =
-    cond (eqb type 3) (some (record { w = 4; p = 67; ls = 4 }))
-    (cond (eqb type 4) (some (record { w = 8; p = 34; ls = 0 }))
-    none)
+    cond (eqb type 3) (Some (record { w = 4; p = 67; ls = 4 }))
+    (cond (eqb type 4) (Some (record { w = 8; p = 34; ls = 0 }))
+    None)
 
 -- 4.4: the sum, over the first k digits of S, of 2^w - 1 - digit; so many steps (4.6) the chains of these digits take
 unfoldable pub steps : (w : ℕ) (S : List ℕ) (k : ℕ) → ℕ

@@ -1,18 +1,18 @@
 -- RFC 8554, section 5: LMS, the tree of one-time keys.
 use Rattle.std.specs.Prelude.{cond, List, ◌++◌, ℕ, zero, suc, ◌+◌, ◌*◌, ◌/◌, ◌%◌, ◌^◌, eqb}
-use Rattle.std.proofs.Math.Option.{Option, none, some}
+use Rattle.std.specs.Prelude.{Option, None, Some}
 use Rattle.octets.specs.Octets.{part}
 use Rattle.lms.specs.Notation.{u16str, u32str, H, D_LEAF, D_INTR}
 
 -- 5.1, table 2: the height h of the types 5 (LMS_SHA256_M32_H5) to 9 (LMS_SHA256_M32_H25)
 unfoldable pub table2 : ℕ → Option ℕ
 table2 type =
-    cond (eqb type 5) (some 5)
-    (cond (eqb type 6) (some 10)
-    (cond (eqb type 7) (some 15)
-    (cond (eqb type 8) (some 20)
-    (cond (eqb type 9) (some 25)
-    none))))
+    cond (eqb type 5) (Some 5)
+    (cond (eqb type 6) (Some 10)
+    (cond (eqb type 7) (Some 15)
+    (cond (eqb type 8) (Some 20)
+    (cond (eqb type 9) (Some 25)
+    None))))
 
 -- 5.4.2, algorithm 6a, step 4, for the key's identifier I
 module _ (I : List ℕ) where

@@ -1,7 +1,9 @@
 // RFC 8554: the verdict on one LMS signature, with no HSS layer. Outsiders call verify alone; what the other functions require, this crate keeps.
 #![tactic(auto)]
 
+mod chains;
 mod hash;
+mod leaf;
 mod ots;
 mod parameters;
 mod tree;

@@ -4,11 +4,11 @@ ghost use Rattle.std.specs.Prelude.{◌≡◌, ◌*◌, ◌^◌, ◌≤◌, ◌<
 ghost use Rattle.lms.specs.Tree as spec;
 
 use crate::hash::{D_INTR, D_LEAF, start};
+use crate::leaf::Leaf;
 use sha256::Context;
 
 // The hash of a leaf, from its one-time key; node is its number in the tree.
-fn leaf(id: &[u8], node: u32, key: &[u8]) -> [u8; 32]
-    requires { (length id.now ≡ 16) × (length key.now ≡ 32) }
+fn leaf_hash(id: &[u8; 16], node: u32, key: &[u8; 32]) -> [u8; 32]
     ensures { result ≡ spec.leaf_hash id.now node key.now }
 {
     let s = start(id, node, D_LEAF);
@@ -22,8 +22,7 @@ fn leaf(id: &[u8], node: u32, key: &[u8]) -> [u8; 32]
 }
 
 // The hash of a node's parent, from the node's hash and its sibling's.
-fn parent(id: &[u8], node: u32, sibling: &[u8], hash: &[u8]) -> [u8; 32]
-    requires { (length id.now ≡ 16) × (length sibling.now ≡ 32) × (length hash.now ≡ 32) }
+fn parent(id: &[u8; 16], node: u32, sibling: &[u8; 32], hash: &[u8; 32]) -> [u8; 32]
     ensures { result ≡ spec.parent id.now node sibling.now hash.now }
 {
     let s = start(id, node / 2, D_INTR);
@@ -42,21 +41,18 @@ fn parent(id: &[u8], node: u32, sibling: &[u8], hash: &[u8]) -> [u8; 32]
     above
 }
 
-// The candidate for the top hash, of leaf q of a tree of the given height.
-pub fn candidate(id: &[u8], q: u32, height: usize, key: &[u8], path: &[u8]) -> [u8; 32]
-    requires { (length id.now ≡ 16) × (height ≤ 25) × (q < 2 ^ height) × (length key.now ≡ 32) × (length path.now ≡ 32 * height) }
-    ensures { result ≡ spec.Tc height id.now q key.now path.now }
+// The candidate for the top hash, in a tree of the given height. The RFC's loop runs while the node's number is above 1, which is once for each hash of the path.
+#[tactic(auto, using(crate::proofs::TreeLaws::climbing), unfolding(crate::specs::Tree::climb, crate::specs::Tree::Tc))]
+pub fn candidate(leaf: &Leaf, height: usize, key: &[u8; 32], path: &[u8]) -> [u8; 32]
+    requires { (height ≤ 25) × (leaf.now.q < 2 ^ height) × (length path.now ≡ 32 * height) }
+    ensures { result ≡ spec.Tc height leaf.now.id leaf.now.q key.now path.now }
 {
-    let mut node = (1 << height) + q;
-    let mut hash = leaf(id, node, key);
-    let mut i: usize = 0;
-    while node > 1 {
-        let at = 32 * i;
-        let end = at + 32;
-        let next = parent(id, node, &path[at..end], &hash);
-        hash = next;
+    let mut node = (1 << height) + leaf.q;
+    let mut hash = leaf_hash(&leaf.id, node, key);
+    let (siblings, _) = path.as_chunks::<32>();
+    for sibling in siblings {
+        hash = parent(&leaf.id, node, sibling, &hash);
         node /= 2;
-        i += 1;
     }
     hash
 }

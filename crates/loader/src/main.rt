@@ -21,7 +21,7 @@ fn read_file(rt: &impl Files, path: &str, buffer: &mut [u8]) -> usize
 }
 
 fn main(rt: HostRuntime) -> io::Result<()> {
-    // One byte more than a file may have shows that it is too long.
+    // One byte more than a file may have shows that it is too long. Buffers, and no `Vec` of the whole file: so the memory is fixed, however long a file is.
     let mut key = [0u8; bundle::KEY_FILE_LEN + 1];
     let mut bundle = [0u8; bundle::BUNDLE_LEN + 1];
     let mut flash = [0u8; FLASH_LEN];

@@ -2,7 +2,7 @@
 use mathlib.Core.Path.{◌≡◌, refl}
 use mathlib.Core.Bool.{Bool}
 use mathlib.Core.List.{List, [], ◌∷◌, ◌++◌}
-use mathlib.Core.Option.{Option, none, some}
+use Rattle.std.specs.Prelude.{Option, None, Some}
 use Prim.Native.Nat.{ℕ, ◌≤◌}
 use native.Mathlib.Omega.{arith}
 use lib.ListN.{length}
@@ -18,7 +18,7 @@ use Rattle.wire.specs.Cost.{block_cost, cost_due}
 use Rattle.wire.specs.Message.{kind}
 use Rattle.wire.proofs.CostLaws.{costs-due}
 use Rattle.machine.specs.declared.state.Device.{Device}
-use Rattle.machine.specs.declared.state.Answer.TheVariants.{Accepted, Refused}
+use Rattle.machine.specs.Answer.{Accepted, Refused}
 use Rattle.machine.specs.Device.{next_of}
 use Rattle.machine.specs.Refusals.{too_small, not_loading, not_next, wrong_length, mismatch, last_altered, spent, of_manifest, always, of_program, of_block, of_successor, of_update, of_path_update, of_kind, refusals}
 use Rattle.machine.specs.Step.{total, outcome, refusal_of, step}
@@ -40,14 +40,14 @@ module _ (H : List ℕ → List ℕ) (hash-long : (x : List ℕ) → length (H x
   behind = (refusal.Mismatch, mismatch H d i m) ∷ (refusal.Altered, last_altered H d.manifest i flash m) ∷ []
 
   -- where none before it applies, the total is what is known
-  known : first_that_applies before ≡ none → (block_cost H d.manifest i flash m ≡ cost_due H d.manifest i) × (cost_due H d.manifest i ≤ most_cost)
+  known : first_that_applies before ≡ None → (block_cost H d.manifest i flash m ≡ cost_due H d.manifest i) × (cost_due H d.manifest i ≤ most_cost)
   unfolding always test_of too_small wrong_length
   known e =
       let w = awaits d (clear refusal.State before e) (clear refusal.Stage before e) refl in
       let c = costs-due H hash-long d.manifest i w.size w.low w.high in
       (c.known flash m (ltb-false _ _ (clear refusal.Area before e)) (eqb-true _ _ (not-false _ (clear refusal.Length before e))), c.most)
 
-  by_kind : (first_that_applies before ≡ none → cost_due H d.manifest i ≤ budget) → (k : Kind) → first_that_applies (refusals H valid budget k d flash m) ≡ some refusal.Spent → ⊥
+  by_kind : (first_that_applies before ≡ None → cost_due H d.manifest i ≤ budget) → (k : Kind) → first_that_applies (refusals H valid budget k d flash m) ≡ Some refusal.Spent → ⊥
   unfolding refusals always of_kind of_manifest of_program of_block of_successor of_update of_path_update spent lacks
   by_kind enough Program e = never refusal.Spent (refusals H valid budget Program d flash m) refl e
   by_kind enough Block e =
@@ -57,7 +57,7 @@ module _ (H : List ℕ → List ℕ) (hash-long : (x : List ℕ) → length (H x
   by_kind enough PathUpdate e = never refusal.Spent (refusals H valid budget PathUpdate d flash m) refl e
   by_kind enough Unknown e = never refusal.Spent (refusals H valid budget Unknown d flash m) refl e
 
-  unspent : (first_that_applies before ≡ none → cost_due H d.manifest i ≤ budget) → refusal_of H valid budget d flash m ≡ some refusal.Spent → ⊥
+  unspent : (first_that_applies before ≡ None → cost_due H d.manifest i ≤ budget) → refusal_of H valid budget d flash m ≡ Some refusal.Spent → ⊥
   unfolding refusal_of
   unspent enough e = by_kind enough (kind m) e
 
@@ -65,15 +65,15 @@ module _ (H : List ℕ → List ℕ) (hash-long : (x : List ℕ) → length (H x
   unfolding step outcome total
   reported k a = go (refusal_of H valid budget d flash m) refl
     where
-      total-is : refusal_of H valid budget d flash m ≡ none → total H (kind m) d flash m ≡ cost_due H d.manifest i
+      total-is : refusal_of H valid budget d flash m ≡ None → total H (kind m) d flash m ≡ cost_due H d.manifest i
       total-is e =
           let p = block-passed H valid d flash m budget k e in
           let w = p.awaited in
           rw k ((costs-due H hash-long d.manifest i w.size w.low w.high).known flash m p.room p.long)
 
       go : (r : Option Refusal) → refusal_of H valid budget d flash m ≡ r → (step H valid budget d flash m).compressions ≡ cost_due H d.manifest i
-      go none e = rw (e, outcome) (total-is e)
-      go (some x) e = absurd (let z : Refused x ≡ Accepted = rw (e, outcome) at a in let w : ◌≡◌ {A = ℕ} 0 1 = cc in omega arith)
+      go None e = rw (e, outcome) (total-is e)
+      go (Some x) e = absurd (let z : Refused x ≡ Accepted = rw (e, outcome) at a in let w : ◌≡◌ {A = ℕ} 0 1 = cc in omega arith)
 
 pub due-suffices : DueSuffices
 due-suffices H hash-long valid budget d flash m = record { enough = λ h. unspent H hash-long valid budget d flash m (λ e. h); reports = reported H hash-long valid budget d flash m }

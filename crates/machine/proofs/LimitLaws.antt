@@ -2,7 +2,7 @@
 use mathlib.Core.Path.{◌≡◌, refl}
 use mathlib.Core.Bool.{Bool, true, false}
 use mathlib.Core.List.{List}
-use mathlib.Core.Option.{some}
+use Rattle.std.specs.Prelude.{Some}
 use Prim.Native.Nat.{ℕ}
 use native.Mathlib.Omega.{arith}
 use Rattle.wire.specs.declared.refusal.Refusal.TheVariants.{State}
@@ -10,7 +10,7 @@ use Rattle.wire.specs.Refusal.{first_that_applies}
 use Rattle.wire.specs.Geometry.{count_of}
 use Rattle.wire.proofs.SizeLaws.{sized}
 use Rattle.machine.specs.declared.state.Device.{Device}
-use Rattle.machine.specs.declared.state.Answer.TheVariants.{Refused}
+use Rattle.machine.specs.Answer.{Refused}
 use Rattle.machine.specs.Refusals.{senseless, always, refusals}
 use Rattle.machine.specs.Step.{answer_of, refusal_of}
 use Rattle.machine.specs.BootCheck.{of_boot, boot_check}
@@ -19,7 +19,7 @@ use Rattle.machine.proofs.RefusalLaws.{loading}
 use Rattle.machine.proofs.SenseLaws.{sound}
 
 module _ (H : List ℕ → List ℕ) (valid : (key message signature : List ℕ) → Bool) (budget : ℕ) (d : Device) (flash m : List ℕ) where
-  first : senseless d ≡ true → (refusal_of H valid budget d flash m ≡ some State) × (boot_check H d flash ≡ Refused State)
+  first : senseless d ≡ true → (refusal_of H valid budget d flash m ≡ Some State) × (boot_check H d flash ≡ Refused State)
   unfolding refusal_of refusals always first_that_applies boot_check of_boot answer_of
   first e = rw e (refl, refl)
 

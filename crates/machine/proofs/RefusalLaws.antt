@@ -2,7 +2,7 @@
 use mathlib.Core.Path.{◌≡◌, refl, sym, ap, ◌∙◌, subst}
 use mathlib.Core.Bool.{Bool, true, false, not, ◌||◌, ◌&&◌, cond, true≢false}
 use mathlib.Core.List.{List, [], ◌∷◌, ◌++◌}
-use mathlib.Core.Option.{Option, none, some}
+use Rattle.std.specs.Prelude.{Option, None, Some}
 use Prim.Native.Nat.{ℕ, pred, ◌≤◌, ◌<◌}
 use native.Mathlib.Omega.{arith}
 use lib.Dec.{eqb, ltb}
@@ -27,7 +27,7 @@ use Rattle.wire.proofs.SizeLaws.{Sized, sized, or-false, and-true, inside}
 use Rattle.machine.specs.declared.state.Stage.{Stage}
 use Rattle.machine.specs.declared.state.Stage.TheVariants.{Idle, Loading, Complete}
 use Rattle.machine.specs.declared.state.Device.{Device}
-use Rattle.machine.specs.declared.state.Answer.TheVariants.{Accepted, Refused}
+use Rattle.machine.specs.Answer.{Accepted, Refused}
 use Rattle.machine.specs.Device.{next_of}
 use Rattle.machine.specs.Flash.{stored, updated}
 use Rattle.machine.specs.Refusals.{wrong_version, senseless, other_model, not_newer, no_kind, too_small, not_loading, not_complete, not_next, wrong_length, mismatch, unlike, lacks_root, last_altered, spent, strays, unsigned, of_manifest, always, of_program, of_block, of_successor, of_update, of_path_update, of_kind, refusals}
@@ -47,7 +47,7 @@ unfoldable pub behind : Refusal → List (Refusal × Bool) → List (Refusal × 
 behind r [] = []
 behind r (e ∷ es) = cond (eqb (refusal_number e.0) (refusal_number r)) es (behind r es)
 
-pub clear : (r : Refusal) (es : List (Refusal × Bool)) → first_that_applies es ≡ none → test_of r es ≡ false
+pub clear : (r : Refusal) (es : List (Refusal × Bool)) → first_that_applies es ≡ None → test_of r es ≡ false
 unfolding test_of first_that_applies
 clear r [] a = refl
 clear r (e ∷ es) a = go e.1 refl (clear r es)
@@ -56,20 +56,20 @@ clear r (e ∷ es) a = go e.1 refl (clear r es)
     both true t q = refl
     both false t q = q
 
-    go : (t : Bool) → e.1 ≡ t → (first_that_applies es ≡ none → test_of r es ≡ false) → cond (eqb (refusal_number e.0) (refusal_number r)) e.1 (test_of r es) ≡ false
-    go true q ih = absurd (let x : some e.0 ≡ none = rw (q, first_that_applies) at a in let z : ◌≡◌ {A = ℕ} 0 1 = cc in omega arith)
+    go : (t : Bool) → e.1 ≡ t → (first_that_applies es ≡ None → test_of r es ≡ false) → cond (eqb (refusal_number e.0) (refusal_number r)) e.1 (test_of r es) ≡ false
+    go true q ih = absurd (let x : Some e.0 ≡ None = rw (q, first_that_applies) at a in let z : ◌≡◌ {A = ℕ} 0 1 = cc in omega arith)
     go false q ih = rw q (both (eqb (refusal_number e.0) (refusal_number r)) (test_of r es) (ih (rw (q, first_that_applies) at a)))
 
 -- An answer tells which refusal was the first.
-pub answer-none : (r : Option Refusal) → answer_of r ≡ Accepted → r ≡ none
+pub answer-none : (r : Option Refusal) → answer_of r ≡ Accepted → r ≡ None
 unfolding answer_of
-answer-none none e = refl
-answer-none (some x) e = absurd (let z : ◌≡◌ {A = ℕ} 0 1 = cc in omega arith)
+answer-none None e = refl
+answer-none (Some x) e = absurd (let z : ◌≡◌ {A = ℕ} 0 1 = cc in omega arith)
 
-pub answer-some : (r : Option Refusal) (x : Refusal) → answer_of r ≡ Refused x → r ≡ some x
+pub answer-some : (r : Option Refusal) (x : Refusal) → answer_of r ≡ Refused x → r ≡ Some x
 unfolding answer_of
-answer-some none x e = absurd (let z : ◌≡◌ {A = ℕ} 0 1 = cc in omega arith)
-answer-some (some y) x e = cc
+answer-some None x e = absurd (let z : ◌≡◌ {A = ℕ} 0 1 = cc in omega arith)
+answer-some (Some y) x e = cc
 
 -- The tests of es before the rest do not apply: the first that applies is one of the rest.
 pub record Passes (es rest : List (Refusal × Bool)) : Type 0 where
@@ -84,33 +84,33 @@ unfolding first_that_applies
 p past e = record { same = p.same ∙ rw (e, first_that_applies) }
 
 -- a piece of a list, and what stands behind it
-pub behind-piece : (fs rest : List (Refusal × Bool)) → first_that_applies fs ≡ none → first_that_applies (fs ++ rest) ≡ first_that_applies rest
+pub behind-piece : (fs rest : List (Refusal × Bool)) → first_that_applies fs ≡ None → first_that_applies (fs ++ rest) ≡ first_that_applies rest
 unfolding first_that_applies
 behind-piece [] rest a = refl
 behind-piece (f ∷ fs) rest a = go f.1 refl (behind-piece fs rest)
   where
-    go : (t : Bool) → f.1 ≡ t → (first_that_applies fs ≡ none → first_that_applies (fs ++ rest) ≡ first_that_applies rest) → first_that_applies (f ∷ (fs ++ rest)) ≡ first_that_applies rest
-    go true q ih = absurd (let x : some f.0 ≡ none = rw (q, first_that_applies) at a in let z : ◌≡◌ {A = ℕ} 0 1 = cc in omega arith)
+    go : (t : Bool) → f.1 ≡ t → (first_that_applies fs ≡ None → first_that_applies (fs ++ rest) ≡ first_that_applies rest) → first_that_applies (f ∷ (fs ++ rest)) ≡ first_that_applies rest
+    go true q ih = absurd (let x : Some f.0 ≡ None = rw (q, first_that_applies) at a in let z : ◌≡◌ {A = ℕ} 0 1 = cc in omega arith)
     go false q ih = rw (q, first_that_applies) (ih (rw (q, first_that_applies) at a))
 
-pub in-piece : (fs rest : List (Refusal × Bool)) {r : Refusal} → first_that_applies fs ≡ some r → first_that_applies (fs ++ rest) ≡ some r
+pub in-piece : (fs rest : List (Refusal × Bool)) {r : Refusal} → first_that_applies fs ≡ Some r → first_that_applies (fs ++ rest) ≡ Some r
 unfolding first_that_applies
 in-piece [] rest a = absurd (let z : ◌≡◌ {A = ℕ} 0 1 = cc in omega arith)
 in-piece (f ∷ fs) rest {r} a = go f.1 refl (in-piece fs rest)
   where
-    go : (t : Bool) → f.1 ≡ t → (first_that_applies fs ≡ some r → first_that_applies (fs ++ rest) ≡ some r) → first_that_applies (f ∷ (fs ++ rest)) ≡ some r
+    go : (t : Bool) → f.1 ≡ t → (first_that_applies fs ≡ Some r → first_that_applies (fs ++ rest) ≡ Some r) → first_that_applies (f ∷ (fs ++ rest)) ≡ Some r
     go true q ih = rw (q, first_that_applies) (rw (q, first_that_applies) at a)
     go false q ih = rw (q, first_that_applies) (ih (rw (q, first_that_applies) at a))
 
 -- where no test of two pieces applies, none of either does
-pub of-first : (fs rest : List (Refusal × Bool)) → first_that_applies (fs ++ rest) ≡ none → first_that_applies fs ≡ none
+pub of-first : (fs rest : List (Refusal × Bool)) → first_that_applies (fs ++ rest) ≡ None → first_that_applies fs ≡ None
 of-first fs rest a = go (first_that_applies fs) refl
   where
-    go : (r : Option Refusal) → first_that_applies fs ≡ r → first_that_applies fs ≡ none
-    go none e = e
-    go (some r) e = absurd (let x = in-piece fs rest e in let z : ◌≡◌ {A = ℕ} 0 1 = cc in omega arith)
+    go : (r : Option Refusal) → first_that_applies fs ≡ r → first_that_applies fs ≡ None
+    go None e = e
+    go (Some r) e = absurd (let x = in-piece fs rest e in let z : ◌≡◌ {A = ℕ} 0 1 = cc in omega arith)
 
-pub of-second : (fs rest : List (Refusal × Bool)) → first_that_applies (fs ++ rest) ≡ none → first_that_applies rest ≡ none
+pub of-second : (fs rest : List (Refusal × Bool)) → first_that_applies (fs ++ rest) ≡ None → first_that_applies rest ≡ None
 of-second fs rest a = sym (behind-piece fs rest (of-first fs rest a)) ∙ a
 
 not-unequal : {s t : List ℕ} → s ≡ t → not (equal s t) ≡ false
@@ -281,15 +281,15 @@ module _ (H : List ℕ → List ℕ) (valid : (key message signature : List ℕ)
   path-block p = let l = p.successor.long in omega arith
 
   module _ (budget : ℕ) where
-    unrefused : (k : Kind) → kind m ≡ k → refusal_of H valid budget d flash m ≡ none → first_that_applies (refusals H valid budget k d flash m) ≡ none
+    unrefused : (k : Kind) → kind m ≡ k → refusal_of H valid budget d flash m ≡ None → first_that_applies (refusals H valid budget k d flash m) ≡ None
     unfolding refusal_of
-    unrefused k e a = subst (λ x. first_that_applies (refusals H valid budget x d flash m) ≡ none) e a
+    unrefused k e a = subst (λ x. first_that_applies (refusals H valid budget x d flash m) ≡ None) e a
 
     -- refusal r does not apply
-    without : (r : Refusal) (k : Kind) → kind m ≡ k → refusal_of H valid budget d flash m ≡ none → test_of r (refusals H valid budget k d flash m) ≡ false
+    without : (r : Refusal) (k : Kind) → kind m ≡ k → refusal_of H valid budget d flash m ≡ None → test_of r (refusals H valid budget k d flash m) ≡ false
     without r k e a = clear r (refusals H valid budget k d flash m) (unrefused k e a)
 
-    pub program-passed : kind m ≡ Program → refusal_of H valid budget d flash m ≡ none → ProgramPassed
+    pub program-passed : kind m ≡ Program → refusal_of H valid budget d flash m ≡ None → ProgramPassed
     unfolding refusals always of_kind of_manifest of_program test_of short too_small unsigned
     program-passed k a =
         record {
@@ -301,7 +301,7 @@ module _ (H : List ℕ → List ℕ) (valid : (key message signature : List ℕ)
           signed = not-false _ (without refusal.Unsigned Program k a);
         }
 
-    pub block-passed : kind m ≡ Block → refusal_of H valid budget d flash m ≡ none → BlockPassed
+    pub block-passed : kind m ≡ Block → refusal_of H valid budget d flash m ≡ None → BlockPassed
     unfolding refusals always of_kind of_block test_of too_small wrong_length last_altered
     block-passed k a =
         record {
@@ -320,7 +320,7 @@ module _ (H : List ℕ → List ℕ) (valid : (key message signature : List ℕ)
 
     -- an update of either kind that no refusal applies to; `own` are tests that one kind has in the middle
     successor-passed : (k : Kind) {least : ℕ} {signature : List ℕ} (own rest : List (Refusal × Bool))
-        → first_that_applies (always k d m ++ (of_successor d flash (manifest_in m) ++ (own ++ of_rest least signature rest))) ≡ none
+        → first_that_applies (always k d m ++ (of_successor d flash (manifest_in m) ++ (own ++ of_rest least signature rest))) ≡ None
         → Successor least signature
     unfolding always of_manifest of_successor test_of too_small unsigned
     successor-passed k own rest a =
@@ -337,7 +337,7 @@ module _ (H : List ℕ → List ℕ) (valid : (key message signature : List ℕ)
           signed = not-false _ (clear refusal.Unsigned _ b);
         }
 
-    pub update-passed : kind m ≡ Update → refusal_of H valid budget d flash m ≡ none → UpdatePassed
+    pub update-passed : kind m ≡ Update → refusal_of H valid budget d flash m ≡ None → UpdatePassed
     unfolding refusals always of_kind of_manifest of_successor of_update test_of
     update-passed k a =
         record {
@@ -346,7 +346,7 @@ module _ (H : List ℕ → List ℕ) (valid : (key message signature : List ℕ)
           rooted = has-root H _ _ (without refusal.Mismatch Update k a);
         }
 
-    pub path-passed : kind m ≡ PathUpdate → refusal_of H valid budget d flash m ≡ none → PathPassed
+    pub path-passed : kind m ≡ PathUpdate → refusal_of H valid budget d flash m ≡ None → PathPassed
     unfolding refusals always of_kind of_manifest of_successor of_path_update test_of strays
     path-passed k a =
         record {
@@ -355,11 +355,11 @@ module _ (H : List ℕ → List ℕ) (valid : (key message signature : List ℕ)
           new = equal-true _ _ (not-false _ (without refusal.Mismatch PathUpdate k a));
         }
 
-    pub unknown-refused : kind m ≡ Unknown → refusal_of H valid budget d flash m ≡ none → ⊥
+    pub unknown-refused : kind m ≡ Unknown → refusal_of H valid budget d flash m ≡ None → ⊥
     unfolding refusals always of_kind no_kind test_of
     unknown-refused k a = true≢false (without refusal.Kind Unknown k a)
 
-    pub passed : refusal_of H valid budget d flash m ≡ none → Passed
+    pub passed : refusal_of H valid budget d flash m ≡ None → Passed
     passed a = go (kind m) refl
       where
         go : (k : Kind) → kind m ≡ k → Passed
@@ -369,10 +369,10 @@ module _ (H : List ℕ → List ℕ) (valid : (key message signature : List ℕ)
         go PathUpdate e = took-path e (path-passed e a)
         go Unknown e = absurd (unknown-refused e a)
 
-    pub program-unrefused : ProgramDue → refusal_of H valid budget d flash m ≡ none
+    pub program-unrefused : ProgramDue → refusal_of H valid budget d flash m ≡ None
     unfolding refusal_of refusals always of_kind of_manifest of_program no_kind first_that_applies
     program-unrefused w =
-        subst (λ k. first_that_applies (refusals H valid budget k d flash m) ≡ none) (sym w.is)
+        subst (λ k. first_that_applies (refusals H valid budget k d flash m) ≡ None) (sym w.is)
         (start (refusals H valid budget Program d flash m)
         past w.sense
         past refl
@@ -384,10 +384,10 @@ module _ (H : List ℕ → List ℕ) (valid : (key message signature : List ℕ)
         past w.area
         past w.signed).same
 
-    pub due-unrefused : NextDue → spent H budget d.manifest (next_of d.stage) flash m ≡ false → refusal_of H valid budget d flash m ≡ none
+    pub due-unrefused : NextDue → spent H budget d.manifest (next_of d.stage) flash m ≡ false → refusal_of H valid budget d flash m ≡ None
     unfolding refusal_of refusals always of_kind of_block no_kind first_that_applies
     due-unrefused w within =
-        subst (λ k. first_that_applies (refusals H valid budget k d flash m) ≡ none) (sym w.is)
+        subst (λ k. first_that_applies (refusals H valid budget k d flash m) ≡ None) (sym w.is)
         (start (refusals H valid budget Block d flash m) past w.sense past refl past w.head past w.loading past w.area past w.turn past w.size past within past w.same past w.whole).same
 
     -- what updates of both kinds meet first is past
@@ -413,16 +413,16 @@ module _ (H : List ℕ → List ℕ) (valid : (key message signature : List ℕ)
 
     pub update-unrefused : SuccessorDue Update (least_update (manifest_in m).block_len (manifest_in m).image_len (update_number m)) (update_signature new_length m)
         → tree_over H d.manifest flash ≡ d.manifest.root → tree_over H (manifest_in m) (updated (manifest_in m) flash m) ≡ (manifest_in m).root
-        → refusal_of H valid budget d flash m ≡ none
+        → refusal_of H valid budget d flash m ≡ None
     unfolding refusal_of refusals of_kind of_update no_kind first_that_applies
     update-unrefused w intact rooted =
-        subst (λ k. first_that_applies (refusals H valid budget k d flash m) ≡ none) (sym w.is)
+        subst (λ k. first_that_applies (refusals H valid budget k d flash m) ≡ None) (sym w.is)
         (rest-past w (successor-past w refl _ past lacks-none H _ _ intact) past lacks-none H _ _ rooted).same
 
     pub path-unrefused : SuccessorDue PathUpdate (least_path (manifest_in m).block_len (manifest_in m).image_len (update_number m)) (path_signature new_length new_depth m)
         → led_to (blocks_of (manifest_in m) flash (pred (update_number m))) ≡ d.manifest.root → led_to (update_block new_length m) ≡ (manifest_in m).root
-        → refusal_of H valid budget d flash m ≡ none
+        → refusal_of H valid budget d flash m ≡ None
     unfolding refusal_of refusals of_kind of_path_update no_kind strays first_that_applies
     path-unrefused w old new =
-        subst (λ k. first_that_applies (refusals H valid budget k d flash m) ≡ none) (sym w.is)
+        subst (λ k. first_that_applies (refusals H valid budget k d flash m) ≡ None) (sym w.is)
         (rest-past w (successor-past w refl _) past not-unequal old past not-unequal new).same

@@ -4,7 +4,7 @@ use Rattle.wire.specs.declared.refusal.Refusal.{Refusal}
 use Rattle.wire.specs.declared.refusal.Refusal.TheVariants as refusal
 use Rattle.wire.specs.Refusal.{first_that_applies}
 use Rattle.machine.specs.declared.state.Device.{Device}
-use Rattle.machine.specs.declared.state.Answer.{Answer}
+use Rattle.machine.specs.Answer.{Answer}
 use Rattle.machine.specs.Refusals.{senseless, not_complete, too_small, lacks_root}
 use Rattle.machine.specs.Step.{answer_of}
 

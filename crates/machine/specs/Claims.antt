@@ -1,6 +1,6 @@
 -- What is shown of the device's definitions (in proofs/).
 use Rattle.std.specs.Prelude.{◌≡◌, ◌≢◌, Bool, true, List, [], ◌∷◌, ℕ, ◌≤◌, ◌<◌, length}
-use Rattle.std.proofs.Math.Option.{none, some}
+use Rattle.std.specs.Prelude.{None, Some}
 use Rattle.octets.specs.Octets.{Bytes}
 use Rattle.merkle.specs.Limits.{max_blocks, hash_length}
 use Rattle.merkle.specs.Cost.{most_cost}
@@ -13,7 +13,7 @@ use Rattle.wire.specs.Message.{kind, carries}
 use Rattle.wire.specs.Cost.{cost_due}
 use Rattle.machine.specs.declared.state.Stage.TheVariants.{Idle, Loading}
 use Rattle.machine.specs.declared.state.Device.{Device}
-use Rattle.machine.specs.declared.state.Answer.TheVariants.{Accepted, Refused}
+use Rattle.machine.specs.Answer.{Accepted, Refused}
 use Rattle.machine.specs.Device.{Fresh, fresh_with, serial_of, next_of}
 use Rattle.machine.specs.Refusals.{refusals}
 use Rattle.machine.specs.Step.{refusal_of, step}
@@ -47,16 +47,16 @@ module _ (H : List ℕ → List ℕ) (valid : (key message signature : List ℕ)
 
   -- "The serial is compared as a plain number and has no wrap: after 4,294,967,295 no slip is accepted."
   abbrev pub LastSerial : Type 0
-  LastSerial = Bytes m → serial_of d ≡ 4294967295 → carries (kind m) ≡ true → refusal_of H valid budget d flash m ≡ none → ⊥
+  LastSerial = Bytes m → serial_of d ≡ 4294967295 → carries (kind m) ≡ true → refusal_of H valid budget d flash m ≡ None → ⊥
 
   -- A device above the limit (`Above`) is refused 1: at every message, a new program too, and at the boot check.
   abbrev pub AboveLimit : Type 0
-  AboveLimit = Above d → (refusal_of H valid budget d flash m ≡ some State) × (boot_check H d flash ≡ Refused State)
+  AboveLimit = Above d → (refusal_of H valid budget d flash m ≡ Some State) × (boot_check H d flash ≡ Refused State)
 
 -- 02, change 7: what the block message that is due costs by its lengths is known before it comes (`cost_due`). As a budget it is enough, whatever state, flash and message
 -- are; and it is what an accepted block reports.
 pub record DueKnown (H : List ℕ → List ℕ) (valid : (key message signature : List ℕ) → Bool) (budget : ℕ) (d : Device) (flash m : List ℕ) : Type 0 where
-  pub enough : cost_due H d.manifest (next_of d.stage) ≤ budget → refusal_of H valid budget d flash m ≡ some Spent → ⊥
+  pub enough : cost_due H d.manifest (next_of d.stage) ≤ budget → refusal_of H valid budget d flash m ≡ Some Spent → ⊥
   pub reports : kind m ≡ Block → (step H valid budget d flash m).answer ≡ Accepted → (step H valid budget d flash m).compressions ≡ cost_due H d.manifest (next_of d.stage)
 
 abbrev pub DueSuffices : Type 0
@@ -68,4 +68,4 @@ DueSuffices =
 abbrev pub NeverSpent : Type 0
 NeverSpent =
     (H : List ℕ → List ℕ) → ((x : List ℕ) → length (H x) ≡ hash_length) → (valid : (key message signature : List ℕ) → Bool) (budget : ℕ) → most_cost ≤ budget
-    → (d : Device) (flash m : List ℕ) → refusal_of H valid budget d flash m ≡ some Spent → ⊥
+    → (d : Device) (flash m : List ℕ) → refusal_of H valid budget d flash m ≡ Some Spent → ⊥

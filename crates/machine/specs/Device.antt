@@ -6,7 +6,7 @@ use Rattle.wire.specs.Geometry.{count_of}
 use Rattle.machine.specs.declared.state.Stage.{Stage}
 use Rattle.machine.specs.declared.state.Stage.TheVariants.{Idle, Loading, Complete}
 use Rattle.machine.specs.declared.state.Device.{Device}
-use Rattle.machine.specs.declared.state.Answer.{Answer}
+use Rattle.machine.specs.Answer.{Answer}
 
 -- "A fresh drive is idle."
 pub record Fresh (d : Device) : Type 0 where

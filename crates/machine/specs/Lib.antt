@@ -1,3 +1,4 @@
+pub mod Answer
 pub mod Device
 pub mod Flash
 pub mod Refusals

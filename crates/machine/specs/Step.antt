@@ -1,6 +1,6 @@
 -- What a device answers to a message, and what device and flash are then.
 use Rattle.std.specs.Prelude.{Bool, cond, List, ℕ, suc, pred, ltb}
-use Rattle.std.proofs.Math.Option.{Option, none, some}
+use Rattle.std.specs.Prelude.{Option, None, Some}
 use Rattle.merkle.specs.Held.{begun, advanced}
 use Rattle.wire.specs.declared.kind.Kind.{Kind}
 use Rattle.wire.specs.declared.kind.Kind.TheVariants as kinds
@@ -12,8 +12,7 @@ use Rattle.wire.specs.Cost.{block_cost}
 use Rattle.machine.specs.declared.state.Stage.{Stage}
 use Rattle.machine.specs.declared.state.Stage.TheVariants.{Loading, Complete}
 use Rattle.machine.specs.declared.state.Device.{Device}
-use Rattle.machine.specs.declared.state.Answer.{Answer}
-use Rattle.machine.specs.declared.state.Answer.TheVariants.{Accepted, Refused}
+use Rattle.machine.specs.Answer.{Answer, Accepted, Refused}
 use Rattle.machine.specs.Device.{next_of, SituationOf, OutcomeOf, Situation, Outcome}
 use Rattle.machine.specs.Flash.{stored, updated}
 use Rattle.machine.specs.Refusals.{refusals}
@@ -64,7 +63,7 @@ accept k d flash m =
 
 -- "Accepted: the call gave no refusal number": the answer where this refusal, or none, is the first that applies
 unfoldable pub answer_of : Option Refusal → Answer
-answer_of r = elim r [ none ↦ Accepted | some x ↦ Refused x ]
+answer_of r = elim r [ None ↦ Accepted | Some x ↦ Refused x ]
 
 -- what an accepted message of this kind reports: "an accepted one reports its total", of kind 2; for the other kinds, which the papers leave free, 0
 unfoldable pub total : (List ℕ → List ℕ) → Kind → Device → (flash m : List ℕ) → ℕ
@@ -82,8 +81,8 @@ total H k d flash m =
 unfoldable pub outcome : {D F : Type 0} → Option Refusal → (budget cost : ℕ) → D → F → SituationOf D F → OutcomeOf D F
 outcome r budget cost d flash then =
     elim r [
-      | none ↦ record { answer = Accepted; compressions = cost; budget = budget; device = then.device; flash = then.flash }
-      | some x ↦ record { answer = Refused x; compressions = 0; budget = budget; device = d; flash = flash }
+      | None ↦ record { answer = Accepted; compressions = cost; budget = budget; device = then.device; flash = then.flash }
+      | Some x ↦ record { answer = Refused x; compressions = 0; budget = budget; device = d; flash = flash }
     ]
 
 module _ (H : List ℕ → List ℕ) (valid : (key message signature : List ℕ) → Bool) (budget : ℕ) where

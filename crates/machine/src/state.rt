@@ -2,7 +2,7 @@
 use wire::{Manifest, Refusal};
 
 // 01: the stage.
-#[derive(Clone, Copy)]
+#[derive(Clone, Copy, Debug, PartialEq, Eq)]
 pub enum Stage {
     Idle,
     // The number of the next block, from 1.
@@ -22,9 +22,5 @@ pub struct Device {
     pub hashes: [u8; merkle::HELD_LEN],
 }
 
-// The answer to a message.
-#[derive(Clone, Copy)]
-pub enum Answer {
-    Accepted,
-    Refused(Refusal),
-}
+// The answer to a message: Ok where it is accepted.
+pub type Answer = Result<(), Refusal>;

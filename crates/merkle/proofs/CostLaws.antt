@@ -12,6 +12,7 @@ use Rattle.merkle.specs.Held.{hashes_in}
 use Rattle.merkle.specs.Cost.{cost, climb_from_cost, climb_cost, ascend_cost, fits_cost, leaf_cost, node_cost, cost_without}
 use Rattle.merkle.proofs.ShapeLaws.{lt-or-le, size-pos, size-node, size-leaf, size-left, halves, shape-leaf}
 use Rattle.merkle.proofs.HashLaws.{Same, same_left, same-right, hash-same, length-hash}
+use Rattle.merkle.proofs.HeldLaws.{length-hashes_in}
 
 -- The compressions of a block of k bytes, and of two hashes, behind their prefixes.
 pub of-block : (H : Hashing) (b : List ℕ) → compressions (leaf_input H b) ≡ leaf_cost H (length b)
@@ -157,16 +158,11 @@ unfolding ascend_cost climb_from_cost beside_input rights
 rights-cost H x [] = refl
 rights-cost H x (y ∷ ys) = ap (λ k. compressions (node_input H x y) + k) (rights-cost H (node_hash H x y) ys)
 
-pub length-hashes : (c : ℕ) (s : List ℕ) → length (hashes_in c s) ≡ c
-unfolding hashes_in
-length-hashes zero s = refl
-length-hashes (suc c) s = ap suc (length-hashes c (drop hash_length s))
-
 pub rights-fit : (H : Hashing) (x : List ℕ) (c : ℕ) (m : List ℕ)
     → (ascend H x (rights c) (hashes_in (length (rights c)) m) ≡ climb_from H x (hashes_in c m))
     × (ascend_cost H x (rights c) (hashes_in (length (rights c)) m) ≡ climb_from_cost H x (hashes_in c m))
 rights-fit H x c m =
     let ys = hashes_in c m in
-    let e = length-hashes c m in
+    let e = length-hashes_in c m in
     rw (rights-length c)
     (ap (λ k. ascend H x (rights k) ys) (sym e) ∙ rights-climb H x ys, ap (λ k. ascend_cost H x (rights k) ys) (sym e) ∙ rights-cost H x ys)

@@ -42,11 +42,6 @@ module _ (x l : ℕ) (pos : 0 < x) (fits : x < 2 ^ 64) (is : l ≡ 2 ^ count_tra
   pub low-between : (0 < l) × (l ≤ x)
   low-between = let b = low-is in (low-pos x l b, omega arith)
 
-  pub low-shift : count_trailing_zeros 64 x < 64
-  low-shift =
-      let b = low-between in
-      ⊎_elim (λ (w : count_trailing_zeros 64 x < 64). w) (λ (w : 64 ≤ count_trailing_zeros 64 x). absurd (omega (arith, pow_mono w))) (lt-or-le (count_trailing_zeros 64 x) 64)
-
 -- x is an odd multiple of l and k an even one: x is at least l below k, or above it by an odd multiple
 module _ (l q t x k : ℕ) (pos : 0 < l) (odd : x ≡ 2 * (l * q) + l) (even : k ≡ 2 * (l * t)) where
   odd-below : x < k → x + l ≤ k

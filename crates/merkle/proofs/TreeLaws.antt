@@ -1,12 +1,12 @@
 -- The tree over blocks by halves, and its hashes in one array: what the proofs of `put_hash` and its callers cite.
-use Rattle.std.proofs.Common.{◌≡◌, ℕ, ◌+◌, ◌-◌, ◌*◌, ◌%◌, ◌^◌, ◌<◌, ◌≤◌, List, length, take, drop, sym, refl, ap, ◌∙◌, ap₂, inr, mul-le-mul_right, add-mul, zero-add, arith, length-drop, length-take-le, take-take, drop-drop, take_at, pow_mono}
+use Rattle.std.proofs.Common.{◌≡◌, ℕ, ◌+◌, ◌-◌, ◌*◌, ◌%◌, ◌^◌, ◌<◌, ◌≤◌, List, length, take, drop, sym, refl, ap, ◌∙◌, ap₂, inr, mul-le-mul_right, add-mul, zero-mul, zero-add, arith, length-drop, length-take-le, take-take, drop-drop, take_at, pow_mono}
 use lib.Seq.{paste, take-paste}
 use Rattle.octets.specs.Octets.{part}
 use Rattle.sha256.specs.Sha256.{compressions}
 use Rattle.octets.proofs.CopyLaws.{part-part, paste-from, paste-later}
 use Rattle.merkle.specs.Limits.{hash_length, held_bytes}
 use Rattle.merkle.specs.Blocks.{cut, overlay}
-use Rattle.merkle.specs.Shape.{depth, split, shape}
+use Rattle.merkle.specs.Shape.{Shape, depth, split, shape}
 use Rattle.merkle.specs.Hash.{Hashing, leaf_input, leaf_hash, node_hash, hash}
 use Rattle.merkle.specs.Cost.{cost, cost_without}
 use Rattle.merkle.proofs.ShapeLaws.{shape-leaf, halves, size-left, size-shape, depth-fits}
@@ -29,8 +29,8 @@ module _ {H : Hashing} {len : ℕ} {bytes block : List ℕ} {at : ℕ} {new rest
       let l = s.small in
       record { small = omega arith; skips = s.skips; starts = s.starts; replaced = λ g. s.replaced (omega arith) }
 
-  pub right_of : (k d : ℕ) → k < n → (d + k) % 2 ^ 64 ≡ skip → Subtree H len bytes block at new (drop (k * len) rest) (first + k) (n - k) d
-  right_of k d h e =
+  pub right_of : (k : ℕ) → k < n → Subtree H len bytes block at new (drop (k * len) rest) (first + k) (n - k) ((skip + (2 ^ 64 - k)) % 2 ^ 64)
+  right_of k h =
       let l = s.small in
       let z = s.skips in
       record {
@@ -99,11 +99,41 @@ cost-with H f at b n c r lt ec er =
     let e : compressions (leaf_input H (overlay f at b at)) ≡ c = ap (λ x. compressions (leaf_input H x)) (overlay-same f at b) ∙ sym ec in
     omega arith
 
+-- The bytes, as blocks of len bytes, are those of `whole`, as blocks of L bytes, from block `first` on.
+pub record PartOf (L : ℕ) (whole : List ℕ) (first len : ℕ) (bytes : List ℕ) : Type 0 where
+  pub long : len ≡ L
+  pub starts : bytes ≡ drop (first * L) whole
+
+pub part-all : (L : ℕ) (whole : List ℕ) → PartOf L whole 0 L whole
+part-all L whole = record { long = refl; starts = sym (ap (λ x. drop x whole) (zero-mul L)) }
+
+module _ {L : ℕ} {whole : List ℕ} {first len : ℕ} {bytes : List ℕ} (p : PartOf L whole first len bytes) where
+  -- its halves
+  pub part-left : {k : ℕ} {a : List ℕ} → a ≡ bytes → k ≡ len → PartOf L whole first k a
+  part-left ea ek = record { long = ek ∙ p.long; starts = ea ∙ p.starts }
+
+  pub part-right : (m : ℕ) {k : ℕ} {a : List ℕ} → a ≡ drop (m * len) bytes → k ≡ len → PartOf L whole (first + m) k a
+  part-right m ea ek =
+      record { long = ek ∙ p.long; starts = ea ∙ rw (p.long, p.starts, add-mul first m L, drop-drop (m * L) (first * L) whole) }
+
+  -- the hash of a tree over it
+  pub part-hash : (H : Hashing) (s : Shape) → hash H (cut len bytes) 0 s ≡ hash H (cut L whole) first s
+  unfolding cut
+  part-hash H s = hash-same H s (record { block = λ j k. same j })
+    where
+      same : (j : ℕ) → cut len bytes (0 + j) ≡ cut L whole (first + j)
+      same j =
+          let z : 0 + j ≡ j = omega arith in
+          rw (p.long, p.starts, z, add-mul first j L, drop-drop (j * L) (first * L) whole)
+
 -- So deep a tree has no more blocks than this.
 pub blocks-few : (to n : ℕ) → to + hash_length * depth n ≤ held_bytes → n ≤ 2048
 blocks-few to n h = let d : depth n ≤ 11 = omega arith in omega (arith, depth-fits n, pow_mono d)
 
 -- The bytes are long enough for both halves.
+pub short_fits : (L A n k : ℕ) → k ≤ n → (n - 1) * L ≤ A → (k - 1) * L ≤ A
+short_fits L A n k h q = let e : k - 1 ≤ n - 1 = omega arith in omega (arith, mul-le-mul_right L e)
+
 pub left-fits : (L A n k : ℕ) → k < n → (n - 1) * L ≤ A → k * L ≤ A
 left-fits L A n k h q = let e : k ≤ n - 1 = omega arith in omega (arith, mul-le-mul_right L e)
 

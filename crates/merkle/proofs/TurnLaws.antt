@@ -1,5 +1,6 @@
 -- The turns of a block's way as one number, made on the way down to the block and read off on the way up.
-use Rattle.std.proofs.Common.{◌≡◌, ℕ, ◌+◌, ◌-◌, ◌*◌, ◌/◌, ◌%◌, ◌^◌, ◌<◌, ◌≤◌, Bool, true, false, cond, eqb, List, [], ◌∷◌, ◌++◌, length, take, drop, sym, refl, ap, ◌∙◌, append_assoc, append-nil, add_assoc, pow-suc, arith, length-append, drop-drop, pow_mono, eq-eqb, ne_eqb}
+use Rattle.std.proofs.Common.{◌≡◌, ℕ, zero, suc, ◌+◌, ◌-◌, ◌*◌, ◌/◌, ◌%◌, ◌^◌, ◌<◌, ◌≤◌, Bool, true, false, cond, eqb, List, [], ◌∷◌, ◌++◌, length, get_or, take, drop, sym, refl, ap, ◌∙◌, append_assoc, append-nil, add_assoc, pow-suc, arith, length-append, length-drop, length-take-le, drop-cons, pow_mono, eq-eqb, ne_eqb}
+use Rattle.std.specs.Simd.{first_chunks}
 use native.Mathlib.Nat.{pow-zero}
 use native.Mathlib.Decide.{ℕ_discrete}
 use Rattle.merkle.specs.Limits.{hash_length}
@@ -13,6 +14,7 @@ use Rattle.merkle.specs.Turns.{turns_of}
 use Rattle.merkle.proofs.ShapeLaws.{depth-least, shape-leaf, size-shape, split_between, halves, size-left}
 use Rattle.merkle.proofs.PathLaws.{down-left, down-right}
 use Rattle.merkle.proofs.WayLaws.{leaf-depths}
+use Rattle.merkle.proofs.HeldLaws.{length-hashes_in}
 
 -- A bit for each node.
 turns-below : (ws : List (Place × Bool)) → turns_of ws < 2 ^ length ws
@@ -105,29 +107,46 @@ turns-first t true (p, false) ws e h = absurd (omega arith)
 turns-first t false (p, true) ws e h = absurd (omega arith)
 turns-first t false (p, false) ws e h = (refl, omega arith)
 
+-- The hashes of a message as the code has them, 32 bytes each.
+pub chunks-are : (c : ℕ) (s : List ℕ) → first_chunks hash_length c s ≡ hashes_in c s
+unfolding hashes_in
+chunks-are zero s = refl
+chunks-are (suc c) s = ap (λ (ys : List (List ℕ)). take hash_length s ∷ ys) (chunks-are c (drop hash_length s))
+
+pub length-chunk : (c i : ℕ) (s d : List ℕ) → i < c → hash_length * c ≤ length s → length (get_or (first_chunks hash_length c s) i d) ≡ hash_length
+length-chunk zero i s d lt h = absurd (omega arith)
+length-chunk (suc c) zero s d lt h = length-take-le hash_length s (omega arith)
+length-chunk (suc c) (suc i) s d lt h = length-chunk c i (drop hash_length s) d (omega arith) (simp length-drop (omega arith))
+
 -- The hash x with the siblings from index `at` on leads to the top, the turns are those still to come, and what was taken so far and what is still to be taken make
 -- up the total.
-pub record Rising (H : Hashing) (top : List ℕ) (total : ℕ) (s x : List ℕ) (took turns at : ℕ) : Type 0 where
+pub record Rising (H : Hashing) (top : List ℕ) (total : ℕ) (ys : List (List ℕ)) (x : List ℕ) (took turns at : ℕ) : Type 0 where
   pub above : List (Place × Bool)
   pub are : turns ≡ turns_of above
-  pub left : at + hash_length * length above ≡ length s
-  pub leads : ascend H x above (hashes_in (length above) (drop at s)) ≡ top
-  pub spends : took + ascend_cost H x above (hashes_in (length above) (drop at s)) ≡ total
+  pub left : at + length above ≡ length ys
+  pub leads : ascend H x above (drop at ys) ≡ top
+  pub spends : took + ascend_cost H x above (drop at ys) ≡ total
 
 module _ (H : Hashing) where
-  pub rising_none : (ws : List (Place × Bool)) (s x : List ℕ) (took turns : ℕ) → turns ≡ turns_of ws → length s ≡ hash_length * length ws
-      → Rising H (ascend H x ws (hashes_in (length ws) s)) (took + ascend_cost H x ws (hashes_in (length ws) s)) s x took turns 0
-  rising_none ws s x took turns are size = record { above = ws; are = are; left = omega arith; leads = refl; spends = refl }
+  pub rising_none : (ws : List (Place × Bool)) (s x : List ℕ) (ys : List (List ℕ)) (took turns : ℕ) → ys ≡ first_chunks hash_length (length s / hash_length) s → turns ≡ turns_of ws
+      → length s ≡ hash_length * length ws → Rising H (ascend H x ws (hashes_in (length ws) s)) (took + ascend_cost H x ws (hashes_in (length ws) s)) ys x took turns 0
+  rising_none ws s x ys took turns is are size =
+      let many : length s / hash_length ≡ length ws = omega arith in
+      let all : ys ≡ hashes_in (length ws) s = is ∙ rw many (chunks-are (length ws) s) in
+      rw all (record { above = ws; are = are; left = omega (arith, length-hashes_in (length ws) s); leads = refl; spends = refl })
 
   -- One node up.
-  pub rising-more : {top : List ℕ} {total : ℕ} {s x : List ℕ} {took turns at : ℕ} → Rising H top total s x took turns at → hash_length ≤ length s - at → (right : Bool)
-      → turns % 2 ≡ cond right 0 1 → (z : List ℕ) (c : ℕ) → z ≡ H.function (beside_input H x right (take hash_length (drop at s)))
-      → c ≡ compressions (beside_input H x right (take hash_length (drop at s))) → Rising H top total s z (took + c) (turns / 2) (at + hash_length)
-  unfolding ascend ascend_cost hashes_in
-  rising-more {top} {total} {s} {x} {took} {turns} {at} r some right h z c is ec = go r.above r.are r.left r.leads r.spends
+  pub rising-more : {top : List ℕ} {total : ℕ} {ys : List (List ℕ)} {x : List ℕ} {took turns at : ℕ} → Rising H top total ys x took turns at → at < length ys → (right : Bool)
+      → turns % 2 ≡ cond right 0 1 → (d z : List ℕ) (c : ℕ) → z ≡ H.function (beside_input H x right (get_or ys at d)) → c ≡ compressions (beside_input H x right (get_or ys at d))
+      → Rising H top total ys z (took + c) (turns / 2) (at + 1)
+  unfolding ascend ascend_cost
+  rising-more {top} {total} {ys} {x} {took} {turns} {at} r some right h d z c is ec = go r.above r.are r.left r.leads r.spends
     where
-      go : (ws : List (Place × Bool)) → turns ≡ turns_of ws → at + hash_length * length ws ≡ length s → ascend H x ws (hashes_in (length ws) (drop at s)) ≡ top
-          → took + ascend_cost H x ws (hashes_in (length ws) (drop at s)) ≡ total → Rising H top total s z (took + c) (turns / 2) (at + hash_length)
+      next : drop at ys ≡ get_or ys at d ∷ drop (at + 1) ys
+      next = let e : at + 1 ≡ suc at = omega arith in rw e (drop-cons ys at d some)
+
+      go : (ws : List (Place × Bool)) → turns ≡ turns_of ws → at + length ws ≡ length ys → ascend H x ws (drop at ys) ≡ top → took + ascend_cost H x ws (drop at ys) ≡ total
+          → Rising H top total ys z (took + c) (turns / 2) (at + 1)
       go [] e l leads spends = absurd (omega arith)
       go (w ∷ ws) e l leads spends =
           let f = turns-first turns right w ws e h in
@@ -135,16 +154,15 @@ module _ (H : Hashing) where
             above = ws;
             are = f.1;
             left = omega arith;
-            leads = rw (is, ← f.0, ← drop-drop hash_length at s) leads;
-            spends = rw (is, ec, ← f.0, ← drop-drop hash_length at s) (add_assoc took _ _ ∙ spends);
+            leads = rw (is, ← f.0) (rw next at leads);
+            spends = rw (is, ec, ← f.0) (add_assoc took _ _ ∙ rw next at spends);
           }
 
-pub rising-done : {H : Hashing} {top : List ℕ} {total : ℕ} {s x : List ℕ} {took turns at : ℕ} → Rising H top total s x took turns at → length s - at < hash_length
+pub rising-done : {H : Hashing} {top : List ℕ} {total : ℕ} {ys : List (List ℕ)} {x : List ℕ} {took turns at : ℕ} → Rising H top total ys x took turns at → length ys ≤ at
     → (x ≡ top) × (took ≡ total)
 unfolding ascend ascend_cost
-rising-done {H} {top} {total} {s} {x} {took} {turns} {at} r h = go r.above r.left r.leads r.spends
+rising-done {H} {top} {total} {ys} {x} {took} {turns} {at} r h = go r.above r.left r.leads r.spends
   where
-    go : (ws : List (Place × Bool)) → at + hash_length * length ws ≡ length s → ascend H x ws (hashes_in (length ws) (drop at s)) ≡ top
-        → took + ascend_cost H x ws (hashes_in (length ws) (drop at s)) ≡ total → (x ≡ top) × (took ≡ total)
+    go : (ws : List (Place × Bool)) → at + length ws ≡ length ys → ascend H x ws (drop at ys) ≡ top → took + ascend_cost H x ws (drop at ys) ≡ total → (x ≡ top) × (took ≡ total)
     go [] l leads spends = (leads, omega arith)
     go (w ∷ ws) l leads spends = absurd (omega arith)

@@ -1,4 +1,5 @@
-// How many hashes are held and carried. Neither number is stored: both follow from the block count and the blocks before.
+// How many hashes are held and carried. Neither number is stored: both follow from the block count and the blocks before. These stay two numbers, here and in the files
+// beside: a walk changes one of them or both at each step, where a pair of them that says `before < n` would be made anew, as for every single call.
 ghost use Rattle.std.specs.Prelude.{◌≡◌, ◌+◌, ◌^◌, ◌<◌, ◌≤◌};
 ghost use Rattle.std.specs.Int.Count.{count_trailing_zeros};
 ghost use Rattle.merkle.specs.Limits.{max_blocks};
@@ -6,7 +7,7 @@ ghost use Rattle.merkle.specs.Shape as shape;
 ghost use Rattle.merkle.specs.Frontier.{held_count, carried_count};
 
 // How many hashes are held before a block, and how many its message carries.
-#[derive(Drop)]
+#[derive(Clone, Copy, Debug, PartialEq, Eq)]
 pub struct Counts {
     pub held: usize,
     pub carried: usize,
@@ -18,7 +19,7 @@ fn low(x: usize) -> usize
     requires { 0 < x }
     ensures { result ≡ 2 ^ count_trailing_zeros 64 x }
 {
-    1 << usize::trailing_zeros(x)
+    1 << x.trailing_zeros()
 }
 
 // The depth of the tree over n blocks: the bit length of n - 1, which is 0 for one block.
@@ -26,7 +27,7 @@ fn depth(n: usize) -> usize
     requires { 0 < n }
     ensures { result ≡ shape.depth n }
 {
-    (64 - usize::leading_zeros(n - 1)) as usize
+    (64 - (n - 1).leading_zeros()) as usize
 }
 
 // The hashes held where `before` of n blocks are accepted, at least one: each is of the largest subtree that starts where the one before it ends.
@@ -55,10 +56,7 @@ pub fn count(n: usize, before: usize) -> Counts
             carried: depth(n),
         };
     }
-    let mut size = low(before);
-    if n - before < size {
-        size = n - before;
-    }
+    let size = low(before).min(n - before);
     Counts {
         held: held_after(n, before),
         carried: depth(size),

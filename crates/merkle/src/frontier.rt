@@ -33,7 +33,8 @@ fn next_at(n: usize, before: usize) -> usize
 }
 
 // Whether two hashes are the same, and the compressions that it took to work one of them out.
-#[derive(Drop)]
+// No Option: `fits` promises the number where they differ too, which the device's count takes.
+#[derive(Clone, Copy, Debug, PartialEq, Eq)]
 pub struct Comparison {
     pub same: bool,
     pub compressions: usize,

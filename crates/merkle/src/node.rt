@@ -1,8 +1,7 @@
 // The hash of a block and of a node, and where a node's blocks are split. A hash is put to a place that the caller has, and the answer is the number of compressions
 // that it took. Every digest of this crate is taken here.
-ghost use Rattle.std.specs.Prelude.{◌≡◌, ◌<◌, length};
+ghost use Rattle.std.specs.Prelude.{◌≡◌, ◌<◌};
 ghost use Rattle.sha256.specs.Sha256 as sha;
-ghost use Rattle.merkle.specs.Limits.{hash_length};
 ghost use Rattle.merkle.specs.Shape as spec;
 ghost use Rattle.merkle.specs.Hash.{plain, leaf_input, leaf_hash};
 ghost use Rattle.merkle.specs.Path.{beside_input};
@@ -26,8 +25,7 @@ pub fn node_hash(both: &[u8], out: &mut [u8; 32]) -> usize
 }
 
 // One node up: the hash over x and its sibling, which stands on the right or on the left, takes the place of x.
-pub fn rise(x: &mut [u8; 32], right: bool, sibling: &[u8]) -> usize
-    requires { (length x.old ≡ hash_length) × (length sibling.now ≡ hash_length) }
+pub fn rise(x: &mut [u8; 32], right: bool, sibling: &[u8; 32]) -> usize
     ensures { (x.new ≡ sha.digest (beside_input (plain sha.digest) x.old right sibling.now)) × (result ≡ sha.compressions (beside_input (plain sha.digest) x.old right sibling.now)) }
 {
     let mut both = [0u8; 2 * HASH_LEN];
@@ -41,14 +39,12 @@ pub fn rise(x: &mut [u8; 32], right: bool, sibling: &[u8]) -> usize
     node_hash(&both, x)
 }
 
-// The largest power of two below n.
+// The largest power of two below n. Not inlined: the frame of the tree's recursion, which stands on the stack twelve times, would hold the logarithm too.
+#[inline(never)]
 pub fn split(n: usize) -> usize
     requires { 1 < n }
-    ensures { result ≡ spec.split n }
+    ensures value { result ≡ spec.split n }
+    ensures between { (0 < result) × (result < n) }
 {
-    let mut k: usize = 1;
-    while k < n - k {
-        k = 2 * k;
-    }
-    k
+    1 << (n - 1).ilog2()
 }

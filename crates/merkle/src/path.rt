@@ -1,7 +1,7 @@
 // A block's whole way up to the root: how many siblings stand beside it, the root worked out from the block and these, and the sender's writing of them.
-ghost use Rattle.std.specs.Prelude.{◌≡◌, ◌-◌, ◌*◌, ◌<◌, ◌≤◌, ◌++◌, length, drop};
+ghost use Rattle.std.specs.Prelude.{◌≡◌, ◌*◌, ◌<◌, ◌≤◌, ◌++◌, length, drop};
 ghost use Rattle.sha256.specs.Sha256 as sha;
-ghost use Rattle.merkle.specs.Limits.{max_blocks, hash_length};
+ghost use Rattle.merkle.specs.Limits.{hash_length};
 ghost use Rattle.merkle.specs.Blocks.{cut};
 ghost use Rattle.merkle.specs.Shape.{shape};
 ghost use Rattle.merkle.specs.Hash.{plain};
@@ -10,13 +10,13 @@ ghost use Rattle.merkle.specs.Turns.{turns_of};
 ghost use Rattle.merkle.specs.Cost.{path_cost};
 ghost use Rattle.merkle.specs.Held.{hashes_in};
 
+use crate::blocks::Blocks;
 use crate::node::split;
 use crate::siblings::climb;
-use crate::tree::put_subtree;
 
 // The way from the root down to a block: how many nodes are on it, and which way it goes at each, a bit for each: 1 for right. The lowest node has the lowest bit, so
 // that the way up reads them off in its order.
-#[derive(Drop)]
+#[derive(Clone, Copy, Debug, PartialEq, Eq)]
 struct Descent {
     depth: usize,
     turns: usize,
@@ -70,26 +70,26 @@ pub fn path_hash(
     climb(descent.turns, block, siblings, out)
 }
 
-// Writes the siblings of the block after `before` of n, over the same blocks as `root`. The highest comes first, to its place at the end.
-pub fn write_path(out: &mut [u8], bytes: &[u8], len: usize, n: usize, before: usize)
-    requires { (before < n) × (n ≤ max_blocks) × ((n - 1) * len ≤ length bytes.now) × (hash_length * leaf_depth n before ≤ length out.old) × (len ≤ 1024) }
-    ensures { out.new ≡ sent_path (plain sha.digest) n (cut len bytes.now) before ++ drop (hash_length * leaf_depth n before) out.old }
-{
-    let mut first: usize = 0;
-    let mut m = n;
-    let mut i = before;
-    let mut depth = leaf_depth(n, before);
-    while 1 < m {
-        let k = split(m);
-        depth -= 1;
-        if i < k {
-            put_subtree(out, depth, bytes, len, first + k, m - k);
-            m = k;
-        } else {
-            put_subtree(out, depth, bytes, len, first, k);
-            first += k;
-            m -= k;
-            i -= k;
+impl<'a> Blocks<'a> {
+    // Writes the siblings of the block that has `before` blocks before it. The highest comes first, to its place at the end.
+    pub fn write_path(self, out: &mut [u8], before: usize)
+        requires { (before < self.count) × (hash_length * leaf_depth self.count before ≤ length out.old) }
+        ensures { out.new ≡ sent_path (plain sha.digest) self.entry.count (cut self.entry.len self.entry.bytes.now) before ++ drop (hash_length * leaf_depth self.entry.count before) out.old }
+    {
+        let mut tree = self;
+        let mut i = before;
+        let mut depth = leaf_depth(self.count, before);
+        while 1 < tree.count {
+            let (left, right) = tree.halves();
+            depth -= 1;
+            if i < left.count {
+                right.put_root(out, depth);
+                tree = left;
+            } else {
+                left.put_root(out, depth);
+                i -= left.count;
+                tree = right;
+            }
         }
     }
 }

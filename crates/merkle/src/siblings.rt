@@ -1,7 +1,7 @@
 // The hashes of a block message: the climb over them, and the sender's writing of them.
-ghost use Rattle.std.specs.Prelude.{◌≡◌, ◌+◌, ◌-◌, ◌*◌, ◌<◌, ◌≤◌, Bool, List, ◌++◌, length, drop};
+ghost use Rattle.std.specs.Prelude.{◌≡◌, ◌+◌, ◌*◌, ◌<◌, ◌≤◌, Bool, List, ◌++◌, length, drop};
 ghost use Rattle.sha256.specs.Sha256 as sha;
-ghost use Rattle.merkle.specs.Limits.{max_blocks, hash_length};
+ghost use Rattle.merkle.specs.Limits.{hash_length};
 ghost use Rattle.merkle.specs.Blocks.{cut};
 ghost use Rattle.merkle.specs.Shape.{shape, Place};
 ghost use Rattle.merkle.specs.Hash.{plain, leaf_input, leaf_hash};
@@ -11,24 +11,22 @@ ghost use Rattle.merkle.specs.Cost.{ascend_cost};
 ghost use Rattle.merkle.specs.Frontier.{largest, carried_count};
 ghost use Rattle.merkle.specs.Held.{hashes_in, sent};
 
+use crate::blocks::Blocks;
 use crate::counting::count;
 use crate::limits::HASH_LEN;
 use crate::node::{block_hash, rise, split};
-use crate::tree::put_subtree;
 
 // From a block up over its siblings, lowest first, to the hash at the top. `turns` has a bit for each, the lowest for the first: 1 where the sibling stands on the
 // left.
 pub fn climb(turns: usize, block: &[u8], siblings: &[u8], x: &mut [u8; 32]) -> usize
-    ensures { (length x.new ≡ hash_length) × ((ws : List (Place × Bool)) → turns ≡ turns_of ws → length siblings.now ≡ hash_length * length ws → (x.new ≡ ascend (plain sha.digest) (leaf_hash (plain sha.digest) block.now) ws (hashes_in (length ws) siblings.now)) × (result ≡ sha.compressions (leaf_input (plain sha.digest) block.now) + ascend_cost (plain sha.digest) (leaf_hash (plain sha.digest) block.now) ws (hashes_in (length ws) siblings.now))) }
+    ensures { (ws : List (Place × Bool)) → turns ≡ turns_of ws → length siblings.now ≡ hash_length * length ws → (x.new ≡ ascend (plain sha.digest) (leaf_hash (plain sha.digest) block.now) ws (hashes_in (length ws) siblings.now)) × (result ≡ sha.compressions (leaf_input (plain sha.digest) block.now) + ascend_cost (plain sha.digest) (leaf_hash (plain sha.digest) block.now) ws (hashes_in (length ws) siblings.now)) }
 {
     let mut took = block_hash(block, x);
     let mut left = turns;
-    let mut at: usize = 0;
-    while HASH_LEN <= siblings.len() - at {
-        let end = at + HASH_LEN;
-        took += rise(x, left % 2 == 0, &siblings[at..end]);
+    let (hashes, _) = siblings.as_chunks::<HASH_LEN>();
+    for sibling in hashes {
+        took += rise(x, left % 2 == 0, sibling);
         left /= 2;
-        at = end;
     }
     took
 }
@@ -52,18 +50,19 @@ fn subtree(n: usize, before: usize) -> usize
     m
 }
 
-// Writes the hashes that go with the block after `before` of n, over the same blocks as `root`. The highest sibling comes first, to its place at the end.
-pub fn write_siblings(out: &mut [u8], bytes: &[u8], len: usize, n: usize, before: usize)
-    requires { (before < n) × (n ≤ max_blocks) × ((n - 1) * len ≤ length bytes.now) × (hash_length * carried_count n (before + 1) ≤ length out.old) × (len ≤ 1024) }
-    ensures { out.new ≡ sent (plain sha.digest) n (cut len bytes.now) before ++ drop (hash_length * carried_count n (before + 1)) out.old }
-{
-    let mut m = subtree(n, before);
-    let counts = count(n, before);
-    let mut c = counts.carried;
-    while 1 < m {
-        let k = split(m);
-        c -= 1;
-        put_subtree(out, c, bytes, len, before + k, m - k);
-        m = k;
+impl<'a> Blocks<'a> {
+    // Writes the hashes that go with the block that has `before` blocks before it. The highest sibling comes first, to its place at the end.
+    pub fn write_siblings(self, out: &mut [u8], before: usize)
+        requires { (before < self.count) × (hash_length * carried_count self.count (before + 1) ≤ length out.old) }
+        ensures { out.new ≡ sent (plain sha.digest) self.entry.count (cut self.entry.len self.entry.bytes.now) before ++ drop (hash_length * carried_count self.entry.count (before + 1)) out.old }
+    {
+        let mut tree = self.part(before, subtree(self.count, before));
+        let mut c = count(self.count, before).carried;
+        while 1 < tree.count {
+            let (left, right) = tree.halves();
+            c -= 1;
+            right.put_root(out, c);
+            tree = left;
+        }
     }
 }

@@ -4,16 +4,16 @@ ghost use Rattle.std.specs.Prelude.{◌≡◌, ℕ, ◌+◌, ◌-◌, ◌*◌, �
 ghost use Rattle.std.proofs.Math.Seq.{paste};
 ghost use Rattle.octets.specs.Octets.{part};
 ghost use Rattle.sha256.specs.Sha256 as sha;
-ghost use Rattle.merkle.specs.Limits.{max_blocks, hash_length, held_bytes};
+ghost use Rattle.merkle.specs.Limits.{hash_length, held_bytes};
 ghost use Rattle.merkle.specs.Blocks.{cut, overlay};
 ghost use Rattle.merkle.specs.Shape.{depth, shape};
 ghost use Rattle.merkle.specs.Hash.{plain, leaf_input, node_input, leaf_hash, node_hash, hash, root_over};
 ghost use Rattle.merkle.specs.Cost.{cost, cost_without};
 
+use crate::blocks::Blocks;
 use crate::limits::{HASH_LEN, HELD_LEN};
 use crate::node::{block_hash, node_hash, split};
-use octets::{bytes32_at, copy};
-use std::num::wrapping_sub_u64;
+use octets::{array_at, copy};
 
 // The array has room for one hash on each level of the deepest tree, which is MAX_HELD deep, and behind these, at NEW_AT, for the one that replaces a block's
 // own.
@@ -25,7 +25,7 @@ const ROOM: usize = NEW_AT + HASH_LEN;
 fn leaf(rest: &[u8], len: usize, out: &mut [u8; 32]) -> usize
     ensures { (out.new ≡ leaf_hash (plain sha.digest) (take len rest.now)) × (result ≡ sha.compressions (leaf_input (plain sha.digest) (take len rest.now))) }
 {
-    let end = if len < rest.len() { len } else { rest.len() };
+    let end = len.min(rest.len());
     block_hash(&rest[..end], out)
 }
 
@@ -42,13 +42,14 @@ fn pair(hashes: &[u8], at: usize, out: &mut [u8; 32]) -> usize
 // subtree's first block on; those before it do not count. The replaced block comes `skip` blocks after the first one, modulo 2^64. So `skip` is 0 where the
 // first block is the replaced one, and n or more where the replaced one is outside the subtree. The answer leaves out what the replaced block's own hash took, which
 // is made before. It is small, so that no sum overflows: at most 17 for each block and 2 for each node.
+// Bytes, length and count stand apart here: as `Blocks` both halves would lie in each frame, 64 bytes twelve times, and the last block's stack would miss its goal.
 fn put_hash(
     hashes: &mut [u8; ROOM],
     to: usize,
     rest: &[u8],
     len: usize,
     n: usize,
-    skip: u64,
+    skip: usize,
 ) -> usize
     requires { (0 < n) × (to + hash_length * depth n ≤ held_bytes) × ((n - 1) * len ≤ length rest.now) × (len ≤ 1024) }
     ensures kept { (take to hashes.new ≡ take to hashes.old) × (drop (held_bytes + hash_length) hashes.new ≡ drop (held_bytes + hash_length) hashes.old) }
@@ -66,7 +67,7 @@ fn put_hash(
             &rest[from..],
             len,
             n - k,
-            wrapping_sub_u64(skip, k as u64),
+            skip.wrapping_sub(k),
         );
         below = left + right;
     }
@@ -75,8 +76,7 @@ fn put_hash(
     let own = if 1 < n {
         pair(hashes, to, &mut x)
     } else if skip == 0 {
-        let new = bytes32_at(hashes, NEW_AT);
-        x = new;
+        x = array_at(hashes, NEW_AT);
         0
     } else {
         leaf(rest, len, &mut x)
@@ -85,52 +85,37 @@ fn put_hash(
     below + own
 }
 
-// The hash of the subtree over n blocks of len bytes, none replaced: with `skip` n the replaced block is outside it.
-fn subtree_hash(rest: &[u8], len: usize, n: usize, out: &mut [u8; 32]) -> usize
-    requires { (0 < n) × (n ≤ max_blocks) × ((n - 1) * len ≤ length rest.now) × (len ≤ 1024) × (length out.old ≡ hash_length) }
-    ensures { (bytes : List ℕ) (first : ℕ) → first + n < 2 ^ 64 → drop (first * len) bytes ≡ rest.now → (out.new ≡ hash (plain sha.digest) (cut len bytes) first (shape n)) × (result ≡ cost (plain sha.digest) (cut len bytes) first (shape n)) }
-{
-    let mut hashes = [0u8; ROOM];
-    let took = put_hash(&mut hashes, 0, rest, len, n, n as u64);
-    copy(out, 0, &hashes[..HASH_LEN]);
-    took
-}
+impl<'a> Blocks<'a> {
+    // The hash of the tree over the blocks: as many are skipped as there are, so none is replaced.
+    pub fn root(self, out: &mut [u8; 32]) -> usize
+        ensures { (out.new ≡ root_over (plain sha.digest) (cut self.entry.len self.entry.bytes.now) self.entry.count) × (result ≡ cost (plain sha.digest) (cut self.entry.len self.entry.bytes.now) 0 (shape self.entry.count)) }
+    {
+        let mut hashes = [0u8; ROOM];
+        let took = put_hash(&mut hashes, 0, self.bytes, self.len, self.count, self.count);
+        *out = array_at(&hashes, 0);
+        took
+    }
 
-// The hash of the tree over n blocks of len bytes, with block `at` (blocks before it) replaced.
-pub fn root_with(
-    bytes: &[u8],
-    len: usize,
-    n: usize,
-    at: usize,
-    block: &[u8],
-    out: &mut [u8; 32],
-) -> usize
-    requires { (at < n) × (n ≤ max_blocks) × ((n - 1) * len ≤ length bytes.now) × (len ≤ 1024) × (length block.now ≤ 1024) }
-    ensures { (out.new ≡ root_over (plain sha.digest) (overlay (cut len bytes.now) at block.now) n) × (result ≡ cost (plain sha.digest) (overlay (cut len bytes.now) at block.now) 0 (shape n)) }
-{
-    let mut hashes = [0u8; ROOM];
-    let own = block_hash(block, out);
-    copy(&mut hashes, NEW_AT, out);
-    let others = put_hash(&mut hashes, 0, bytes, len, n, at as u64);
-    copy(out, 0, &hashes[..HASH_LEN]);
-    own + others
-}
+    // The hash of the tree over the blocks with block `at` (blocks before it) replaced.
+    pub fn root_with(self, at: usize, block: &[u8], out: &mut [u8; 32]) -> usize
+        requires { (at < self.count) × (length block.now ≤ 1024) }
+        ensures { (out.new ≡ root_over (plain sha.digest) (overlay (cut self.entry.len self.entry.bytes.now) at block.now) self.entry.count) × (result ≡ cost (plain sha.digest) (overlay (cut self.entry.len self.entry.bytes.now) at block.now) 0 (shape self.entry.count)) }
+    {
+        let mut hashes = [0u8; ROOM];
+        let own = block_hash(block, out);
+        copy(&mut hashes, NEW_AT, out);
+        let others = put_hash(&mut hashes, 0, self.bytes, self.len, self.count, at);
+        *out = array_at(&hashes, 0);
+        own + others
+    }
 
-// The hash of the tree over n blocks of len bytes, none replaced.
-pub fn root(bytes: &[u8], len: usize, n: usize, out: &mut [u8; 32]) -> usize
-    requires { (0 < n) × (n ≤ max_blocks) × ((n - 1) * len ≤ length bytes.now) × (len ≤ 1024) × (length out.old ≡ hash_length) }
-    ensures { (out.new ≡ root_over (plain sha.digest) (cut len bytes.now) n) × (result ≡ cost (plain sha.digest) (cut len bytes.now) 0 (shape n)) }
-{
-    subtree_hash(bytes, len, n, out)
-}
-
-// Puts the hash of the subtree over n blocks that starts with block `first`, none replaced, to place `index` of the hashes in `out`.
-pub fn put_subtree(out: &mut [u8], index: usize, bytes: &[u8], len: usize, first: usize, n: usize)
-    requires { (0 < n) × (first + n ≤ max_blocks) × ((first + n - 1) * len ≤ length bytes.now) × (hash_length * index + hash_length ≤ length out.old) × (len ≤ 1024) }
-    ensures { out.new ≡ paste out.old (hash_length * index) (hash (plain sha.digest) (cut len bytes.now) first (shape n)) hash_length }
-{
-    let from = first * len;
-    let mut hash = [0u8; HASH_LEN];
-    subtree_hash(&bytes[from..], len, n, &mut hash);
-    copy(out, HASH_LEN * index, &hash);
+    // Puts the hash of the tree over the blocks to place `index` of the hashes in `out`.
+    pub(crate) fn put_root(self, out: &mut [u8], index: usize)
+        requires { hash_length * index + hash_length ≤ length out.old }
+        ensures { out.new ≡ paste out.old (hash_length * index) (root_over (plain sha.digest) (cut self.entry.len self.entry.bytes.now) self.entry.count) hash_length }
+    {
+        let mut hash = [0u8; HASH_LEN];
+        self.root(&mut hash);
+        copy(out, HASH_LEN * index, &hash);
+    }
 }

@@ -1,3 +1,4 @@
+pub mod BigEndianLaws
 pub mod BufferLaws
 pub mod CopyLaws
 pub mod EqualLaws

@@ -8,28 +8,26 @@ ghost use Rattle.std.proofs.Math.Seq.{paste};
 ghost use Rattle.octets.specs.Octets as spec;
 ghost use Rattle.octets.specs.Octets.{part};
 
-pub use number::{be16, be32, be64, u16_at, u32_at};
+pub use number::{u16_at, u32_at};
 
 // Copies src over dst from index at on.
 pub fn copy(dst: &mut [u8], at: usize, src: &[u8])
     requires { at + length src.now ≤ length dst.old }
     ensures { dst.new ≡ paste dst.old at src.now (length src.now) }
 {
-    let mut i: usize = 0;
-    while i < src.len() {
+    // A loop by hand: the library's `copy_from_slice` is longer at each call, and the device's code would be 13,766 bytes then, past its goal of 13,397.
+    for i in 0..src.len() {
         dst[at + i] = src[i];
-        i += 1;
     }
 }
 
-// The 32 bytes of s from index at on: a hash.
-pub fn bytes32_at(s: &[u8], at: usize) -> [u8; 32]
-    requires { at + 32 ≤ length s.now }
-    ensures { result ≡ part at 32 s.now }
+// The N bytes of s from index at on: a number's bytes, a hash, a block.
+pub fn array_at<const N: usize>(s: &[u8], at: usize) -> [u8; N]
+    requires { at + N ≤ length s.now }
+    ensures { result ≡ part at N s.now }
 {
-    let mut r = [0u8; 32];
-    let end = at + 32;
-    copy(&mut r, 0, &s[at..end]);
+    let mut r = [0u8; N];
+    copy(&mut r, 0, &s[at..at + N]);
     r
 }
 
@@ -40,12 +38,11 @@ pub fn equal(a: &[u8], b: &[u8]) -> bool
     if a.len() != b.len() {
         return false;
     }
-    let mut i: usize = 0;
-    while i < a.len() {
+    // A loop by hand: the library's `==` on slices is 496 bytes of code more, and the device's has a goal.
+    for i in 0..a.len() {
         if a[i] != b[i] {
             return false;
         }
-        i += 1;
     }
     true
 }

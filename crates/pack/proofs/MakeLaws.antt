@@ -12,10 +12,9 @@ use Rattle.streams.specs.Counts.{IsPrefixLen}
 use Rattle.sha256.specs.Sha256.{digest}
 use Rattle.wire.specs.Refusal.{first_that_applies}
 use Rattle.wire.specs.Size.{wrong_size}
-use Rattle.sender.specs.declared.send.Sent.{Sent}
-use Rattle.sender.specs.declared.send.Sent.TheVariants.{Written, Refused}
+use Rattle.std.specs.Prelude.{Ok, Err, IfSome}
 use Rattle.sender.specs.Job.{Image, Job}
-use Rattle.sender.specs.Send.{Does, as_is, send, too_short, unnumbered}
+use Rattle.sender.specs.Send.{Sent, Written, Does, as_is, send, too_short, unnumbered}
 use Rattle.pack.specs.Make.{made}
 use Rattle.bundle.specs.Bundle.{bundle_for, send_bundle}
 
@@ -29,11 +28,10 @@ fits x bytes out {k} d = go (wrong_size x.block_len (length x.bytes)) (ltb (leng
     go false true e f = absurd (let w = (rw (e, f) at d).answered in let z : ◌≡◌ {A = ℕ} 0 1 = cc in omega arith)
     go false false e f = let w = (rw (e, f) at d).answered in let z : k ≡ length bytes = cc in omega (arith, ltb-false (length out) (length bytes) f)
 
-pub bundle-fits : (j : Job) (signature out : List ℕ) (answer : Sent) {r : List ℕ} → Does as_is (send_bundle j signature out) answer r → {k : ℕ} → k ≡ (made answer).len → length r ≡ length out → IsPrefixLen k r
+pub bundle-fits : (j : Job) (signature out : List ℕ) (answer : Sent) {r : List ℕ} → Does as_is (send_bundle j signature out) answer r → length r ≡ length out
+    → IfSome (made answer) (λ k. IsPrefixLen k r)
 unfolding send_bundle
-bundle-fits j signature out (Written n) {r} d {k} e l =
-    let h : k ≤ length r = omega (arith, fits j.image (bundle_for digest j [] signature) out d) in
-    (h, sym (length-take-le k r h))
-bundle-fits j signature out (Refused x) {r} d {k} e l =
-    let h : k ≤ length r = omega arith in
-    (h, sym (length-take-le k r h))
+bundle-fits j signature out (Ok n) {r} d l =
+    let h : n ≤ length r = omega (arith, fits j.image (bundle_for digest j [] signature) out d) in
+    (h, sym (length-take-le n r h))
+bundle-fits j signature out (Err x) d l = tt

@@ -1,4 +1,5 @@
 // Files of the folder, by name. What goes wrong with one is told on standard error.
+ghost use Rattle.std.specs.Prelude.{IfOk};
 ghost use Rattle.streams.specs.Counts.{IsPrefixLen};
 
 use std::fs::{File, OpenOptions, Permissions};
@@ -11,18 +12,12 @@ use streams::read_full;
 // How many names are tried for a temporary file.
 const MOST_NAMES: u32 = 1000;
 
-#[derive(Drop)]
-pub enum FileRead {
-    Whole,
+// Why a file's content is not at hand.
+#[derive(Clone, Copy)]
+pub enum NotRead {
     Missing,
     // There, but not to be read, or too long; told already.
     Unusable,
-}
-
-#[derive(Drop)]
-pub struct Input {
-    pub len: usize,
-    pub found: FileRead,
 }
 
 // To standard error: the file, and in the system's words why a call failed.
@@ -41,44 +36,44 @@ fn tell(rt: &HostRuntime, path: &str, error: io::Error) {
 }
 
 // Why a file was not opened.
-fn unopened(rt: &HostRuntime, path: &str, error: io::Error) -> FileRead {
+fn unopened(rt: &HostRuntime, path: &str, error: io::Error) -> NotRead {
     if error.kind() == ErrorKind::NotFound {
-        return FileRead::Missing;
+        return NotRead::Missing;
     }
     tell(rt, path, error);
-    FileRead::Unusable
+    NotRead::Unusable
 }
 
-// Whether a file that was read into a buffer of `most` bytes ends there.
-fn ended(rt: &HostRuntime, file: &mut File, path: &str, most: usize) -> FileRead {
+// Whether a file that was read into a buffer of `most` bytes ends there. If not, that is told.
+fn ended(rt: &HostRuntime, file: &mut File, path: &str, most: usize) -> bool {
     let mut next = [0u8; 1];
     match file.read(&mut next) {
-        Ok(0) => FileRead::Whole,
+        Ok(0) => true,
         Ok(_) => {
             let _ = eprintln!(rt; "{path}: over {most} bytes");
-            FileRead::Unusable
+            false
         }
         Err(error) => {
             tell(rt, path, error);
-            FileRead::Unusable
+            false
         }
     }
 }
 
-// Puts the file at the start of `buffer`.
-pub fn read(rt: &HostRuntime, path: &str, buffer: &mut [u8]) -> Input
-    ensures { IsPrefixLen result.len buffer.new }
+// Puts the file at the start of `buffer`, and answers its length.
+pub fn read(rt: &HostRuntime, path: &str, buffer: &mut [u8]) -> Result<usize, NotRead>
+    ensures { IfOk result (λ len. IsPrefixLen len buffer.new) }
 {
     match fs::open(rt, path) {
         Ok(mut file) => {
             let len = read_full(&mut file, buffer);
-            let found = ended(rt, &mut file, path, buffer.len());
-            Input { len, found }
+            if ended(rt, &mut file, path, buffer.len()) {
+                Ok(len)
+            } else {
+                Err(NotRead::Unusable)
+            }
         }
-        Err(error) => Input {
-            len: 0,
-            found: unopened(rt, path, error),
-        },
+        Err(error) => Err(unopened(rt, path, error)),
     }
 }
 
@@ -86,7 +81,7 @@ pub fn read(rt: &HostRuntime, path: &str, buffer: &mut [u8]) -> Input
 fn replaceable(rt: &HostRuntime, path: &str) -> bool {
     match OpenOptions::new().read(true).write(true).open(rt, path) {
         Ok(_) => true,
-        Err(error) => matches!(unopened(rt, path, error), FileRead::Missing),
+        Err(error) => matches!(unopened(rt, path, error), NotRead::Missing),
     }
 }
 

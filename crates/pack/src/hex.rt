@@ -1,12 +1,12 @@
 // The image in image.hex. A refusal is told on standard error by its word, with the number of its line.
-ghost use Rattle.std.specs.Prelude.{◌≡◌, ◌<◌, length};
+ghost use Rattle.std.specs.Prelude.{◌≡◌, ◌<◌, length, IfSome};
 ghost use Rattle.streams.specs.Counts.{IsPrefixLen};
 ghost use Rattle.ihex.specs.Read as spec;
 ghost use Rattle.ihex.specs.Write as writing;
 ghost use Rattle.pack.specs.Make.{ImageRead};
 
-use crate::make::{Made, print_error};
-use ihex::{RecordRead, TextAnswer};
+use crate::make::print_error;
+use ihex::Fault;
 use wire::Refusal;
 
 // Zeros for the longest image. The contract says all that a caller needs, so that no proof counts them one by one.
@@ -22,9 +22,9 @@ fn hex_digit(number: u8) -> u8
     ensures { result ≡ writing.hex_digit number }
 {
     if number < 10 {
-        48 + number
+        b'0' + number
     } else {
-        55 + number
+        b'A' - 10 + number
     }
 }
 
@@ -37,20 +37,19 @@ fn print_type(rt: &impl Eprint, kind: u8) {
 // What is wrong with a line that is refused 16, or that the text lacks.
 fn broken(rt: &impl Eprint, text: &[u8], line: usize) {
     print_error(rt, "text: image.hex, line ", line, ": ");
-    let RecordRead::Sound(record) = ihex::record_at(text, line) else {
+    let Some(record) = ihex::record_at(text, line) else {
         let _ = eprintln!(rt;
             "no whole record (colon, digits, count, checksum, line end), or bytes behind the end record, or no end record"
         );
         return;
     };
-    let kind = record.kind;
-    match kind {
+    match record.kind {
         0 | 1 | 4 => {
             let _ = eprintln!(rt;
                 "a record behind the end record, or 01 with data, or 04 without two bytes"
             );
         }
-        _ => print_type(rt, kind),
+        kind => print_type(rt, kind),
     }
 }
 
@@ -78,20 +77,17 @@ fn refuse(rt: &impl Eprint, text: &[u8], refusal: Refusal, line: usize) {
     }
 }
 
-// Puts the image at the start of `out`.
-pub fn image(rt: &impl Eprint, text: &[u8], base: u32, len: u32, out: &mut [u8]) -> Made
+// Puts the image at the start of `out`, and answers its length. A refusal is told.
+pub fn image(rt: &impl Eprint, text: &[u8], base: u32, len: u32, out: &mut [u8]) -> Option<usize>
     ensures image_read { ImageRead len (spec.read text.now base len out.old) result out.new }
-    ensures prefix_len { IsPrefixLen result.len out.new }
+    ensures prefix_len { IfSome result (λ n. IsPrefixLen n out.new) }
 {
     let len = len as usize;
     match ihex::read(text, base, len, out) {
-        TextAnswer::Read => Made { len, done: true },
-        TextAnswer::Refused(refusal, line) => {
+        Ok(()) => Some(len),
+        Err(Fault { refusal, line }) => {
             refuse(rt, text, refusal, line);
-            Made {
-                len: 0,
-                done: false,
-            }
+            None
         }
     }
 }

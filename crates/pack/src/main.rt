@@ -10,8 +10,8 @@ mod make;
 ghost use Rattle.std.specs.Prelude.{◌≡◌, ◌*◌, length};
 ghost use Rattle.merkle.specs.Limits.{max_blocks};
 
-use decimal::Parsed;
-use files::FileRead;
+use files::NotRead;
+use sender::{Image, Job};
 use std::env::{Env, FillError};
 use std::io;
 
@@ -36,13 +36,13 @@ fn argument_count(rt: &HostRuntime) -> usize {
 }
 
 // Argument i as a number; one that is none is told by its name.
-fn argument(rt: &HostRuntime, i: usize, name: &str) -> Parsed {
+fn argument(rt: &HostRuntime, i: usize, name: &str) -> Option<u32> {
     let mut text = [0u8; 4096];
     let number = match rt.arg(i, &mut text) {
         Ok(len) => decimal::parse(&text[..len]),
-        Err(_) => Parsed::Wrong,
+        Err(_) => None,
     };
-    if let Parsed::Wrong = number {
+    if number.is_none() {
         let _ = eprintln!(rt; "{name}: not a number from 0 to 4294967295 in base ten");
     }
     number
@@ -55,10 +55,7 @@ fn print_length(rt: &impl Print, name: &str, len: usize) -> io::Result<()> {
 
 fn with_signature(
     rt: &HostRuntime,
-    image: &[u8],
-    len: u32,
-    model: u32,
-    serial: u32,
+    job: &Job,
     signature: &[u8],
     manifest: &[u8],
 ) -> io::Result<()> {
@@ -73,11 +70,9 @@ fn with_signature(
         return Ok(());
     }
     let mut bundle = [0u8; bundle::BUNDLE_LEN];
-    let made = make::bundle(rt, image, len, model, serial, signature, &mut bundle);
-    if !made.done {
+    let Some(n) = make::bundle(rt, job, signature, &mut bundle) else {
         return Ok(());
-    }
-    let n = made.len;
+    };
     if files::save_both(rt, manifest, &bundle[..n]) {
         print_length(rt, "slip.bin", manifest.len())?;
         print_length(rt, "bundle.bin", n)?;
@@ -93,29 +88,25 @@ fn without_signature(rt: &HostRuntime, manifest: &[u8]) -> io::Result<()> {
     Ok(())
 }
 
-fn with_image(rt: &HostRuntime, image: &[u8], len: u32, model: u32, serial: u32) -> io::Result<()> {
+fn with_image(rt: &HostRuntime, arguments: Arguments, image: &[u8]) -> io::Result<()> {
+    let job = Job {
+        image: Image {
+            bytes: image,
+            block_len: arguments.block_len,
+        },
+        model: arguments.model,
+        serial: arguments.serial,
+    };
     let mut manifest = [0u8; wire::MANIFEST_LEN];
-    let made = make::manifest(rt, image, len, model, serial, &mut manifest);
-    if !made.done {
+    if make::manifest(rt, &job, &mut manifest).is_none() {
         return Ok(());
     }
     // A longer signature fits no bundle.
     let mut signature = [0u8; bundle::BUNDLE_LEN];
-    let input = files::read(rt, "signature.bin", &mut signature);
-    let n = input.len;
-    let found = input.found;
-    match found {
-        FileRead::Whole => with_signature(
-            rt,
-            image,
-            len,
-            model,
-            serial,
-            &signature[..n],
-            &manifest,
-        ),
-        FileRead::Missing => without_signature(rt, &manifest),
-        FileRead::Unusable => Ok(()),
+    match files::read(rt, "signature.bin", &mut signature) {
+        Ok(n) => with_signature(rt, &job, &signature[..n], &manifest),
+        Err(NotRead::Missing) => without_signature(rt, &manifest),
+        Err(NotRead::Unusable) => Ok(()),
     }
 }
 
@@ -128,6 +119,15 @@ enum Source {
     Hex(u32, u32),
 }
 
+// What the program was called with.
+#[derive(Clone, Copy)]
+struct Arguments {
+    block_len: u32,
+    model: u32,
+    serial: u32,
+    source: Source,
+}
+
 fn name_of(source: Source) -> &'static str {
     match source {
         Source::Binary => "image.bin",
@@ -135,90 +135,60 @@ fn name_of(source: Source) -> &'static str {
     }
 }
 
-fn with_file(
-    rt: &HostRuntime,
-    source: Source,
-    file: &[u8],
-    len: u32,
-    model: u32,
-    serial: u32,
-) -> io::Result<()> {
-    match source {
-        Source::Binary => with_image(rt, file, len, model, serial),
+fn with_file(rt: &HostRuntime, arguments: Arguments, file: &[u8]) -> io::Result<()> {
+    match arguments.source {
+        Source::Binary => with_image(rt, arguments, file),
         Source::Hex(base, image_len) => {
             let mut image = hex::buffer();
-            let made = hex::image(rt, file, base, image_len, &mut image);
-            let n = made.len;
-            if made.done {
-                with_image(rt, &image[..n], len, model, serial)?;
+            match hex::image(rt, file, base, image_len, &mut image) {
+                Some(n) => with_image(rt, arguments, &image[..n]),
+                None => Ok(()),
             }
-            Ok(())
         }
     }
 }
 
-fn with_source(
-    rt: &HostRuntime,
-    source: Source,
-    len: u32,
-    model: u32,
-    serial: u32,
-) -> io::Result<()> {
-    let name = name_of(source);
-    // Room for the longest image; a text may be as long.
+fn with_arguments(rt: &HostRuntime, arguments: Arguments) -> io::Result<()> {
+    let name = name_of(arguments.source);
+    // Room for the longest image; a text may be as long. A buffer, and no `Vec` of the whole file: so the memory is fixed, however long a file is.
     let mut file = image_buffer();
-    let input = files::read(rt, name, &mut file);
-    let n = input.len;
-    let found = input.found;
-    match found {
-        FileRead::Whole => with_file(rt, source, &file[..n], len, model, serial)?,
-        FileRead::Missing => {
+    match files::read(rt, name, &mut file) {
+        Ok(n) => with_file(rt, arguments, &file[..n])?,
+        Err(NotRead::Missing) => {
             let _ = eprintln!(rt; "{name}: missing");
         }
-        FileRead::Unusable => {}
+        Err(NotRead::Unusable) => {}
     }
     Ok(())
 }
 
-// BASE and LENGTH.
-fn with_place(rt: &HostRuntime, len: u32, model: u32, serial: u32) -> io::Result<()> {
-    let Parsed::Number(base) = argument(rt, 4, "BASE") else {
-        return Ok(());
-    };
-    let Parsed::Number(image_len) = argument(rt, 5, "LENGTH") else {
-        return Ok(());
-    };
-    with_source(rt, Source::Hex(base, image_len), len, model, serial)
-}
-
-// BLOCK, MODEL and SERIAL, and where `hex` is set the other two.
-fn with_numbers(rt: &HostRuntime, hex: bool) -> io::Result<()> {
-    let Parsed::Number(len) = argument(rt, 1, "BLOCK") else {
-        return Ok(());
-    };
-    let Parsed::Number(model) = argument(rt, 2, "MODEL") else {
-        return Ok(());
-    };
-    let Parsed::Number(serial) = argument(rt, 3, "SERIAL") else {
-        return Ok(());
-    };
-    if hex {
-        with_place(rt, len, model, serial)
-    } else {
-        with_source(rt, Source::Binary, len, model, serial)
-    }
+// BLOCK, MODEL and SERIAL, and where `hex` is set BASE and LENGTH. The first that is no number is told.
+fn given(rt: &HostRuntime, hex: bool) -> Option<Arguments> {
+    Some(Arguments {
+        block_len: argument(rt, 1, "BLOCK")?,
+        model: argument(rt, 2, "MODEL")?,
+        serial: argument(rt, 3, "SERIAL")?,
+        source: if hex {
+            Source::Hex(argument(rt, 4, "BASE")?, argument(rt, 5, "LENGTH")?)
+        } else {
+            Source::Binary
+        },
+    })
 }
 
 fn main(rt: HostRuntime) -> io::Result<()> {
-    let count = argument_count(&rt);
-    if count == 4 {
-        with_numbers(&rt, false)
-    } else if count == 6 {
-        with_numbers(&rt, true)
-    } else {
-        let _ = eprintln!(rt;
-            "usage: pack BLOCK MODEL SERIAL, in a folder with image.bin; or pack BLOCK MODEL SERIAL BASE LENGTH, in one with image.hex"
-        );
-        Ok(())
+    let hex = match argument_count(&rt) {
+        4 => false,
+        6 => true,
+        _ => {
+            let _ = eprintln!(rt;
+                "usage: pack BLOCK MODEL SERIAL, in a folder with image.bin; or pack BLOCK MODEL SERIAL BASE LENGTH, in one with image.hex"
+            );
+            return Ok(());
+        }
+    };
+    match given(&rt, hex) {
+        Some(arguments) => with_arguments(&rt, arguments),
+        None => Ok(()),
     }
 }

@@ -1,20 +1,13 @@
 // The bytes of slip.bin and bundle.bin. A refusal is told on standard error by its word.
-ghost use Rattle.std.specs.Prelude.{◌≡◌};
+ghost use Rattle.std.specs.Prelude.{◌≡◌, IfSome};
 ghost use Rattle.streams.specs.Counts.{IsPrefixLen};
-ghost use Rattle.sender.specs.Job.{in_blocks, job};
+ghost use Rattle.sender.specs.Given.{job_of};
 ghost use Rattle.sender.specs.Send.{Does, send_manifest};
 ghost use Rattle.bundle.specs.Bundle.{send_bundle};
 ghost use Rattle.pack.specs.Make.{made};
 
-use sender::Sent;
+use sender::Job;
 use wire::Refusal;
-
-// How many bytes were made: none where nothing is done.
-#[derive(Drop)]
-pub struct Made {
-    pub len: usize,
-    pub done: bool,
-}
 
 // To standard error: a line with a number. That it cannot be told changes nothing.
 pub fn print_error(rt: &impl Eprint, before: &str, number: usize, after: &str) {
@@ -39,47 +32,30 @@ fn refuse(rt: &impl Eprint, refusal: Refusal) {
     }
 }
 
-fn made_of(rt: &impl Eprint, sent: Sent) -> Made
+// How many bytes were made. What was not made is told.
+fn made_of(rt: &impl Eprint, sent: Result<usize, Refusal>) -> Option<usize>
     ensures { result ≡ made sent }
 {
     match sent {
-        Sent::Written(len) => Made { len, done: true },
-        Sent::Refused(refusal) => {
+        Ok(len) => Some(len),
+        Err(refusal) => {
             refuse(rt, refusal);
-            Made {
-                len: 0,
-                done: false,
-            }
+            None
         }
     }
 }
 
 // The manifest, for signing.
-pub fn manifest(
-    rt: &impl Eprint,
-    image: &[u8],
-    len: u32,
-    model: u32,
-    serial: u32,
-    out: &mut [u8],
-) -> Made
-    ensures { Does made (send_manifest (job (in_blocks image.now len) model serial) out.old) result out.new }
+pub fn manifest(rt: &impl Eprint, job: &Job, out: &mut [u8]) -> Option<usize>
+    ensures { Does made (send_manifest (job_of job.now) out.old) result out.new }
 {
-    made_of(rt, sender::manifest(image, len, model, serial, out))
+    made_of(rt, job.manifest(out))
 }
 
 // The bundle, without filler.
-pub fn bundle(
-    rt: &impl Eprint,
-    image: &[u8],
-    len: u32,
-    model: u32,
-    serial: u32,
-    signature: &[u8],
-    out: &mut [u8],
-) -> Made
-    ensures does { Does made (send_bundle (job (in_blocks image.now len) model serial) signature.now out.old) result out.new }
-    ensures prefix_len { IsPrefixLen result.len out.new }
+pub fn bundle(rt: &impl Eprint, job: &Job, signature: &[u8], out: &mut [u8]) -> Option<usize>
+    ensures does { Does made (send_bundle (job_of job.now) signature.now out.old) result out.new }
+    ensures prefix_len { IfSome result (λ len. IsPrefixLen len out.new) }
 {
-    made_of(rt, bundle::pack(image, len, model, serial, signature, out))
+    made_of(rt, bundle::pack(job, signature, out))
 }

@@ -1,8 +1,8 @@
 -- What the tests of size and number leave to the sender, and the lengths that follow.
-use mathlib.Core.Path.{◌≡◌, refl, sym, ap, ap₂, ◌∙◌}
-use mathlib.Core.Bool.{Bool, true, false, cond}
+use mathlib.Core.Path.{◌≡◌, sym, ap, ◌∙◌}
+use mathlib.Core.Bool.{false}
 use mathlib.Core.List.{List}
-use Prim.Native.Nat.{ℕ, pred, ◌+◌, ◌-◌, ◌*◌, ◌≤◌, ◌<◌}
+use Prim.Native.Nat.{ℕ, pred, ◌+◌, ◌-◌, ◌*◌, ◌^◌, ◌≤◌, ◌<◌}
 use native.Mathlib.Omega.{arith}
 use lib.ListN.{length, take}
 use lib.Seq.{take-length}
@@ -11,65 +11,65 @@ use Rattle.merkle.specs.Limits.{max_blocks, hash_length}
 use Rattle.merkle.specs.Blocks.{block_count, cut}
 use Rattle.merkle.specs.Frontier.{carried_count}
 use Rattle.merkle.specs.Path.{leaf_depth}
-use Rattle.wire.specs.declared.kind.Kind.TheVariants.{Block}
-use Rattle.wire.specs.declared.refusal.Refusal.TheVariants.{Size, Turn}
+use Rattle.wire.specs.declared.kind.Kind.TheVariants.{Block, Update}
+use Rattle.wire.specs.declared.geometry.Geometry.{Geometry}
 use Rattle.wire.specs.Size.{wrong_size, outside}
 use Rattle.wire.specs.Geometry.{block_length}
 use Rattle.wire.specs.Message.{least_length, due_length, least_update, least_path}
-use Rattle.wire.proofs.SizeLaws.{Sized, sized, inside}
+use Rattle.wire.proofs.SizeLaws.{sized, inside}
 use Rattle.wire.proofs.MessageLaws.{due-length}
-use Rattle.sender.specs.declared.send.Numbered.{Numbered}
-use Rattle.sender.specs.declared.send.Numbered.TheVariants.{Blocks, Refused}
-use Rattle.sender.specs.Job.{in_blocks, count, blocks, block_for}
+use Rattle.sender.specs.Job.{Image, Job, count, blocks, block_for, update_for, path_for}
+use Rattle.sender.specs.Given.{LengthsOf}
 use Rattle.sender.proofs.JobLaws as job
 
--- what `count_for` answers
-abbrev pub count_for : (L T i : ℕ) → Numbered
-count_for L T i = cond (wrong_size L T) (Refused Size) (cond (outside (block_count L T) i) (Refused Turn) (Blocks (block_count L T)))
+module _ {x : Image} {g : Geometry} (of : LengthsOf x g) where
+  pub size : wrong_size x.block_len (length x.bytes) ≡ false
+  size = rw (← of.block_len, ← of.image_len) g.allowed
 
--- What the tests of size and number leave: n blocks, and a number among them.
-module _ (image : List ℕ) (len number n : ℕ) where
-  pub record Tested : Type 0 where
-    pub size : wrong_size len (length image) ≡ false
-    pub sized : Sized len (length image)
-    pub count : n ≡ block_count len (length image)
-    pub inside : outside (block_count len (length image)) number ≡ false
-    pub low : 0 < number
-    pub high : number ≤ n
-    pub few : n ≤ max_blocks
-    pub held : (n - 1) * len ≤ length image
+  pub counted : block_count g.block_len g.image_len ≡ count x
+  unfolding count
+  counted = rw (of.block_len, of.image_len)
 
-  counted : (w o : Bool) {k : ℕ} → Blocks n ≡ cond w (Refused Size) (cond o (Refused Turn) (Blocks k)) → (w ≡ false) × (o ≡ false) × (n ≡ k)
-  counted true o e = (cc, cc, cc)
-  counted false true e = (cc, cc, cc)
-  counted false false e = (refl, refl, cc)
+  -- what the tree asks of the blocks, at their number n
+  pub blocks-fit : (n : ℕ) → n ≡ block_count g.block_len g.image_len → (0 < n) × (n ≤ max_blocks) × ((n - 1) * g.block_len ≤ length x.bytes) × (g.block_len ≤ 1024)
+  blocks-fit n e = let z = sized g.block_len g.image_len g.allowed in rw e (z.first, z.count, omega (arith, z.below, of.image_len), z.most)
 
-  pub tested : Blocks n ≡ count_for len (length image) number → Tested
-  tested e =
-      let k = counted (wrong_size len (length image)) (outside (block_count len (length image)) number) e in
-      let z = sized len (length image) k.0 in
-      let i = inside (block_count len (length image)) number k.1 in
-      record { size = k.0; sized = z; count = k.2; inside = k.1; low = i.0; high = rw k.2 i.1; few = rw k.2 z.count; held = rw k.2 (omega (arith, z.below)) }
+  -- a number that is not refused
+  module _ (i : ℕ) (o : outside (count x) i ≡ false) where
+    pub in-range : (0 < i) × (i ≤ block_count g.block_len g.image_len)
+    in-range = let r = inside (count x) i o in (r.0, rw counted r.1)
 
-  -- the block that the code cuts out, its length, the message's, and the hashes in it
-  module _ (t : Tested) where
-    pub own : {block : List ℕ} → block ≡ cut len (take (length image) image) (pred number) → block ≡ blocks (in_blocks image len) (number - 1)
-    unfolding blocks
-    own e = let z : pred number ≡ number - 1 = omega arith in e ∙ ap₂ (λ x i. cut len x i) (take-length image) z
+    pub fits-number : i < 2 ^ 16
+    fits-number = let r = in-range in let z = sized g.block_len g.image_len g.allowed in omega (arith, r.1, z.count)
 
-    pub one : {block : List ℕ} → block ≡ cut len (take (length image) image) (pred number) → length block ≡ block_length len (length image) number
-    one e =
-        let z : number - 1 ≡ pred number = omega arith in
-        ap length (own e) ∙ ap (λ i. length (blocks (in_blocks image len) i)) z ∙ job.length-one (in_blocks image len) number t.low
+    -- the block that the code cuts out, and its length
+    module _ {block : List ℕ} (e : block ≡ cut g.block_len (take g.image_len x.bytes) (pred i)) where
+      pub own : block ≡ blocks x (pred i)
+      unfolding blocks
+      own = e ∙ rw (of.block_len, of.image_len, take-length x.bytes)
 
-    pub due : length (block_for digest (in_blocks image len) number) ≡ due_length len (length image) number
-    unfolding count
-    due = job.length-block (in_blocks image len) number t.low
+      pub one : length block ≡ block_length g.block_len g.image_len i
+      one = rw (of.block_len, of.image_len) (ap length own ∙ job.length-one x i in-range.0)
 
-    pub parts : due_length len (length image) number ≡ least_length Block + block_length len (length image) number + hash_length * carried_count n (number - 1 + 1)
-    parts = sym (due-length len (length image) number (carried_count n (number - 1 + 1)) t.low (ap (λ (x : ℕ). carried_count x (number - 1 + 1)) t.count))
+      -- block message and path update, by the hashes that the code writes
+      pub due-parts : (n k : ℕ) → n ≡ count x → k ≡ due_length g.block_len g.image_len i
+          → k ≡ least_length Block + length block + hash_length * carried_count n (i - 1 + 1)
+      due-parts n k en ek =
+          let d = due-length g.block_len g.image_len i (carried_count n (i - 1 + 1)) in-range.0 (ap (λ (y : ℕ). carried_count y (i - 1 + 1)) (en ∙ sym counted)) in
+          omega (arith, one, d, ek)
 
-    -- the length of an update by a path, from the siblings that the code writes
-    pub path-parts : least_path len (length image) number ≡ least_update len (length image) number + hash_length * leaf_depth n (number - 1)
-    unfolding least_path
-    path-parts = let e : number - 1 ≡ pred number = omega (arith, t.low) in rw (e, t.count)
+      pub path-parts : (n k : ℕ) → n ≡ count x → k ≡ least_path g.block_len g.image_len i
+          → k ≡ least_length Update + length block + hash_length * leaf_depth n (i - 1)
+      unfolding least_path least_update
+      path-parts n k en ek = let p : i - 1 ≡ pred i = omega (arith, in-range.0) in rw (en ∙ sym counted, p) (omega (arith, one, ek))
+
+    -- the lengths of the messages themselves
+    pub block-long : (k : ℕ) → k ≡ due_length g.block_len g.image_len i → length (block_for digest x i) ≡ k
+    block-long k e = job.length-block x i in-range.0 ∙ sym (rw (← of.block_len, ← of.image_len) e)
+
+module _ (j : Job) {g : Geometry} (of : LengthsOf j.image g) (i : ℕ) (o : outside (count j.image) i ≡ false) (signature : List ℕ) where
+  pub update-long : (k : ℕ) → k ≡ least_update g.block_len g.image_len i → length (update_for digest j i signature) ≡ k + length signature
+  update-long k e = job.length-update j i (in-range of i o).0 signature ∙ ap (λ (y : ℕ). y + length signature) (sym (rw (← of.block_len, ← of.image_len) e))
+
+  pub path-long : (k : ℕ) → k ≡ least_path g.block_len g.image_len i → length (path_for digest j i signature) ≡ k + length signature
+  path-long k e = job.length-path j i (in-range of i o).0 signature ∙ ap (λ (y : ℕ). y + length signature) (sym (rw (← of.block_len, ← of.image_len) e))

@@ -1,7 +1,6 @@
 -- The lengths of what the sender writes: manifest and messages are as long as the papers say.
 use mathlib.Core.Path.{◌≡◌, ap, ◌∙◌}
-use mathlib.Core.Bool.{Bool, true, false, cond}
-use mathlib.Core.List.{List, [], ◌++◌, append-nil}
+use mathlib.Core.List.{List, ◌++◌}
 use Prim.Native.Nat.{ℕ, suc, pred, ◌+◌, ◌-◌, ◌<◌}
 use native.Mathlib.Omega.{arith}
 use lib.ListN.{length}
@@ -18,7 +17,6 @@ use Rattle.merkle.proofs.HashLaws.{length-hash}
 use Rattle.merkle.proofs.FitsLaws.{length-sent}
 use Rattle.merkle.proofs.PathWritingLaws.{length-sent-path}
 use Rattle.wire.specs.declared.kind.Kind.TheVariants.{Program}
-use Rattle.wire.specs.declared.manifest.Manifest.{Manifest}
 use Rattle.wire.specs.Manifest.{manifest_length, written}
 use Rattle.wire.specs.Geometry.{block_length}
 use Rattle.wire.specs.Message.{least_length, due_length, least_update, least_path, successor_head, block_message}
@@ -82,25 +80,18 @@ lengths j =
     }
 
 -- a block's message, from the parts that the code writes
-pub block_is : (x : Image) (n i : ℕ) (block hashes : List ℕ) → n ≡ count x → block ≡ blocks x (i - 1)
+pub block_is : (x : Image) (n i : ℕ) (block hashes : List ℕ) → n ≡ count x → block ≡ blocks x (pred i)
     → hashes ≡ sent (plain digest) n (blocks x) (i - 1) → block_message i block hashes ≡ block_for digest x i
 unfolding block_for
-block_is x n i block hashes e f g = let p : pred i ≡ i - 1 = omega arith in rw p (cc)
+block_is x n i block hashes e f g = let p : pred i ≡ i - 1 = omega arith in cc
 
--- an update, by a path or not: kinds 4 and 3
-abbrev pub successor_for : Bool → Job → ℕ → List ℕ → List ℕ
-successor_for path = cond path (path_for digest) (update_for digest)
+-- the updates, from the parts that the code writes: head, block, siblings, signature
+module _ (j : Job) (i : ℕ) (block signature : List ℕ) (e : block ≡ blocks j.image (pred i)) where
+  pub update-is : successor_head 3 (manifest_for digest j) i block ++ signature ≡ update_for digest j i signature
+  unfolding update_for
+  update-is = update-whole (manifest_for digest j) i block signature ∙ cc
 
-pub successor-is : (path : Bool) (j : Job) (n i k : ℕ) (m : Manifest) (block siblings signature : List ℕ) → k ≡ cond path 4 3 → m ≡ manifest_for digest j → n ≡ count j.image
-    → block ≡ blocks j.image (i - 1) → siblings ≡ cond path (sent_path (plain digest) n (blocks j.image) (i - 1)) []
-    → (successor_head k m i block ++ siblings) ++ signature ≡ successor_for path j i signature
-unfolding path_for update_for
-successor-is true j n i k m block siblings signature ek em en eb es = let p : pred i ≡ i - 1 = omega arith in rw p (cc (path-whole m i block siblings signature))
-successor-is false j n i k m block siblings signature ek em en eb es =
-    let p : pred i ≡ i - 1 = omega arith in
-    rw p (cc (append-nil (successor_head 3 m i block), update-whole m i block signature))
-
-pub length-successor : (path : Bool) (j : Job) (i : ℕ) → 0 < i → (signature : List ℕ)
-    → length (successor_for path j i signature) ≡ cond path least_path least_update j.image.block_len (length j.image.bytes) i + length signature
-length-successor true = length-path
-length-successor false = length-update
+  pub path-is : (n : ℕ) (siblings : List ℕ) → n ≡ count j.image → siblings ≡ sent_path (plain digest) n (blocks j.image) (i - 1)
+      → (successor_head 4 (manifest_for digest j) i block ++ siblings) ++ signature ≡ path_for digest j i signature
+  unfolding path_for
+  path-is n siblings en es = let p : pred i ≡ i - 1 = omega arith in path-whole (manifest_for digest j) i block siblings signature ∙ cc

@@ -1,6 +1,5 @@
 -- What the sender answers, and what it leaves in the caller's buffer. It refuses 5, 11, 8 in this order.
-use Rattle.std.specs.Prelude.{◌≡◌, Bool, List, [], ◌∷◌, ℕ, ltb, length}
-use Rattle.std.proofs.Math.Option.{none, some}
+use Rattle.std.specs.Prelude.{◌≡◌, Bool, None, Some, Result, Ok, Err, List, [], ◌∷◌, ℕ, ltb, length}
 use Rattle.sha256.specs.Sha256.{digest}
 use Rattle.wire.specs.declared.refusal.Refusal.{Refusal}
 use Rattle.wire.specs.declared.refusal.Refusal.TheVariants.{Size, Turn, Area}
@@ -8,9 +7,17 @@ use Rattle.wire.specs.Refusal.{refusal_number, first_that_applies}
 use Rattle.wire.specs.Size.{wrong_size, outside}
 use Rattle.wire.specs.Manifest.{written}
 use Rattle.wire.specs.Message.{at_start}
-use Rattle.sender.specs.declared.send.Sent.{Sent}
-use Rattle.sender.specs.declared.send.Sent.TheVariants.{Written, Refused}
 use Rattle.sender.specs.Job.{Image, Job, count, manifest_for, program_for, block_for, update_for, path_for}
+
+-- the sender's answer: how many bytes were written, or the refusal
+abbrev pub Sent : Type 0
+Sent = Result ℕ Refusal
+
+abbrev pub Written : ℕ → Sent
+Written k = Ok k
+
+abbrev pub Refused : Refusal → Sent
+Refused r = Err r
 
 pub record SendOutcome : Type 0 where
   pub answer : Sent
@@ -18,13 +25,13 @@ pub record SendOutcome : Type 0 where
 
 -- how many bytes an answer says were written
 abbrev pub length_of : Sent → ℕ
-length_of (Written k) = k
-length_of (Refused r) = 0
+length_of (Ok k) = k
+length_of (Err r) = 0
 
 -- the number of an answer: 0, or 01's number of the refusal
 abbrev pub sent_number : Sent → ℕ
-sent_number (Written k) = 0
-sent_number (Refused r) = refusal_number r
+sent_number (Ok k) = 0
+sent_number (Err r) = refusal_number r
 
 -- A function does what s says: it returns the answer of s, in the form that its caller gets, and it leaves the buffer of s.
 pub record Does {A : Type 0} (form : Sent → A) (s : SendOutcome) (answer : A) (buffer : List ℕ) : Type 0 where
@@ -39,8 +46,8 @@ as_is answer = answer
 unfoldable pub send : List (Refusal × Bool) → (bytes buffer : List ℕ) → SendOutcome
 send refusals bytes buffer =
     elim (first_that_applies refusals) [
-      | none ↦ record { answer = Written (length bytes); buffer = at_start bytes buffer }
-      | some r ↦ record { answer = Refused r; buffer = buffer }
+      | None ↦ record { answer = Written (length bytes); buffer = at_start bytes buffer }
+      | Some r ↦ record { answer = Refused r; buffer = buffer }
     ]
 
 unfoldable pub too_short : (bytes buffer : List ℕ) → Bool

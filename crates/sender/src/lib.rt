@@ -2,7 +2,6 @@
 // alone: no second copy, no table of hashes. Every function ends in an answer for all inputs; after a refusal the buffer is as before.
 #![tactic(auto)]
 
-mod image;
 mod send;
 
-pub use send::{Sent, block, manifest, path_update, program, update};
+pub use send::{Image, Job};

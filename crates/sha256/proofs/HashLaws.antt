@@ -1,7 +1,7 @@
 -- The hash value over the blocks of a message that grows, and the digest from the bytes after the whole blocks.
-use Rattle.std.proofs.Common.{◌≡◌, ℕ, zero, suc, ◌+◌, ◌-◌, ◌*◌, ◌/◌, ◌%◌, ◌^◌, ◌≤◌, List, ◌++◌, length, take, drop, sym, refl, ap, ◌∙◌, ap₂, mul-suc, mul-add, arith, length-append, length-drop, take_all, drop-drop}
+use Rattle.std.proofs.Common.{◌≡◌, ℕ, zero, suc, ◌+◌, ◌*◌, ◌/◌, ◌%◌, ◌^◌, ◌≤◌, ◌<◌, List, [], ◌++◌, length, get_or, take, drop, sym, refl, ap, ◌∙◌, ap₂, add-one, mul-suc, mul-add, arith, length-append, length-drop, take_all, drop-drop}
 use lib.Seq.{take-append-le, drop-append-le}
-use Rattle.octets.proofs.CopyLaws.{part-from}
+use Rattle.std.specs.Simd.{first_chunks}
 use Rattle.sha256.specs.Sha256.{hash_value, block, compress, H0, digest, concatenated, pad, padding}
 use Rattle.sha256.specs.Context.{Pending}
 
@@ -75,18 +75,15 @@ pub digest-block : (m x : List ℕ) → pad m ≡ x → length x ≡ 64 → conc
 unfolding digest
 digest-block m x e l = ap concatenated (sym (hash-one H0 x l) ∙ ap (λ (y : List ℕ). hash_value H0 (length y / 64) y) (sym e))
 
--- a turn over the whole blocks of s
-pub hash-more : (H s : List ℕ) (i : ℕ) {g r : List ℕ} → i % 64 ≡ 0 → g ≡ hash_value H (i / 64) s → r ≡ compress g (take (i + 64 - i) (drop i s))
-    → r ≡ hash_value H ((i + 64) / 64) s
-unfolding hash_value block
-hash-more H s i z e f =
-    let a : (i + 64) / 64 ≡ suc (i / 64) = omega arith in
-    let b : i + 64 - i ≡ 64 = omega arith in
-    let d : 64 * (i / 64) ≡ i = omega arith in
-    rw a (f ∙ ap₂ compress e (ap (λ (k : ℕ). take k (drop i s)) b ∙ ap (λ (k : ℕ). take 64 (drop k s)) (sym d)))
+-- the whole blocks of s, as the library cuts them
+chunk-is : (k i : ℕ) (s : List ℕ) → i < k → get_or (first_chunks 64 k s) i [] ≡ block i s
+unfolding block
+chunk-is zero i s h = absurd (omega arith)
+chunk-is (suc k) zero s h = refl
+chunk-is (suc k) (suc i) s h = chunk-is k i (drop 64 s) (omega arith) ∙ sym (block-later 1 i s) ∙ ap (λ (n : ℕ). block n s) (omega arith)
 
--- what follows the whole blocks of s, as the code cuts it out
-pub rest_of : (s : List ℕ) → take (length s - length s / 64 * 64) (drop (length s / 64 * 64) s) ≡ drop (64 * (length s / 64)) s
-rest_of s =
-    let e : length s / 64 * 64 ≡ 64 * (length s / 64) = omega arith in
-    part-from s (length s / 64 * 64) ∙ ap (λ (k : ℕ). drop k s) e
+-- a turn over them
+pub hash-more : (H s : List ℕ) (i : ℕ) {g r : List ℕ} {bs : List (List ℕ)} → i < length s / 64 → bs ≡ first_chunks 64 (length s / 64) s → g ≡ hash_value H i s
+    → r ≡ compress g (get_or bs i []) → r ≡ hash_value H (i + 1) s
+unfolding hash_value
+hash-more H s i h c e f = rw (add-one i) (f ∙ ap₂ compress e (ap (λ (bs : List (List ℕ)). get_or bs i []) c ∙ chunk-is (length s / 64) i s h))

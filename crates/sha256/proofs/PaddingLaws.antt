@@ -133,3 +133,6 @@ pub closed : (b l : List ℕ) (t : ℕ) → length b ≡ 64 → l ≡ bytes 8 ((
 closed b l t e f =
     let g : l ≡ bytes 8 (8 * t) = shifted t f in
     paste-end b l 56 (omega (arith, ap length g, length-bytes 8 (8 * t))) ∙ ap (λ (x : List ℕ). take 56 b ++ x) g
+
+-- how long a padding is, for the goals of the code that makes one
+pub ruleset padding_lengths = (length-padding)

@@ -1,5 +1,5 @@
 // The hash value after more blocks (FIPS 180-4, 6.2.2).
-ghost use Rattle.std.specs.Prelude.{◌≡◌, ◌/◌, length};
+ghost use Rattle.std.specs.Prelude.{◌≡◌, ◌*◌, ◌/◌, length, drop};
 ghost use Rattle.sha256.specs.Sha256 as spec;
 
 use crate::functions::add;
@@ -12,36 +12,27 @@ pub const H0: [u32; 8] = [
 ];
 
 // The hash value after one more block.
-pub fn compress(H: &mut [u32; 8], block: &[u8])
-    requires { length block.now ≡ 64 }
+#[tactic(auto, using(crate::proofs::RoundLaws::step_four))]
+pub fn compress(H: &mut [u32; 8], block: &[u8; 64])
     ensures { H.new ≡ spec.compress H.old block.now }
 {
     // Step 1.
     let W = schedule(block);
     // Steps 2 and 3.
-    let before = *H;
-    let v = rounds(before, W);
+    let v = rounds(*H, W);
     // Step 4: v[0] is a, and so on to v[7], which is h.
-    *H = [
-        add(v[0], before[0]),
-        add(v[1], before[1]),
-        add(v[2], before[2]),
-        add(v[3], before[3]),
-        add(v[4], before[4]),
-        add(v[5], before[5]),
-        add(v[6], before[6]),
-        add(v[7], before[7]),
-    ];
+    for i in 0..8 {
+        H[i] = add(v[i], H[i]);
+    }
 }
 
-// The page's loop over the blocks: the hash value after the whole blocks of s, each compressed where it lies.
-pub fn compress_all(H: &mut [u32; 8], s: &[u8])
-    ensures { H.new ≡ spec.hash_value H.old (length s.now / 64) s.now }
+// The page's loop over the blocks: the hash value after the whole blocks of s, each compressed where it lies. The answer is what follows them.
+pub fn compress_all<'a>(H: &mut [u32; 8], s: &'a [u8]) -> &'a [u8]
+    ensures { (H.new ≡ spec.hash_value H.old (length s.now / 64) s.now) × (result.now ≡ drop (64 * (length s.now / 64)) s.now) }
 {
-    let mut from: usize = 0;
-    while 64 <= s.len() - from {
-        let end = from + 64;
-        compress(H, &s[from..end]);
-        from = end;
+    let (blocks, rest) = s.as_chunks::<64>();
+    for block in blocks {
+        compress(H, block);
     }
+    rest
 }

@@ -7,14 +7,14 @@ ghost use Rattle.sha256.specs.Sha256 as spec;
 pub fn add(x: u32, y: u32) -> u32
     ensures { result ≡ spec.word (x + y) }
 {
-    std::num::wrapping_add_u32(x, y)
+    x.wrapping_add(y)
 }
 
 fn ROTR(n: u32, x: u32) -> u32
     requires { (0 < n) × (n < 32) }
     ensures { result ≡ spec.ROTR n x }
 {
-    (x >> n) | (x << (32 - n))
+    x.rotate_right(n)
 }
 
 fn SHR(n: u32, x: u32) -> u32

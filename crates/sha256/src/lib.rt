@@ -25,22 +25,20 @@ pub fn digest(message: &[u8], out: &mut [u8; 32]) -> usize
     ensures { (out.new ≡ spec.digest message.now) × (result ≡ spec.compressions message.now) }
 {
     let mut H = H0;
-    compress_all(&mut H, message);
-    let whole = message.len() / 64 * 64;
-    let used = message.len() - whole;
+    let rest = compress_all(&mut H, message);
+    let used = rest.len();
     let mut b = [0u8; 64];
-    octets::copy(&mut b, 0, &message[whole..]);
+    octets::copy(&mut b, 0, rest);
     // The bit 1 and seven zero bits; the other zero bits stand in b already.
     b[used] = 0x80;
     if 56 <= used {
         compress(&mut H, &b);
         b = [0u8; 64];
     }
-    let bits = octets::be64((message.len() as u64) << 3);
-    octets::copy(&mut b, 56, &bits);
+    let bits = (message.len() as u64) << 3;
+    octets::copy(&mut b, 56, &bits.to_be_bytes());
     compress(&mut H, &b);
-    let hash = concatenated(H);
-    *out = hash;
+    *out = concatenated(H);
     compressions(message.len())
 }
 

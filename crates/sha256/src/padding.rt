@@ -8,13 +8,13 @@ pub fn concatenated(H: [u32; 8]) -> [u8; 32]
 {
     let mut out = [0u8; 32];
     for i in 0..8 {
-        let b = octets::be32(H[i]);
-        octets::copy(&mut out, 4 * i, &b);
+        octets::copy(&mut out, 4 * i, &H[i].to_be_bytes());
     }
     out
 }
 
 // The bytes of the padding of a message of `len` bytes, modulo 2^64: to the end of a block, with room for the length in it.
+#[tactic(auto, using(crate::proofs::PaddingLaws::padding_lengths))]
 pub fn padding_len(len: u64) -> usize
     ensures { result ≡ length (spec.padding (8 * len)) }
 {
@@ -23,13 +23,14 @@ pub fn padding_len(len: u64) -> usize
 }
 
 // The padding itself, which begins the array: the bit 1, zero bits, and the length in bits; at most 72 bytes, behind 56 of a block.
+#[tactic(auto, using(crate::proofs::PaddingLaws::padding_lengths))]
 pub fn padding(len: u64) -> [u8; 72]
     ensures { take (length (spec.padding (8 * len))) result ≡ spec.padding (8 * len) }
 {
     let mut p = [0u8; 72];
     p[0] = 0x80;
-    let bits = octets::be64(len << 3);
-    octets::copy(&mut p, padding_len(len) - 8, &bits);
+    let bits = len << 3;
+    octets::copy(&mut p, padding_len(len) - 8, &bits.to_be_bytes());
     p
 }
 

@@ -24,14 +24,7 @@ pub fn rounds(H: [u32; 8], W: [u32; 64]) -> [u32; 8]
     // K, stored once: a constant that is indexed in a loop is stored anew at each turn.
     let k = K;
     // Step 2.
-    let mut a = H[0];
-    let mut b = H[1];
-    let mut c = H[2];
-    let mut d = H[3];
-    let mut e = H[4];
-    let mut f = H[5];
-    let mut g = H[6];
-    let mut h = H[7];
+    let [mut a, mut b, mut c, mut d, mut e, mut f, mut g, mut h] = H;
     // Step 3, for t from 0 to 63.
     for i in 0..8 {
         for j in 0..8 {

@@ -1,12 +1,11 @@
 // The message schedule (FIPS 180-4, 6.2.2, step 1): all 64 words W, before the rounds.
-ghost use Rattle.std.specs.Prelude.{◌≡◌, ℕ, List, length, take};
+ghost use Rattle.std.specs.Prelude.{◌≡◌, ℕ, List, take};
 ghost use Rattle.sha256.specs.Sha256 as spec;
 
 use crate::functions::{SSIG0, SSIG1, add};
 
 // Step 1: the words W of a block. For t up to 15, W[t] is the block's own word M[t].
-pub fn schedule(block: &[u8]) -> [u32; 64]
-    requires { length block.now ≡ 64 }
+pub fn schedule(block: &[u8; 64]) -> [u32; 64]
     ensures { result ≡ spec.schedule block.now }
 {
     let mut W = [0u32; 64];

@@ -28,10 +28,8 @@ fn counted() -> [u8; 120]
     ensures { 120 ≡ length result }
 {
     let mut bytes = [0u8; 120];
-    let mut i: usize = 0;
-    while i < 120 {
-        bytes[i] = (i % 256) as u8;
-        i += 1;
+    for i in 0..120u8 {
+        bytes[usize::from(i)] = i;
     }
     bytes
 }
@@ -54,27 +52,26 @@ fn show(rt: &impl Print, name: &str, message: &[u8]) -> io::Result<()> {
     println!(rt; " same in two pieces: {same}")
 }
 
-fn cuts(message: &[u8], whole: [u8; 32]) -> u64 {
-    let mut same: u64 = cut(message, 0, whole);
-    let mut at: usize = 0;
-    while at < message.len() {
-        at += 1;
-        same += cut(message, at, whole);
+fn cuts(message: &[u8], whole: [u8; 32]) -> usize {
+    let mut same = 0;
+    for at in 0..=message.len() {
+        if cut(message, at, whole) {
+            same += 1;
+        }
     }
     same
 }
 
-// 1 where the digest in two pieces is that of the whole.
-fn cut(message: &[u8], at: usize, whole: [u8; 32]) -> u64
+// Whether the digest in two pieces is that of the whole.
+fn cut(message: &[u8], at: usize, whole: [u8; 32]) -> bool
     requires { at ≤ length message.now }
-    ensures { result ≤ 1 }
 {
     let mut pieces = [0u8; 32];
     sha256::Context::new()
         .update(&message[..at])
         .update(&message[at..])
         .finish(&mut pieces);
-    if octets::equal(&pieces, &whole) { 1 } else { 0 }
+    pieces == whole
 }
 
 // One million 'a', in one call and in pieces of 1,000.
@@ -86,11 +83,8 @@ fn million(rt: &(impl Print + Alloc)) -> io::Result<()> {
     hex(rt, digest)?;
     let piece = [b'a'; 1000];
     let mut context = sha256::Context::new();
-    let mut i: u32 = 0;
-    while i < 1000 {
-        let next = context.update(&piece);
-        context = next;
-        i += 1;
+    for _ in 0..1000 {
+        context = context.update(&piece);
     }
     print!(rt; "\na thousand times a thousand")?;
     context.finish(&mut digest);
@@ -98,13 +92,11 @@ fn million(rt: &(impl Print + Alloc)) -> io::Result<()> {
     println!(rt)
 }
 
-// A space and the digest's eight words.
+// A space and the digest.
 fn hex(rt: &impl Print, digest: [u8; 32]) -> io::Result<()> {
     print!(rt; " ")?;
-    let mut at: usize = 0;
-    while at < 32 {
-        print!(rt; "{:08x}", octets::u32_at(&digest, at))?;
-        at += 4;
+    for byte in digest {
+        print!(rt; "{byte:02x}")?;
     }
     Ok(())
 }

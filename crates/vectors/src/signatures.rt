@@ -15,30 +15,25 @@ pub fn run(rt: &(impl Files + Print)) -> io::Result<()> {
 fn verdict(file: &[u8], n: u16, taken: u16) -> bool {
     let message_at = 56 + n as usize;
     let end = 56 + taken as usize;
-    if file.len() < message_at {
-        return false;
-    }
-    if file.len() < end {
+    if file.len() < message_at || file.len() < end {
         return false;
     }
     lms::verify(&file[0..56], &file[message_at..], &file[56..end])
 }
 
 fn line(rt: &impl Print, what: &str, accepted: bool) -> io::Result<()> {
-    if accepted {
-        println!(rt; "{what}: accepted")
-    } else {
-        println!(rt; "{what}: rejected")
-    }
+    let answer = if accepted { "accepted" } else { "rejected" };
+    println!(rt; "{what}: {answer}")
 }
 
 fn flip(file: &mut [u8], at: usize) {
     if at < file.len() {
-        file[at] = file[at] ^ 1;
+        file[at] ^= 1;
     }
 }
 
-// For this line one bit of the byte `at` is flipped.
+// For this line one bit of the byte `at` is flipped. The file, the signature's length n and the chains p stay apart here: a value of all three would have to lend the
+// file anew for each line.
 fn changed(rt: &impl Print, what: &str, file: &mut [u8], n: u16, at: usize) -> io::Result<()> {
     flip(file, at);
     line(rt, what, verdict(file, n, n))?;

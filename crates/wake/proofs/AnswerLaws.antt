@@ -8,8 +8,7 @@ use lib.ListN.{length, take, drop, length-drop, drop_of_length-le}
 use lib.Seq.{take_all}
 use Rattle.octets.specs.Octets.{equal}
 use Rattle.octets.proofs.EqualLaws.{equal-self, equal-lengths}
-use Rattle.decimal.specs.declared.reading.Parsed.{Parsed}
-use Rattle.decimal.specs.declared.reading.Parsed.TheVariants.{Number, Wrong}
+use Rattle.std.specs.Prelude.{Option, None, Some}
 use Rattle.decimal.specs.Decimal.{line}
 use Rattle.decimal.proofs.WritingLaws.{decimal-short, length-line}
 use Rattle.merkle.specs.Limits.{max_blocks}
@@ -41,15 +40,15 @@ module _ (input : List ℕ) where
   same : input ≡ lines → equal input lines ≡ true
   same e = ap (equal input) (sym e) ∙ equal-self input
 
-  pub first-wrong : input ≡ lines → Wrong ≡ short_number first → 0 ≡ answer input
+  pub first-wrong : input ≡ lines → None ≡ short_number first → 0 ≡ answer input
   unfolding answer
   first-wrong e f = rw (same e, ← f)
 
-  pub second-wrong : {L : ℕ} → input ≡ lines → Number L ≡ short_number first → Wrong ≡ short_number second → 0 ≡ answer input
+  pub second-wrong : {L : ℕ} → input ≡ lines → Some L ≡ short_number first → None ≡ short_number second → 0 ≡ answer input
   unfolding answer
   second-wrong e f g = rw (same e, ← f, ← g)
 
-  pub both : {L B : ℕ} → input ≡ lines → Number L ≡ short_number first → Number B ≡ short_number second → most_blocks L B ≡ answer input
+  pub both : {L B : ℕ} → input ≡ lines → Some L ≡ short_number first → Some B ≡ short_number second → most_blocks L B ≡ answer input
   unfolding answer
   both e f g = rw (same e, ← f, ← g)
 
@@ -63,10 +62,10 @@ module _ (input : List ℕ) where
   unfolding answer
   answer-few = go (equal input lines) (short_number first) (short_number second)
     where
-      go : (b : Bool) (p q : Parsed) → cond b (elim p [ Wrong ↦ 0 | Number L ↦ elim q [ Wrong ↦ 0 | Number B ↦ most_blocks L B ] ]) 0 ≤ max_blocks
-      go true (Number L) (Number B) = most-few L B
-      go true (Number L) Wrong = omega arith
-      go true Wrong q = omega arith
+      go : (b : Bool) (p q : Option ℕ) → cond b (elim p [ None ↦ 0 | Some L ↦ elim q [ None ↦ 0 | Some B ↦ most_blocks L B ] ]) 0 ≤ max_blocks
+      go true (Some L) (Some B) = most-few L B
+      go true (Some L) None = omega arith
+      go true None q = omega arith
       go false p q = omega arith
 
   -- a line of at most four digits
@@ -118,11 +117,11 @@ module _ (input : List ℕ) where
         unfolding second_line
         second-text = ap₂ {C = List ℕ} take second_is part-is ∙ line-take behind
 
-        pub wrong-length : Wrong ≡ short_number (take i input) → 0 ≡ answer input
+        pub wrong-length : None ≡ short_number (take i input) → 0 ≡ answer input
         wrong-length f = first-wrong whole (f ∙ ap short_number first-text)
 
-        pub wrong-number : {L : ℕ} → Number L ≡ short_number (take i input) → Wrong ≡ short_number (take j (part i)) → 0 ≡ answer input
+        pub wrong-number : {L : ℕ} → Some L ≡ short_number (take i input) → None ≡ short_number (take j (part i)) → 0 ≡ answer input
         wrong-number f g = second-wrong whole (f ∙ ap short_number first-text) (g ∙ ap short_number second-text)
 
-        pub answered : {L B r : ℕ} → Number L ≡ short_number (take i input) → Number B ≡ short_number (take j (part i)) → r ≡ most_blocks L B → r ≡ answer input
+        pub answered : {L B r : ℕ} → Some L ≡ short_number (take i input) → Some B ≡ short_number (take j (part i)) → r ≡ most_blocks L B → r ≡ answer input
         answered f g h = h ∙ both whole (f ∙ ap short_number first-text) (g ∙ ap short_number second-text)

@@ -1,43 +1,18 @@
 -- A line, up to its LF.
-use mathlib.Core.Path.{◌≡◌, refl, ap, ◌∙◌}
+use mathlib.Core.Path.{◌≡◌, refl, ap}
 use mathlib.Core.Bool.{Bool, true, false, cond}
 use mathlib.Core.List.{List, [], ◌∷◌, ◌++◌}
 use Prim.Native.Nat.{ℕ, suc, ◌+◌, ◌≤◌, ◌<◌}
-use native.Mathlib.Numerals.{add-one}
 use native.Mathlib.Omega.{arith}
 use lib.Dec.{eqb}
-use lib.ListN.{length, take, drop, get_or, length-append, drop_of_length-le}
-use lib.Seq.{drop-cons}
-use borrow.Author.Tests.{eq-eqb, ne_eqb, eqb-true}
+use lib.ListN.{length, take, drop, length-append}
+use native.Mathlib.Decide.{dec_lt}
+use borrow.Author.Tests.{eqb-true, lt-ltb, le-ltb}
+use Rattle.std.specs.Prelude.{position}
+use Rattle.std.specs.List.{position_or_len}
+use Rattle.std.specs.Option.{unwrap_or}
+use Rattle.std.proofs.lemmas.List.Recursion.{is_position_or_len}
 use Rattle.wake.specs.Wake.{LF, before_lf}
-
--- before index i, no LF so far
-module _ (text : List ℕ) where
-  pub record Searching (i : ℕ) : Type 0 where
-    pub within : i ≤ length text
-    pub far : length (before_lf text) ≡ i + length (before_lf (drop i text))
-
-  pub search-start : Searching 0
-  search-start = record { within = omega arith; far = omega arith }
-
-  module _ {i : ℕ} (s : Searching i) where
-    pub search-end : length text ≤ i → i ≡ length (before_lf text)
-    unfolding before_lf
-    search-end h = let e : length (before_lf (drop i text)) ≡ 0 = ap (λ r. length (before_lf r)) (drop_of_length-le text {i = i} h) in omega (arith, s.far)
-
-    module _ (h : i < length text) where
-      pub search-found : get_or text i 0 ≡ 10 → i ≡ length (before_lf text)
-      unfolding before_lf
-      search-found f =
-          let e : length (before_lf (drop i text)) ≡ 0 = ap (λ r. length (before_lf r)) (drop-cons text i 0 h) ∙ rw (eq-eqb (get_or text i 0) 10 f) in
-          omega (arith, s.far)
-
-      pub search-next : (get_or text i 0 ≡ 10 → ⊥) → Searching (i + 1)
-      unfolding before_lf
-      search-next f =
-          let e : length (before_lf (drop i text)) ≡ suc (length (before_lf (drop (suc i) text))) =
-          ap (λ r. length (before_lf r)) (drop-cons text i 0 h) ∙ rw (ne_eqb (get_or text i 0) 10 f) in
-          rw (add-one i) (record { within = omega arith; far = omega (arith, s.far) })
 
 -- a line and what stands behind its LF
 pub line-take : (s : List ℕ) → take (length (before_lf s)) s ≡ before_lf s
@@ -68,6 +43,24 @@ line-few (b ∷ bs) = go (eqb b 10) (line-few bs)
     go : (e : Bool) → length (before_lf bs) ≤ length bs → length (cond e [] (b ∷ before_lf bs)) ≤ suc (length bs)
     go true ih = omega arith
     go false ih = omega arith
+
+-- the first LF, or the end where there is none
+pub line-position : (s : List ℕ) → unwrap_or (position (λ b. eqb b 10) s) (length s) ≡ length (before_lf s)
+unfolding before_lf
+line-position s =
+    let p : ℕ → Bool = λ b. eqb b 10 in
+    let is : length (before_lf s) ≡ position_or_len p s =
+    is_position_or_len (λ xs. length (before_lf xs)) p refl (λ x xs. go (eqb x 10) x xs) s in
+    by (dec_lt (position_or_len p s) (length s)) is (omega (arith, is, line-few s))
+  where
+    go : (e : Bool) (x : ℕ) (xs : List ℕ) → length (cond e [] (x ∷ before_lf xs)) ≡ cond e 0 (1 + length (before_lf xs))
+    go true x xs = refl
+    go false x xs = omega arith
+
+    by : Dec (position_or_len (λ b. eqb b 10) s < length s) → length (before_lf s) ≡ position_or_len (λ b. eqb b 10) s → position_or_len (λ b. eqb b 10) s ≤ length s
+        → unwrap_or (position (λ b. eqb b 10) s) (length s) ≡ length (before_lf s)
+    by (yes h) is le = rw (lt-ltb (position_or_len (λ b. eqb b 10) s) (length s) h) (cc)
+    by (no h) is le = rw (le-ltb (position_or_len (λ b. eqb b 10) s) (length s) (omega arith)) (omega arith)
 
 -- two lines have their bytes and two LFs
 pub length_two : (a b : List ℕ) → length (a ++ LF ++ b ++ LF) ≡ length a + 1 + length b + 1

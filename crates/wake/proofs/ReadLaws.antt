@@ -12,8 +12,7 @@ use lib.Seq.{length-take-le, take_all}
 use borrow.Author.Tests.{le-ltb, ne_eqb, ltb-false, eqb-false}
 use Rattle.octets.specs.Octets.{equal}
 use Rattle.octets.proofs.EqualLaws.{equal-true}
-use Rattle.decimal.specs.declared.reading.Parsed.{Parsed}
-use Rattle.decimal.specs.declared.reading.Parsed.TheVariants.{Number, Wrong}
+use Rattle.std.specs.Prelude.{Option, None, Some}
 use Rattle.decimal.specs.Decimal.{digits, value, wrong, parsed}
 use Rattle.wake.specs.Wake.{most_blocks, LF, before_lf, second_line, short_number, answer, input_length}
 use Rattle.wake.specs.Claims.{ShortDigits, TwoLines, LinesRead, ElseZero, CutSame}
@@ -42,22 +41,22 @@ value-below v (d ∷ ds) e =
     omega (arith, mul-le-mul_right (10 ^ length ds) le)
 
 -- such a line is a number, and no other
-number_read : (text : List ℕ) → ShortDigits text → short_number text ≡ Number (value 0 text)
+number_read : (text : List ℕ) → ShortDigits text → short_number text ≡ Some (value 0 text)
 unfolding short_number parsed wrong
 number_read text h =
     let nine : 10 ^ length text ≤ 10 ^ 9 = pow-le-pow_right (omega arith) h.few in
     let small : value 0 text ≤ 4294967295 = omega (arith, value-below 0 text h.all, one-mul (10 ^ length text)) in
     rw (le-ltb 9 (length text) h.few, ne_eqb (length text) 0 (λ z. omega (arith, h.some)), h.all, le-ltb 4294967295 (value 0 text) small)
 
-number-only : (text : List ℕ) (n : ℕ) → short_number text ≡ Number n → ShortDigits text
+number-only : (text : List ℕ) (n : ℕ) → short_number text ≡ Some n → ShortDigits text
 unfolding short_number parsed wrong
 number-only text n e = go (ltb 9 (length text)) (eqb (length text) 0) (digits text) (ltb 4294967295 (value 0 text)) refl refl refl e
   where
-    never : (m : ℕ) → ◌≡◌ {A = Parsed} Wrong (Number m) → ⊥
+    never : (m : ℕ) → ◌≡◌ {A = Option ℕ} None (Some m) → ⊥
     never m f = let z : ◌≡◌ {A = ℕ} 0 1 = cc in omega arith
 
     go : (a b c d : Bool) → ltb 9 (length text) ≡ a → eqb (length text) 0 ≡ b → digits text ≡ c
-        → cond a Wrong (cond (b || (not c || d)) Wrong (Number (value 0 text))) ≡ Number n → ShortDigits text
+        → cond a None (cond (b || (not c || d)) None (Some (value 0 text))) ≡ Some n → ShortDigits text
     go true b c d f g h k = absurd (never n k)
     go false true c d f g h k = absurd (never n k)
     go false false false d f g h k = absurd (never n k)
@@ -107,11 +106,11 @@ else-zero input other = go (equal input (first ++ LF ++ second ++ LF)) (short_nu
     second : List ℕ
     second = second_line input
 
-    go : (e : Bool) (p q : Parsed) → equal input (first ++ LF ++ second ++ LF) ≡ e → short_number first ≡ p → short_number second ≡ q → answer input ≡ 0
+    go : (e : Bool) (p q : Option ℕ) → equal input (first ++ LF ++ second ++ LF) ≡ e → short_number first ≡ p → short_number second ≡ q → answer input ≡ 0
     go false p q f g h = sym (different input f)
-    go true Wrong q f g h = sym (first-wrong input (equal-true _ _ f) (sym g))
-    go true (Number L) Wrong f g h = sym (second-wrong input (equal-true _ _ f) (sym g) (sym h))
-    go true (Number L) (Number B) f g h =
+    go true None q f g h = sym (first-wrong input (equal-true _ _ f) (sym g))
+    go true (Some L) None f g h = sym (second-wrong input (equal-true _ _ f) (sym g) (sym h))
+    go true (Some L) (Some B) f g h =
         absurd (other first second (record { is = equal-true _ _ f; one = number-only first L g; two = number-only second B h }))
 
 -- Two lines have at most 20 bytes, so a longer input is answered 0, and so is what was read of it.

@@ -1,9 +1,7 @@
 -- The program of 02, change 8: "A program reads two lines from standard input, each one to nine base-ten digits and LF, L and a number of compressions, and prints as
 -- one line the largest n up to 1,536 whose block messages before the last all fit, or 0 where the input is anything else, L isn't allowed or n = 2 already doesn't."
-use Rattle.std.specs.Prelude.{Bool, true, cond, ◌&&◌, List, [], ◌∷◌, ◌++◌, ℕ, zero, suc, pred, ◌+◌, ◌*◌, eqb, ltb, leb, length, drop}
+use Rattle.std.specs.Prelude.{Bool, true, cond, ◌&&◌, List, [], ◌∷◌, ◌++◌, ℕ, zero, suc, pred, ◌+◌, ◌*◌, eqb, ltb, leb, length, drop, Option, None, Some}
 use Rattle.octets.specs.Octets.{equal}
-use Rattle.decimal.specs.declared.reading.Parsed.{Parsed}
-use Rattle.decimal.specs.declared.reading.Parsed.TheVariants.{Number, Wrong}
 use Rattle.decimal.specs.Decimal.{ascii, parsed, line}
 use Rattle.sha256.specs.Sha256.{digest}
 use Rattle.merkle.specs.Limits.{max_blocks}
@@ -46,8 +44,8 @@ unfoldable pub second_line : List ℕ → List ℕ
 second_line input = before_lf (drop (suc (length (before_lf input))) input)
 
 -- "one to nine base-ten digits"
-unfoldable pub short_number : List ℕ → Parsed
-short_number text = cond (ltb 9 (length text)) Wrong (parsed text)
+unfoldable pub short_number : List ℕ → Option ℕ
+short_number text = cond (ltb 9 (length text)) None (parsed text)
 
 -- "or 0 where the input is anything else" (in 02's words: Claims, `LinesRead` and `ElseZero`)
 unfoldable pub answer : (input : List ℕ) → ℕ
@@ -55,7 +53,7 @@ answer input =
     let first = before_lf input in
     let second = second_line input in
     cond (equal input (first ++ LF ++ second ++ LF))
-    (elim (short_number first) [ Wrong ↦ 0 | Number L ↦ elim (short_number second) [ Wrong ↦ 0 | Number B ↦ most_blocks L B ] ]) 0
+    (elim (short_number first) [ None ↦ 0 | Some L ↦ elim (short_number second) [ None ↦ 0 | Some B ↦ most_blocks L B ] ]) 0
 
 -- "prints as one line"
 abbrev pub printed : (input : List ℕ) → List ℕ

@@ -10,12 +10,10 @@ pub fn most_blocks(len: usize, budget: usize) -> usize
     if !wire::allowed(len) {
         return 0;
     }
-    let mut n = merkle::MAX_BLOCKS;
-    while 2 <= n {
+    for n in (2..=merkle::MAX_BLOCKS).rev() {
         if merkle::known_cost(len, n, 0, len) <= budget {
             return n;
         }
-        n -= 1;
     }
     0
 }

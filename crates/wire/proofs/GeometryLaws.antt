@@ -9,8 +9,10 @@ use native.Mathlib.Omega.{arith}
 use lib.ListN.{length, take, drop, length-take, length-drop, length-append, take-append-drop}
 use lib.Seq.{paste, length-paste, length-take-le, take_all, take_at, drop_at, take-length, take-take, drop-drop, take-append-le, drop-append-le}
 use Rattle.octets.specs.Octets.{part}
-use Rattle.octets.proofs.CopyLaws.{part-part}
+use Rattle.octets.proofs.CopyLaws.{part-between, part-part}
 use Rattle.merkle.specs.Blocks.{block_count, cut, overlay}
+use Rattle.merkle.proofs.CountLaws.{counted-most}
+use Rattle.merkle.proofs.WayLaws.{depth-few}
 use Rattle.merkle.proofs.ShapeLaws.{lt-or-le}
 use Rattle.merkle.proofs.BlockLaws.{block-count, block-starts, overlay-same, overlay-other, overlay-is, take-blocks, blocks-equal, written}
 use Rattle.wire.specs.declared.manifest.Manifest.{Manifest}
@@ -18,7 +20,7 @@ use Rattle.wire.specs.Size.{wrong_size}
 use Rattle.wire.specs.Geometry.{count_of, block_length, block_start, blocks_of, with_block}
 use Rattle.wire.specs.Message.{at_start}
 use Rattle.wire.specs.Claims.{BlockLengths}
-use Rattle.wire.proofs.SizeLaws.{sized}
+use Rattle.wire.proofs.SizeLaws.{sized, some_lengths}
 
 -- the number of blocks before block i
 pub before-is : (i : ℕ) → i - 1 ≡ pred i
@@ -58,6 +60,13 @@ module _ (L T i : ℕ) (below : i < block_count L T) where
       let e : block_count L T ≡ suc i = omega arith in
       let m : suc i * L ≡ i * L + L = omega arith in
       omega (arith, block-starts L T i below, rw e at blocks-enough)
+
+-- the same of block i, from 1
+pub block-ends : (L T i : ℕ) → 0 < i → i ≤ block_count L T → block_length L T i + (i - 1) * L ≤ T
+block-ends L T i some known =
+    let e : suc (i - 1) ≡ i = omega arith in
+    let within = rw e at (block_within L T (i - 1) (omega arith)) in
+    omega arith
 
 -- the lengths of all n blocks
 pub block-lengths : BlockLengths
@@ -242,3 +251,12 @@ one-changed L v w old i lv below other =
     let enough = blocks-enough L T i below in
     let is : run ≡ w = sym (take_all (n * L) run (omega (arith, length-written L v (suc i) x fits))) ∙ blocks-equal L run w n same ∙ take_all (n * L) w enough in
     with-front L v (drop (length v) old) (suc i) x fits ∙ ap₂ {C = List ℕ} (λ y k. y ++ drop k old) is lv
+
+-- what an allowed size says of a block and of the number of blocks
+pub ruleset allowed = (sized, some_lengths, block-length-few, counted-most, depth-few)
+
+-- where a block starts
+pub ruleset starts = (block-starts)
+
+-- where a block ends, and what stands there
+pub ruleset standing = (block-ends, cut_stands, part-between)

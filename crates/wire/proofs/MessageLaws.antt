@@ -1,20 +1,19 @@
 -- The kind of a message, and the parts of a message that was written.
 use mathlib.Core.Path.{◌≡◌, refl, sym, ap, ◌∙◌}
-use mathlib.Core.Bool.{false, cond}
+use mathlib.Core.Bool.{false}
 use mathlib.Core.List.{List, [], ◌∷◌, ◌++◌, map, append_assoc, append-nil}
 use Prim.Native.Nat.{ℕ, ◌+◌, ◌-◌, ◌*◌, ◌^◌, ◌≤◌, ◌<◌}
 use native.Mathlib.Omega.{arith}
-use lib.Dec.{eqb}
-use lib.ListN.{length, take, drop, get_or, length-drop}
+use lib.ListN.{length, take, drop, length-drop}
 use lib.Seq.{take_all}
 use Rattle.octets.specs.Octets.{Bytes, bytes, part, joined}
-use Rattle.octets.proofs.CopyLaws.{length_part}
+use Rattle.octets.proofs.CopyLaws.{length_part, part-between, part-from}
 use Rattle.octets.proofs.JoinedLaws.{total, joined_length, stands}
 use Rattle.octets.proofs.NumberLaws.{length-bytes, part_bytes, number-back}
 use Rattle.merkle.specs.Limits.{max_blocks, hash_length}
 use Rattle.merkle.specs.Blocks.{block_count}
 use Rattle.merkle.specs.Frontier.{carried_count}
-use Rattle.wire.specs.declared.kind.Kind.TheVariants.{Program, Block, Update, PathUpdate, Unknown}
+use Rattle.wire.specs.declared.kind.Kind.TheVariants.{Program, Block, Update}
 use Rattle.wire.specs.declared.manifest.Manifest.{Manifest}
 use Rattle.wire.specs.Manifest.{manifest_length, written, read, Fits}
 use Rattle.wire.specs.Size.{wrong_size}
@@ -23,16 +22,6 @@ use Rattle.wire.specs.Message.{kind, kind_length, number_length, least_length, p
 use Rattle.wire.specs.Claims.{OfProgram, ProgramBack, OfBlock, BlockBack, OfUpdate, UpdateBack, OfPath, PathBack}
 use Rattle.wire.proofs.SizeLaws.{sized}
 use Rattle.wire.proofs.ManifestLaws.{length-written, read_fits}
-
-pub kind-none : (m : List ℕ) → length m ≡ 0 → Unknown ≡ kind m
-unfolding kind
-kind-none [] e = refl
-kind-none (x ∷ m) e = absurd (omega arith)
-
-pub kind-first : (m : List ℕ) → (length m ≡ 0 → ⊥) → kind m ≡ cond (eqb (get_or m 0 0) 1) Program (cond (eqb (get_or m 0 0) 2) Block (cond (eqb (get_or m 0 0) 3) Update (cond (eqb (get_or m 0 0) 4) PathUpdate Unknown)))
-unfolding kind
-kind-first [] n = absurd (n refl)
-kind-first (x ∷ m) n = refl
 
 -- the parts of a message that is long enough for them
 pub length-manifest : (m : List ℕ) → least_length Program ≤ length m → length (manifest_bytes m) ≡ manifest_length
@@ -47,6 +36,9 @@ length-root m h = length_part (manifest_bytes m) 16 hash_length (omega (arith, l
 pub manifest-fits : (m : List ℕ) → Bytes m → least_length Program ≤ length m → Fits (manifest_in m)
 unfolding manifest_in manifest_bytes
 manifest-fits m bytes h = read_fits (manifest_bytes m) (length-manifest m h) (part_bytes m bytes kind_length manifest_length h)
+
+-- a range of a message and all behind an index, as the code slices them, and a manifest's bytes
+pub ruleset parts = (part-between, part-from, length-manifest)
 
 module _ (k : ℕ) (m : List ℕ) where
   pub length-block : least_length Block + k ≤ length m → length (block_in k m) ≡ k

@@ -6,7 +6,7 @@ use native.Mathlib.Omega.{arith}
 use lib.ListN.{length, take, drop, set, length-append, length-drop, drop_of_length-le}
 use lib.Seq.{paste, take_at, drop_at, drop-drop}
 use borrow.Rule.Slice.PartMut.{put_mid, post_of}
-use Rattle.octets.proofs.CopyLaws.{part-from, set_first, paste-behind}
+use Rattle.octets.proofs.CopyLaws.{part-from, set_first, paste-front, paste-behind}
 use Rattle.wire.specs.Message.{at_start}
 
 -- r is d with the k bytes p at its start
@@ -51,3 +51,6 @@ module _ {d r p : List ℕ} {k : ℕ} (b : Put d r p k) where
       → mid ≡ s ++ drop (length s) (take (length r - k) (drop k r)) → Put d (put_mid k (length r - k) r mid) (p ++ s) k'
   put-part-more s mid k' e h f =
       record { is = put-part s mid (omega arith) f ∙ ap (λ (j : ℕ). (p ++ s) ++ drop j d) (sym e); size = length-append p s ∙ omega (arith, b.size) }
+
+-- one copy to the start
+pub ruleset front = (paste-front)

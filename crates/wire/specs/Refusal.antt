@@ -1,6 +1,6 @@
 -- The refusals (01, 'The drive's refusals', and 02, changes 1, 3, 5 and 7): their numbers, and which of several is given.
 use Rattle.std.specs.Prelude.{Bool, cond, List, [], ◌∷◌, ℕ}
-use Rattle.std.proofs.Math.Option.{Option, none, some}
+use Rattle.std.specs.Prelude.{Option, None, Some}
 use Rattle.wire.specs.declared.refusal.Refusal.{Refusal}
 use Rattle.wire.specs.declared.refusal.Refusal.TheVariants.{State, Kind, Short, Version, Size, Model, Serial, Area, Unsigned, Stage, Turn, Length, Unlike, Mismatch, Path, Text, Place, Twice, Altered, Spent}
 
@@ -29,5 +29,5 @@ refusal_number Spent = 20
 
 -- "Order, first that applies": of refusals in order, each with whether it applies
 unfoldable pub first_that_applies : List (Refusal × Bool) → Option Refusal
-first_that_applies [] = none
-first_that_applies (e ∷ es) = cond e.1 (some e.0) (first_that_applies es)
+first_that_applies [] = None
+first_that_applies (e ∷ es) = cond e.1 (Some e.0) (first_that_applies es)

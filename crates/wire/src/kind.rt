@@ -2,33 +2,26 @@
 ghost use Rattle.std.specs.Prelude.{◌≡◌};
 ghost use Rattle.wire.specs.Message as spec;
 
-#[derive(Clone, Copy)]
+// Each with its first byte. A message of another one, or of none, is of the kind Unknown and no None: the definition `kind` has it so.
+#[derive(Clone, Copy, Debug, PartialEq, Eq)]
 pub enum Kind {
-    Program,
-    Block,
-    Update,
-    PathUpdate,
-    Unknown,
+    Unknown = 0,
+    Program = 1,
+    Block = 2,
+    Update = 3,
+    PathUpdate = 4,
 }
 
-// The first byte of an update, and of a path update, for whoever writes one.
-pub const UPDATE: u8 = 3;
-
-pub const PATH_UPDATE: u8 = 4;
-
-// The kind that the first byte says; an empty message has none that is known.
+// The kind that the first byte says.
+#[tactic(auto, unfolding(crate::specs::Message::kind))]
 pub fn kind_of(message: &[u8]) -> Kind
     ensures { result ≡ spec.kind message.now }
 {
-    if message.len() == 0 {
-        return Kind::Unknown;
-    }
-    let first = message[0];
-    match first {
-        1 => Kind::Program,
-        2 => Kind::Block,
-        3 => Kind::Update,
-        4 => Kind::PathUpdate,
+    match message.first() {
+        Some(1) => Kind::Program,
+        Some(2) => Kind::Block,
+        Some(3) => Kind::Update,
+        Some(4) => Kind::PathUpdate,
         _ => Kind::Unknown,
     }
 }

@@ -1,16 +1,14 @@
-// Where the parts of a message stand, and how long it must be.
-ghost use Rattle.std.specs.Prelude.{◌≡◌, false, ◌+◌, ◌*◌, ◌≤◌, ◌<◌, length};
+// Where the parts of a message stand, and the bytes that each kind has at least. How long one must be with its block, `Geometry` says.
+#![tactic(auto, using(crate::proofs::MessageLaws::parts), unfolding(crate::specs::Message::short, crate::specs::Message::manifest_bytes, crate::specs::Message::manifest_in, crate::specs::Message::number_in, crate::specs::Message::block_in, crate::specs::Message::hashes_after, crate::specs::Message::update_number, crate::specs::Message::update_block, crate::specs::Message::update_signature, crate::specs::Message::path_in, crate::specs::Message::path_signature))]
+
+ghost use Rattle.std.specs.Prelude.{◌≡◌, ◌+◌, ◌*◌, ◌≤◌, length};
 ghost use Rattle.merkle.specs.Limits.{hash_length};
-ghost use Rattle.merkle.specs.Blocks.{block_count};
 ghost use Rattle.wire.specs.declared.kind.Kind.TheVariants.{Program, Block, Update};
-ghost use Rattle.wire.specs.Size.{wrong_size};
-ghost use Rattle.wire.specs.Message.{least_length, manifest_bytes, manifest_in, program_signature, number_in, block_in, hashes_after, update_number, update_block, update_signature, path_in, path_signature, due_length, messages_length, least_update, least_path};
+ghost use Rattle.wire.specs.Message.{least_length, manifest_bytes, manifest_in, program_signature, number_in, block_in, hashes_after, update_number, update_block, update_signature, path_in, path_signature};
 ghost use Rattle.wire.specs.Message as spec;
 
-use crate::blocks::block_length;
 use crate::kind::Kind;
-use crate::manifest::{MANIFEST_LEN, Manifest, read};
-use crate::sizes::block_count;
+use crate::manifest::{MANIFEST_LEN, Manifest};
 
 pub const KIND_LEN: usize = 1;
 
@@ -30,8 +28,7 @@ pub fn least_len(kind: Kind) -> usize
     match kind {
         Kind::Program => PROGRAM_LEAST,
         Kind::Block => BLOCK_LEAST,
-        Kind::Update => UPDATE_LEAST,
-        Kind::PathUpdate => UPDATE_LEAST,
+        Kind::Update | Kind::PathUpdate => UPDATE_LEAST,
         Kind::Unknown => 0,
     }
 }
@@ -42,6 +39,9 @@ pub fn short(kind: Kind, message: &[u8]) -> bool
 {
     message.len() < least_len(kind)
 }
+
+// A function for each part, as the formats' page has them. One for all that differ in their place alone is no plainer: each call would name the place. Nor is a
+// type of long enough messages: how long that is differs with the part, and is known bit by bit, when manifest and number have been read.
 
 // Kinds 1, 3 and 4: the manifest's bytes.
 pub fn manifest_bytes(message: &[u8]) -> &[u8]
@@ -56,7 +56,7 @@ pub fn manifest_in(message: &[u8]) -> Manifest
     requires { least_length Program ≤ length message.now }
     ensures { result ≡ manifest_in message.now }
 {
-    read(manifest_bytes(message))
+    Manifest::read(manifest_bytes(message))
 }
 
 // Kind 1: the signature.
@@ -80,8 +80,7 @@ pub fn block_in(message: &[u8], len: usize) -> &[u8]
     requires { least_length Block + len ≤ length message.now }
     ensures { result.now ≡ block_in len message.now }
 {
-    let end = BLOCK_LEAST + len;
-    &message[BLOCK_LEAST..end]
+    &message[BLOCK_LEAST..BLOCK_LEAST + len]
 }
 
 // Kind 2: the hashes behind a block of `len` bytes.
@@ -89,8 +88,7 @@ pub fn hashes_after(message: &[u8], len: usize) -> &[u8]
     requires { least_length Block + len ≤ length message.now }
     ensures { result.now ≡ hashes_after len message.now }
 {
-    let from = BLOCK_LEAST + len;
-    &message[from..]
+    &message[BLOCK_LEAST + len..]
 }
 
 // Kinds 3 and 4: the number.
@@ -106,8 +104,7 @@ pub fn update_block(message: &[u8], len: usize) -> &[u8]
     requires { least_length Update + len ≤ length message.now }
     ensures { result.now ≡ update_block len message.now }
 {
-    let end = UPDATE_LEAST + len;
-    &message[UPDATE_LEAST..end]
+    &message[UPDATE_LEAST..UPDATE_LEAST + len]
 }
 
 // Kind 3: the signature behind a block of `len` bytes.
@@ -115,8 +112,7 @@ pub fn update_signature(message: &[u8], len: usize) -> &[u8]
     requires { least_length Update + len ≤ length message.now }
     ensures { result.now ≡ update_signature len message.now }
 {
-    let from = UPDATE_LEAST + len;
-    &message[from..]
+    &message[UPDATE_LEAST + len..]
 }
 
 // Kind 4: the siblings behind a block of `len` bytes, for a leaf of this depth.
@@ -125,8 +121,7 @@ pub fn path_in(message: &[u8], len: usize, depth: usize) -> &[u8]
     ensures { result.now ≡ path_in len depth message.now }
 {
     let from = UPDATE_LEAST + len;
-    let end = from + merkle::HASH_LEN * depth;
-    &message[from..end]
+    &message[from..from + merkle::HASH_LEN * depth]
 }
 
 // Kind 4: the signature behind a block of `len` bytes and the siblings for a leaf of this depth.
@@ -134,41 +129,5 @@ pub fn path_signature(message: &[u8], len: usize, depth: usize) -> &[u8]
     requires { least_length Update + len + hash_length * depth ≤ length message.now }
     ensures { result.now ≡ path_signature len depth message.now }
 {
-    let from = UPDATE_LEAST + len + merkle::HASH_LEN * depth;
-    &message[from..]
-}
-
-// Refusal 12, kind 2: the bytes of block message `number`, from 1.
-pub fn due_len(block_len: usize, image_len: usize, number: usize) -> usize
-    requires { (wrong_size block_len image_len ≡ false) × (0 < number) × (number ≤ block_count block_len image_len) }
-    ensures { result ≡ due_length block_len image_len number }
-{
-    let counts = merkle::count(block_count(block_len, image_len), number - 1);
-    BLOCK_LEAST + block_length(block_len, image_len, number) + merkle::HASH_LEN * counts.carried
-}
-
-// The bytes of all block messages of an image together.
-pub fn messages_len(block_len: usize, image_len: usize) -> usize
-    requires { wrong_size block_len image_len ≡ false }
-    ensures { result ≡ messages_length block_len image_len }
-{
-    let n = block_count(block_len, image_len);
-    BLOCK_LEAST * n + image_len + merkle::HASH_LEN * (n - 1)
-}
-
-// Refusal 12, kind 3: the least bytes of an update of block `number`.
-pub fn least_update(block_len: usize, image_len: usize, number: usize) -> usize
-    requires { (wrong_size block_len image_len ≡ false) × (0 < number) × (number ≤ block_count block_len image_len) }
-    ensures { result ≡ least_update block_len image_len number }
-{
-    UPDATE_LEAST + block_length(block_len, image_len, number)
-}
-
-// Refusal 12, kind 4: the least bytes of a path update of block `number`, with the siblings of its leaf.
-pub fn least_path(block_len: usize, image_len: usize, number: usize) -> usize
-    requires { (wrong_size block_len image_len ≡ false) × (0 < number) × (number ≤ block_count block_len image_len) }
-    ensures { result ≡ least_path block_len image_len number }
-{
-    let depth = merkle::leaf_depth(block_count(block_len, image_len), number - 1);
-    least_update(block_len, image_len, number) + merkle::HASH_LEN * depth
+    &message[UPDATE_LEAST + len + merkle::HASH_LEN * depth..]
 }

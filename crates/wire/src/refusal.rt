@@ -1,55 +1,36 @@
-// The refusals of 01, with those of 02's changes, by their words.
+// The refusals of 01, with those of 02's changes, by their words and with the papers' numbers.
 ghost use Rattle.std.specs.Prelude.{◌≡◌};
-ghost use Rattle.wire.specs.Refusal as spec;
+ghost use Rattle.wire.specs.Refusal.{refusal_number};
 
-#[derive(Clone, Copy)]
+#[derive(Clone, Copy, Debug, PartialEq, Eq)]
 pub enum Refusal {
-    State,
-    Kind,
-    Short,
-    Version,
-    Size,
-    Model,
-    Serial,
-    Area,
-    Unsigned,
-    Stage,
-    Turn,
-    Length,
-    Unlike,
-    Mismatch,
-    Path,
-    Text,
-    Place,
-    Twice,
-    Altered,
-    Spent,
+    State = 1,
+    Kind = 2,
+    Short = 3,
+    Version = 4,
+    Size = 5,
+    Model = 6,
+    Serial = 7,
+    Area = 8,
+    Unsigned = 9,
+    Stage = 10,
+    Turn = 11,
+    Length = 12,
+    Unlike = 13,
+    Mismatch = 14,
+    Path = 15,
+    Text = 16,
+    Place = 17,
+    Twice = 18,
+    Altered = 19,
+    Spent = 20,
 }
 
-// The papers' number of a refusal.
-pub fn refusal_number(refusal: Refusal) -> u8
-    ensures { result ≡ spec.refusal_number refusal }
-{
-    match refusal {
-        Refusal::State => 1,
-        Refusal::Kind => 2,
-        Refusal::Short => 3,
-        Refusal::Version => 4,
-        Refusal::Size => 5,
-        Refusal::Model => 6,
-        Refusal::Serial => 7,
-        Refusal::Area => 8,
-        Refusal::Unsigned => 9,
-        Refusal::Stage => 10,
-        Refusal::Turn => 11,
-        Refusal::Length => 12,
-        Refusal::Unlike => 13,
-        Refusal::Mismatch => 14,
-        Refusal::Path => 15,
-        Refusal::Text => 16,
-        Refusal::Place => 17,
-        Refusal::Twice => 18,
-        Refusal::Altered => 19,
-        Refusal::Spent => 20,
+// The papers' number.
+impl From<Refusal> for u8 {
+    ghost from_gives = { λ refusal number. number ≡ refusal_number refusal };
+
+    fn from(refusal: Refusal) -> u8 {
+        refusal as u8
     }
 }

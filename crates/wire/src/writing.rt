@@ -4,17 +4,18 @@ ghost use Rattle.wire.specs.declared.kind.Kind.TheVariants.{Program, Block, Upda
 ghost use Rattle.wire.specs.Manifest.{manifest_length, written};
 ghost use Rattle.wire.specs.Message.{least_length, program_message, block_message, successor_head, at_start};
 
-use crate::manifest::{Manifest, to_bytes};
+use crate::kind::Kind;
+use crate::manifest::Manifest;
 use crate::message::{BLOCK_LEAST, KIND_LEN, PROGRAM_LEAST, UPDATE_LEAST};
-use octets::{be16, copy};
+use octets::copy;
 
 // The bare manifest.
+#[tactic(auto, using(crate::proofs::PutLaws::front))]
 pub fn put_manifest(manifest: Manifest, out: &mut [u8])
     requires { manifest_length ≤ length out.old }
     ensures { out.new ≡ at_start (written manifest) out.old }
 {
-    let bytes = to_bytes(manifest);
-    copy(out, 0, &bytes);
+    copy(out, 0, &manifest.to_bytes());
 }
 
 // Kind 1.
@@ -22,9 +23,8 @@ pub fn put_program(manifest: Manifest, signature: &[u8], out: &mut [u8])
     requires { least_length Program + length signature.now ≤ length out.old }
     ensures { out.new ≡ at_start (program_message manifest signature.now) out.old }
 {
-    let bytes = to_bytes(manifest);
-    out[0] = 1;
-    copy(out, KIND_LEN, &bytes);
+    out[0] = Kind::Program as u8;
+    copy(out, KIND_LEN, &manifest.to_bytes());
     copy(out, PROGRAM_LEAST, signature);
 }
 
@@ -34,14 +34,13 @@ pub fn put_block(number: u16, block: &[u8], out: &mut [u8]) -> usize
     ensures { (result ≡ least_length Block + length block.now)
         × (out.new ≡ at_start (block_message number block.now []) out.old) }
 {
-    let digits = be16(number);
-    out[0] = 2;
-    copy(out, KIND_LEN, &digits);
+    out[0] = Kind::Block as u8;
+    copy(out, KIND_LEN, &number.to_be_bytes());
     copy(out, BLOCK_LEAST, block);
     BLOCK_LEAST + block.len()
 }
 
-// Kinds 3 and 4, up to the block; the answer is the index behind it.
+// Kinds 3 and 4, up to the block; the answer is the index behind it. The first byte is a number and no Kind, since any may be written, as ever.
 pub fn put_successor(
     kind: u8,
     manifest: Manifest,
@@ -53,11 +52,9 @@ pub fn put_successor(
     ensures { (result ≡ least_length Update + length block.now)
         × (out.new ≡ at_start (successor_head kind manifest number block.now) out.old) }
 {
-    let bytes = to_bytes(manifest);
-    let digits = be16(number);
     out[0] = kind;
-    copy(out, KIND_LEN, &bytes);
-    copy(out, PROGRAM_LEAST, &digits);
+    copy(out, KIND_LEN, &manifest.to_bytes());
+    copy(out, PROGRAM_LEAST, &number.to_be_bytes());
     copy(out, UPDATE_LEAST, block);
     UPDATE_LEAST + block.len()
 }

@@ -1,13 +1,23 @@
-use Rattle.std.proofs.Common.{rules, arith, ◌≡◌, ◌∙◌, sym, ap, subst, ℕ, ◌+◌, ◌-◌, take}
-use Rattle.std.proofs.Math.Seq.{take-add}
-use Rattle.sha256.specs.Context.{Absorbed}
+use Rattle.std.proofs.Common.{◌≡◌, ◌∙◌, sym, ap, List, ℕ, [], ◌++◌, append_assoc, append-nil}
+use Rattle.std.proofs.lemmas.List.{nil_from_length}
+use Rattle.std.specs.declared.slice.Chunks.{Chunks}
+use Rattle.sha256.specs.Sha256.{digest}
 use Rattle.bench_exports.proofs.bench_pieces.Goals as goal
 
--- What was fed before and the piece are the message up to `end`.
-pub loop-from-preserved : goal.loop-from-preserved
-loop-from-preserved c =
-    let from = c.loop-from.from in
-    let end = c.end_of-end.result in
-    let m = c.args.message.now in
-    let k : from + (end - from) ≡ end = omega arith in
-    (search rules, subst (Absorbed c.update-next.result) (sym (take-add from (end - from) m) ∙ ap (λ (n : ℕ). take n m) k) (c.update-next.ensures _ c.loop-from.invariant.1))
+pub loop-part-init : goal.loop-part-init
+loop-part-init c =
+    ([], (sym (ap (λ (p : Chunks ℕ). p.rest.now) c.into_iter-part-iterator.ensures.into_iter_gives ∙ c.chunks-part-items.ensures.rest), c.new-context.ensures))
+
+pub loop-part-preserved : goal.loop-part-preserved
+loop-part-preserved c =
+    let m = c.loop-part.invariant.0 in
+    let i = c.loop-part.invariant.1 in
+    let part = c.in-Some.part.now in
+    (m ++ part, (i.0 ∙ ap (λ (l : List ℕ). m ++ l) c.in-Some.ensures.steps.1.0 ∙ sym (append_assoc m part c.next.new.self.rest.now), c.update-context.ensures m i.1))
+
+pub returns : goal.returns
+returns c =
+    let m = c.loop-part.invariant.0 in
+    let i = c.loop-part.invariant.1 in
+    let none : c.loop-part.part-iterator.rest.now ≡ [] = nil_from_length _ c.in-None.ensures.steps.1.0 in
+    (c.finish.ensures m i.1).0 ∙ ap digest (sym (i.0 ∙ ap (λ (l : List ℕ). m ++ l) none ∙ append-nil m))

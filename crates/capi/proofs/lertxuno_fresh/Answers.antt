@@ -1,6 +1,6 @@
-use mathlib.Core.Path.{ap, ◌∙◌}
+use Rattle.std.proofs.Common.{ap, ◌∙◌}
 use Rattle.capi.specs.State.{encode}
 use Rattle.capi.proofs.lertxuno_fresh.Goals as goal
 
 pub returns : goal.returns
-returns c = c.to_bytes-bytes.ensures ∙ ap encode c.fresh.ensures
+returns c = c.to_bytes.ensures ∙ ap encode c.fresh.ensures

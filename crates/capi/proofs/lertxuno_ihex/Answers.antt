@@ -1,20 +1,16 @@
-use mathlib.Core.Path.{sym, ap, ◌∙◌}
-use Prim.Native.Nat.{ℕ}
-use Rattle.ihex.specs.declared.reading.TextAnswer.{TextAnswer}
-use Rattle.capi.specs.Call.{IhexOutcome, ihex_outcome, read_text}
+use Rattle.std.proofs.Common.{ap, ◌∙◌}
+use Rattle.ihex.specs.Read.{TextAnswer}
+use Rattle.capi.specs.Call.{ihex_outcome, read_text}
 use Rattle.capi.proofs.lertxuno_ihex.Goals as goal
 
-pub returns-in-Read : goal.returns-in-Read
+pub returns-in-Ok : goal.returns-in-Ok
 unfolding read_text
-returns-in-Read c =
+returns-in-Ok c =
     let out = c.read.new.out in
-    ap ihex_outcome c.read.ensures ∙ ap (λ (a : TextAnswer). ihex_outcome (record { answer = a; buffer = out })) c.in-Read.is
+    ap ihex_outcome c.read.ensures ∙ ap (λ (a : TextAnswer). ihex_outcome (record { answer = a; buffer = out })) c.in-Ok.is
 
-pub returns-in-Refused : goal.returns-in-Refused
+pub returns-in-Err : goal.returns-in-Err
 unfolding read_text
-returns-in-Refused c =
+returns-in-Err c =
     let out = c.read.new.out in
-    let n = c.in-Refused.number in
-    ap ihex_outcome c.read.ensures
-    ∙ ap (λ (a : TextAnswer). ihex_outcome (record { answer = a; buffer = out })) c.in-Refused.is
-    ∙ ap {B = IhexOutcome} (λ (r : ℕ). record { answer = r; line = n; buffer = out }) (sym (c.wide.ensures ∙ c.refusal_number.ensures))
+    ap ihex_outcome c.read.ensures ∙ ap (λ (a : TextAnswer). ihex_outcome (record { answer = a; buffer = out })) c.in-Err.is ∙ rw c.number_of.ensures

@@ -1,27 +1,25 @@
-use Rattle.std.proofs.Common.{◌≡◌, ℕ, ◌-◌, ◌*◌, ◌/◌, ◌%◌, ◌^◌, List, ◌∷◌, ◌++◌, length, take, drop, set, replicate, sym, ap, ◌∙◌, arith, rules}
+use Rattle.std.proofs.Common.{◌≡◌, ◌-◌, ◌*◌, ◌%◌, ◌^◌, ◌∷◌, ◌++◌, length, take, set, replicate, refl, sym, ap, ◌∙◌, arith, rules}
 use Rattle.octets.specs.Octets.{bytes}
+use Rattle.octets.proofs.BigEndianLaws.{be_bytes_64}
 use Rattle.sha256.specs.Sha256.{H0, compress, concatenated, digest}
 use Rattle.sha256.specs.Context.{Pending}
-use Rattle.sha256.proofs.HashLaws.{rest_of, length_rest}
+use Rattle.sha256.proofs.HashLaws.{length_rest}
 use Rattle.sha256.proofs.PaddingLaws.{marked, closed, digest-one, digest-two, compressions-is}
 use Rattle.sha256.proofs.digest.Goals.{then-used-ge56, else-used-ge56}
 use Rattle.sha256.proofs.digest.Goals as goal
-
--- the bytes after the whole blocks, as the code cuts them out
-abbrev rest : List ℕ → List ℕ
-rest s = take (length s - length s / 64 * 64) (drop (length s / 64 * 64) s)
 
 pub returns : goal.returns
 unfolding H0
 returns c =
     let s = c.args.message.now in
-    let used = length s - length s / 64 * 64 in
+    let rest = c.compress_all-rest.result.now in
+    let used = length rest in
     let n : length s ≡ length s % 2 ^ 64 = omega arith in
-    let p : Pending c.compress_all.new.H (rest s) (length s) s = record { compressed = c.compress_all.ensures; waiting = rest_of s; counted = n } in
+    let p : Pending c.compress_all-rest.new.H rest (length s) s = record { compressed = c.compress_all-rest.ensures.0; waiting = c.compress_all-rest.ensures.1; counted = n } in
     let l = length_rest p in
     -- the block with the rest's bytes and 0x80
-    let first : set c.copy.new.dst used 0x80 ≡ rest s ++ (0x80 ∷ replicate (63 - length (rest s)) 0) =
-    rw c.copy.ensures (marked (rest s) used (omega (arith, l)) (omega arith)) in
+    let first : set c.copy.new.dst used 0x80 ≡ rest ++ (0x80 ∷ replicate (63 - length rest) 0) =
+    rw c.copy.ensures (marked rest used refl (omega arith)) in
     -- the last block, before its length is written, and the digest once it is
     let j = c.if-used-ge56 in
     let full : length j.b ≡ 64 = elim j.branch [ then-used-ge56 w ↦ ap length w.b-is ∙ search rules | else-used-ge56 w ↦ ap length w.b-is ∙ search rules ] in
@@ -30,8 +28,8 @@ returns c =
       | then-used-ge56 w ↦ rw (w.H-is, w.b-is, w.compress.ensures) (digest-two p (omega (arith, w.if-used-ge56.true)) (omega arith) _ first)
       | else-used-ge56 w ↦ rw (w.H-is, w.b-is) (digest-one p (omega (arith, w.if-used-ge56.false)) _ first)
     ] in (
-      c.concatenated-hash.ensures
-          ∙ ap concatenated (c.compress-2.ensures ∙ ap (compress j.H) (c.copy-2.ensures ∙ closed j.b c.be64-bits.result (length s) full c.be64-bits.ensures))
+      c.concatenated.ensures
+          ∙ ap concatenated (c.compress-2.ensures ∙ ap (compress j.H) (c.copy-2.ensures ∙ closed j.b c.to_be_bytes.result (length s) full (c.to_be_bytes.ensures ∙ be_bytes_64 _)))
           ∙ ended,
       c.compressions.ensures ∙ sym (compressions-is s),
     )

@@ -1,16 +1,9 @@
-use mathlib.Core.Path.{ap, ◌∙◌}
-use native.Mathlib.Omega.{arith}
-use Rattle.bundle.specs.declared.parts.Start.TheVariants.{At}
-use Rattle.bundle.proofs.PartLaws.{starts-nowhere, starts-at, nowhere-short, nowhere-beyond, somewhere, program-at}
+use Rattle.std.proofs.Common.{◌∙◌, arith}
+use Rattle.bundle.proofs.PartLaws.{starts-nowhere, nowhere-short, starts}
 use Rattle.bundle.proofs.parts.start_of.Goals as goal
 
-pub returns-then-bundle-lt-TRAILER_LEN : goal.returns-then-bundle-lt-TRAILER_LEN
-returns-then-bundle-lt-TRAILER_LEN c = starts-nowhere _ (nowhere-short _ (omega arith))
-
-pub returns-then-trailer-distance : goal.returns-then-trailer-distance
-returns-then-trailer-distance c = starts-nowhere _ (nowhere-beyond _ _ (omega arith) c.u32_at-distance.ensures (omega arith))
+pub returns-in_err-trailer : goal.returns-in_err-trailer
+returns-in_err-trailer c = c.from_residual.ensures ∙ starts-nowhere _ (nowhere-short _ (omega (arith, c.in_err-trailer.ensures)))
 
 pub returns : goal.returns
-returns c =
-    let e = c.u32_at-distance.ensures in
-    ap At (program-at _ _ (omega arith) e) ∙ starts-at _ (somewhere _ _ (omega arith) e (omega arith))
+returns c = let k = c.in_ok-trailer.ensures in starts _ _ _ _ k.0 k.1 c.u32_at-distance.ensures c.checked_sub-2.ensures

@@ -5,6 +5,7 @@ use native.Mathlib.Omega.{arith}
 use lib.ListN.{length}
 use borrow.Rule.Slice.PartMut.{put_mid, same_len_mid, mid_len}
 use Rattle.octets.specs.Octets.{joined}
+use Rattle.octets.proofs.BigEndianLaws.{be_bytes_32}
 use Rattle.octets.proofs.NumberLaws.{length-bytes}
 use Rattle.octets.proofs.JoinedLaws.{copied, copy, none}
 use Rattle.merkle.specs.Limits.{held_bytes}
@@ -31,10 +32,11 @@ pub returns : goal.returns
 unfolding joined
 returns c =
     let d = c.args.device in
+    let em = c.to_be_bytes.ensures ∙ be_bytes_32 _ in
     let p = c.put_progress.new.bytes in
     let lk : length d.key ≡ key_length = search rules in
     let lh : length d.hashes ≡ held_bytes = search rules in
     let lp : length p ≡ hashes_at - stage_at = search rules in
-    copied (4 ∷ key_length ∷ (hashes_at - stage_at) ∷ held_bytes ∷ []) (c.be32-model_bytes.result ∷ d.key ∷ p ∷ d.hashes ∷ []) (rw (c.be32-model_bytes.ensures, lk, lp, lh) (simp length-bytes))
+    copied (4 ∷ key_length ∷ (hashes_at - stage_at) ∷ held_bytes ∷ []) (c.to_be_bytes.result ∷ d.key ∷ p ∷ d.hashes ∷ []) (rw (em, lk, lp, lh) (simp length-bytes))
     (copy c.copy.ensures (copy c.copy-2.ensures (copy (lent-copied c.copy-2.new.dst p stage_at lp) (copy c.copy-3.ensures none))))
-    ∙ rw (append-nil d.hashes) (encode-is d c.be32-model_bytes.ensures refl c.put_progress.ensures refl)
+    ∙ rw (append-nil d.hashes) (encode-is d em refl c.put_progress.ensures refl)

@@ -1,14 +1,11 @@
-use native.Mathlib.Omega.{arith}
-use Rattle.wire.specs.Geometry.{count_of}
+use Rattle.std.proofs.Common.{◌≡◌, ◌∙◌, arith}
+use Rattle.merkle.specs.Blocks.{block_count}
 use Rattle.wire.proofs.SizeLaws.{sized}
 use Rattle.capi.proofs.status.with_manifest.Goals as goal
 
-pub block_count-count-requires : goal.block_count-count-requires
-block_count-count-requires c = let z = sized _ _ c.requires in (omega arith, omega arith)
-
 pub overflow_cast-count : goal.overflow_cast-count
-overflow_cast-count c = let z = sized _ _ c.requires in omega (arith, c.block_count-count.ensures)
-
-pub returns : goal.returns
-unfolding count_of
-returns c = rw c.block_count-count.ensures
+overflow_cast-count c =
+    let m = c.args.manifest in
+    let g = c.known_geometry.ensures in
+    let e : c.count-count.result ≡ block_count m.block_len m.image_len = c.count-count.ensures ∙ rw (g.0, g.1) in
+    omega (arith, e, (sized _ _ c.requires).count)

@@ -1,18 +1,13 @@
+use mathlib.Core.Path.{sym, ◌∙◌}
 use native.Mathlib.Omega.{arith}
-use Rattle.ihex.proofs.DigitLaws.{summing_start, summing-done, high-wrong, low-wrong, summing-next}
+use Rattle.ihex.proofs.DigitLaws.{summing-done, summing-wrong, summing-next}
 use Rattle.ihex.proofs.digits.sum.Goals as goal
 
-pub loop-i-init : goal.loop-i-init
-loop-i-init c = summing_start _ _
-
-pub returns-then-high-eq-NO_DIGIT : goal.returns-then-high-eq-NO_DIGIT
-returns-then-high-eq-NO_DIGIT c = high-wrong _ _ c.requires c.loop-i.invariant (omega arith) c.digit-high.ensures (omega arith)
-
-pub returns-then-low-eq-NO_DIGIT : goal.returns-then-low-eq-NO_DIGIT
-returns-then-low-eq-NO_DIGIT c = low-wrong _ _ c.requires c.loop-i.invariant (omega arith) c.digit-high.ensures c.digit-low.ensures (omega arith)
+pub returns-in_err-sum : goal.returns-in_err-sum
+returns-in_err-sum c = c.from_residual.ensures ∙ summing-wrong _ _ c.requires c.loop-i.invariant (omega arith) (sym c.octet.ensures ∙ c.in_err-sum.was)
 
 pub loop-i-preserved : goal.loop-i-preserved
-loop-i-preserved c = summing-next _ _ c.requires c.loop-i.invariant (omega arith) c.digit-high.ensures c.digit-low.ensures c.if-high-eq-NO_DIGIT.false c.if-low-eq-NO_DIGIT.false
+loop-i-preserved c = summing-next _ _ c.requires c.loop-i.invariant (omega arith) (sym c.octet.ensures ∙ c.in_ok-sum.was)
 
 pub returns : goal.returns
 returns c = summing-done _ _ c.requires c.loop-i.invariant (omega arith)

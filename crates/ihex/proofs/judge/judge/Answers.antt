@@ -1,36 +1,24 @@
-use native.Mathlib.Omega.{arith}
-use Rattle.ihex.proofs.JudgeLaws.{judging-start, judging-missing, judging-fault, judging-done, judging-behind, judging-next, line_at, end-within, end-past}
+use mathlib.Core.Path.{sym, ◌∙◌}
+use Rattle.std.proofs.Common.{rules}
+use Rattle.ihex.proofs.LineLaws.{line_cut}
+use Rattle.ihex.proofs.JudgeLaws.{judging-start, judging-missing, judging-done, judging-fault, judging-next}
 use Rattle.ihex.proofs.judge.judge.Goals as goal
 
-pub loop-at-init : goal.loop-at-init
-loop-at-init c = rw c.none-seen.ensures (judging-start _ _ _)
+pub loop-line-init : goal.loop-line-init
+loop-line-init c = rw (c.into_iter-line-iterator.ensures.into_iter_gives, c.split_inclusive-line-items.ensures.rest, c.none-seen.ensures) (judging-start _ _ _)
 
-pub slice_bounds-advance-count : goal.slice_bounds-advance-count
-slice_bounds-advance-count c = omega (arith, c.line_end-end.ensures)
+pub returns-in-Err : goal.returns-in-Err
+returns-in-Err c =
+    let cut = line_cut _ _ _ _ _ _ c.in-Some.ensures.steps (λ f a r g h. search rules) in
+    judging-fault c.loop-line.invariant cut c.advance.ensures _ c.in-Err.is
 
-pub slice_bounds-advance-end : goal.slice_bounds-advance-end
-slice_bounds-advance-end c = omega (arith, c.line_end-end.ensures, end-within c.args.text.now c.loop-at.at (omega arith))
+pub loop-line-preserved : goal.loop-line-preserved
+loop-line-preserved c =
+    let cut = line_cut _ _ _ _ _ _ c.in-Some.ensures.steps (λ f a r g h. search rules) in
+    judging-next c.loop-line.invariant cut c.advance.ensures _ c.in-Ok.is (c.advance.auto.seen ∙ c.loop-line.invariant.size)
 
-pub loop-at-smaller : goal.loop-at-smaller
-loop-at-smaller c = omega (arith, c.line_end-end.ensures, end-past c.args.text.now c.loop-at.at (omega arith))
+pub returns-then-is_some : goal.returns-then-is_some
+returns-then-is_some c = judging-missing c.loop-line.invariant c.in-None.ensures.steps.0 (sym c.if-is_some.ensures)
 
 pub returns : goal.returns
-returns c = judging-missing c.loop-at.invariant (omega arith)
-
-pub returns-then-end-text : goal.returns-then-end-text
-returns-then-end-text c =
-    judging-behind c.loop-at.invariant (omega arith) (rw (line_at c.args.text.now c.loop-at.at c.line_end-end.ensures) at c.advance.ensures) c.in-End.is
-    (omega (arith, c.line_end-end.ensures))
-
-pub returns-in-End : goal.returns-in-End
-returns-in-End c =
-    judging-done c.loop-at.invariant (omega arith) (rw (line_at c.args.text.now c.loop-at.at c.line_end-end.ensures) at c.advance.ensures) c.in-End.is
-    (omega (arith, c.line_end-end.ensures))
-
-pub returns-in-Fault : goal.returns-in-Fault
-returns-in-Fault c = judging-fault c.loop-at.invariant (omega arith) (rw (line_at c.args.text.now c.loop-at.at c.line_end-end.ensures) at c.advance.ensures) _ c.in-Fault.is
-
-pub loop-at-preserved : goal.loop-at-preserved
-loop-at-preserved c =
-    rw c.line_end-end.ensures
-    (judging-next c.loop-at.invariant (omega arith) (rw (line_at c.args.text.now c.loop-at.at c.line_end-end.ensures) at c.advance.ensures) _ c.in-Next.is (omega arith))
+returns c = judging-done c.loop-line.invariant c.in-None.ensures.steps.0 (sym c.if-is_some.ensures)

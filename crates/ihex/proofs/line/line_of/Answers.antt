@@ -1,30 +1,33 @@
+use mathlib.Core.Path.{sym, ◌∙◌}
 use native.Mathlib.Omega.{arith}
-use Rattle.ihex.proofs.LineReadLaws.{read_none, finds, read-data, read-end, read-long-end, read_upper, read-wrong-upper, read-other, read-long, read-value}
+use Rattle.ihex.proofs.LineReadLaws.{read_none, finds, read-data, read-end, read-long-end, read_upper, no-upper, read-wrong-upper, read-other, read-long}
 use Rattle.ihex.proofs.line.line_of.Goals as goal
 
-pub returns-in_default : goal.returns-in_default
-returns-in_default c = read_none _ c.record_in.ensures c.in_default.is
+pub returns-in_err-record : goal.returns-in_err-record
+returns-in_err-record c = c.from_residual.ensures ∙ read_none _ c.record_in.ensures c.in_err-record.was
 
 pub pair-requires : goal.pair-requires
-pair-requires c = omega (arith, read-long _ (finds _ c.record_in.ensures c.in-Sound.is))
+pair-requires c = omega (arith, read-long _ (finds _ c.record_in.ensures c.in_ok-record.was))
 
-pub overflow_cast-result : goal.overflow_cast-result
-overflow_cast-result c = omega (arith, c.pair.ensures, read-value _ (finds _ c.record_in.ensures c.in-Sound.is) c.if-count-eq2.true)
+pub returns-in_err-pair-in-4-eq2 : goal.returns-in_err-pair-in-4-eq2
+returns-in_err-pair-in-4-eq2 c =
+    c.from_residual-in_err-pair-in-4-eq2.ensures
+    ∙ no-upper _ (finds _ c.record_in.ensures c.in_ok-record.was) c.in-4-eq2.is-0 c.in-4-eq2.is-1 (sym c.pair.ensures ∙ c.in_err-pair-in-4-eq2.was)
 
-pub returns-in-0 : goal.returns-in-0
-returns-in-0 c = read-data _ (finds _ c.record_in.ensures c.in-Sound.is) c.in-0.is
+pub returns-in-0-default : goal.returns-in-0-default
+returns-in-0-default c = read-data _ (finds _ c.record_in.ensures c.in_ok-record.was) c.in-0-default.is-0
 
-pub returns-then-count-eq0 : goal.returns-then-count-eq0
-returns-then-count-eq0 c = read-end _ (finds _ c.record_in.ensures c.in-Sound.is) c.in-1.is c.if-count-eq0.true
+pub returns-in-1-eq0 : goal.returns-in-1-eq0
+returns-in-1-eq0 c = read-end _ (finds _ c.record_in.ensures c.in_ok-record.was) c.in-1-eq0.is-0 c.in-1-eq0.is-1
 
-pub returns-else-count-eq0 : goal.returns-else-count-eq0
-returns-else-count-eq0 c = read-long-end _ (finds _ c.record_in.ensures c.in-Sound.is) c.in-1.is c.if-count-eq0.false
+pub returns-in_ok-pair-in-4-eq2 : goal.returns-in_ok-pair-in-4-eq2
+returns-in_ok-pair-in-4-eq2 c = read_upper _ (finds _ c.record_in.ensures c.in_ok-record.was) c.in-4-eq2.is-0 c.in-4-eq2.is-1 (sym c.pair.ensures ∙ c.in_ok-pair-in-4-eq2.was)
 
-pub returns-then-count-eq2 : goal.returns-then-count-eq2
-returns-then-count-eq2 c = read_upper _ (finds _ c.record_in.ensures c.in-Sound.is) c.in-4.is c.if-count-eq2.true c.pair.ensures
+pub returns-in_default : goal.returns-in_default
+returns-in_default c = read-long-end _ (finds _ c.record_in.ensures c.in_ok-record.was) (omega arith) (λ e. omega arith)
 
-pub returns-else-count-eq2 : goal.returns-else-count-eq2
-returns-else-count-eq2 c = read-wrong-upper _ (finds _ c.record_in.ensures c.in-Sound.is) c.in-4.is c.if-count-eq2.false
+pub returns-in_default-2 : goal.returns-in_default-2
+returns-in_default-2 c = read-wrong-upper _ (finds _ c.record_in.ensures c.in_ok-record.was) (omega arith) (λ e. omega arith)
 
-pub returns-in_default-kind : goal.returns-in_default-kind
-returns-in_default-kind c = read-other _ (finds _ c.record_in.ensures c.in-Sound.is) (λ e. omega arith) (λ e. omega arith) (λ e. omega arith)
+pub returns-in_default-3 : goal.returns-in_default-3
+returns-in_default-3 c = read-other _ (finds _ c.record_in.ensures c.in_ok-record.was) (λ e. omega arith) (λ e. omega arith) (λ e. omega arith)

@@ -1,11 +1,7 @@
 use mathlib.Core.Path.{◌≡◌}
-use Prim.Native.Nat.{◌-◌, ◌≤◌}
 use lib.ListN.{length}
 use Rattle.ihex.proofs.SeenLaws.{Marking}
 use Rattle.ihex.proofs.seen.mark.Given as goal
 
 abbrev pub invariant-loop-i : goal.invariant-loop-i
-invariant-loop-i l = (l.i ≤ l.end) × Marking l.initial.seen l.from l.i l.seen × (length l.seen ≡ length l.initial.seen)
-
-abbrev pub decreases-loop-i : goal.decreases-loop-i
-decreases-loop-i l = l.end - l.i
+invariant-loop-i l = Marking l.initial.seen l.from l.i l.seen × (length l.seen ≡ length l.initial.seen)

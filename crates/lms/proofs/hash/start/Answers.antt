@@ -1,15 +1,10 @@
-use mathlib.Core.Path.{ap, ap₂, ◌∙◌}
-use mathlib.Core.List.{List, ◌++◌}
-use Prim.Native.Nat.{ℕ}
-use native.Mathlib.Omega.{arith}
-use lib.ListN.{length}
-use Rattle.octets.proofs.NumberLaws.{length-bytes}
+use Rattle.std.proofs.Common.{ℕ, List, ◌++◌, ap₂, ◌∙◌, rules}
+use Rattle.octets.proofs.BigEndianLaws.{be_bytes_16, be_bytes_32}
 use Rattle.lms.proofs.HashLaws.{filled}
 use Rattle.lms.proofs.hash.start.Goals as goal
 
 pub returns : goal.returns
 returns c =
-    let four = ap length c.be32-n.ensures ∙ length-bytes 4 c.args.number in
-    let two = ap length c.be16-m.ensures ∙ length-bytes 2 c.args.mark in
-    filled 22 16 20 c.args.id.now c.be32-n.result c.be16-m.result c.requires (omega arith) (omega arith) c.copy.ensures c.copy-2.ensures c.copy-3.ensures
-    ∙ ap₂ (λ (x y : List ℕ). c.args.id.now ++ x ++ y) c.be32-n.ensures c.be16-m.ensures
+    let a = c.args in
+    filled 22 16 20 a.id.now c.to_be_bytes.result c.to_be_bytes-2.result (search rules) (search rules) (search rules) c.copy.ensures c.copy-2.ensures c.copy-3.ensures
+    ∙ ap₂ (λ (x y : List ℕ). a.id.now ++ x ++ y) (c.to_be_bytes.ensures ∙ be_bytes_32 a.number) (c.to_be_bytes-2.ensures ∙ be_bytes_16 a.mark)

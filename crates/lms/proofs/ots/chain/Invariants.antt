@@ -1,7 +1,7 @@
 use mathlib.Core.Path.{◌≡◌}
 use mathlib.Core.List.{◌++◌}
-use Prim.Native.Nat.{◌≤◌, ◌-◌}
-use lib.ListN.{length, drop}
+use Prim.Native.Nat.{◌-◌}
+use lib.ListN.{drop}
 use Rattle.lms.specs.Notation.{u16str, u32str}
 use Rattle.lms.specs.Ots.{chain}
 use Rattle.octets.proofs.BufferLaws.{Begun}
@@ -10,7 +10,4 @@ use Rattle.lms.proofs.ots.chain.Given as goal
 
 abbrev pub invariant-loop-j : goal.invariant-loop-j
 invariant-loop-j l =
-    (l.a ≤ l.j) × (l.j ≤ l.top) × (length l.tmp ≡ 32) × Begun 64 l.block (l.id ++ u32str l.q ++ u16str l.i) × (drop 55 l.block ≡ padding55) × (l.tmp ≡ chain l.id l.q l.i l.a l.y (l.j - l.a))
-
-abbrev pub decreases-loop-j : goal.decreases-loop-j
-decreases-loop-j l = l.top - l.j
+    Begun 64 l.block (l.leaf.id ++ u32str l.leaf.q ++ u16str l.i) × (drop 55 l.block ≡ padding55) × (l.tmp ≡ chain l.leaf.id l.leaf.q l.i l.a l.y (l.j - l.a))

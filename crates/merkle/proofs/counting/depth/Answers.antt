@@ -1,11 +1,7 @@
 -- `merkle::counting::depth` meets its contract: the leading zeros of n - 1 and its length in bits make 64.
-use Rattle.std.proofs.Common.{◌-◌, arith}
-use lib.Count.{leading_le}
+use Rattle.std.proofs.Common.{arith}
 use Rattle.merkle.proofs.LowBitLaws.{depth-length}
 use Rattle.merkle.proofs.counting.depth.Goals as goal
-
-pub overflow_sub-result-2 : goal.overflow_sub-result-2
-overflow_sub-result-2 c = leading_le 64 (c.args.n - 1)
 
 pub returns : goal.returns
 returns c = depth-length c.args.n (omega arith) (omega arith)

@@ -3,15 +3,6 @@ use Rattle.std.proofs.Common.{arith}
 use Rattle.merkle.proofs.LowBitLaws.{low-is, low-between, by-low-bit}
 use Rattle.merkle.proofs.counting.held_after.Goals as goal
 
-pub loop-at-init : goal.loop-at-init
-loop-at-init c = (omega arith, λ h. omega arith, λ h. absurd (omega arith))
-
-pub overflow_add-at : goal.overflow_add-at
-overflow_add-at c = omega (arith, low-between c.loop-at.at c.low-at.result (omega arith) (omega arith) c.low-at.ensures)
-
-pub loop-at-smaller : goal.loop-at-smaller
-loop-at-smaller c = omega (arith, low-between c.loop-at.at c.low-at.result (omega arith) (omega arith) c.low-at.ensures)
-
 pub loop-at-preserved : goal.loop-at-preserved
 loop-at-preserved c =
     let n = c.args.n in
@@ -21,6 +12,3 @@ loop-at-preserved c =
     let s = by-low-bit n (omega arith) at l (omega arith) (omega arith) (low-is at l (omega arith) (omega arith) c.low-at.ensures) in
     let sum = c.loop-at.invariant.1 (omega arith) in
     (omega arith, λ h. omega (arith, s.more h), λ h. omega (arith, s.last h))
-
-pub returns : goal.returns
-returns c = c.loop-at.invariant.2 (omega arith)

@@ -10,9 +10,6 @@ use Rattle.merkle.proofs.CostLaws.{rights, rights-none, rights-length, rights-fi
 use Rattle.merkle.proofs.HeldLaws.{fits-is}
 use Rattle.merkle.proofs.frontier.fits.Goals as goal
 
-pub slice_bounds-equal-end-2 : goal.slice_bounds-equal-end-2
-slice_bounds-equal-end-2 c = sym c.climb-took.ensures.0
-
 pub returns : goal.returns
 unfolding climb fits_cost climb_cost
 returns c =
@@ -23,7 +20,7 @@ returns c =
     let x = leaf_hash H a.block.now in
     let z : a.before + 1 ≡ suc a.before = omega arith in
     let many : length m / hash_length ≡ k = omega (arith, c.requires.3) in
-    let e = c.climb-took.ensures.1 (rights k) (sym (rights-none k)) (c.requires.3 ∙ ap (λ j. hash_length * j) (sym (rights-length k))) in
+    let e = c.climb-took.ensures (rights k) (sym (rights-none k)) (c.requires.3 ∙ ap (λ j. hash_length * j) (sym (rights-length k))) in
     let r = rights-fit H x k m in (
       fits-is H a.n a.before c.next_at-start.result a.hashes.now a.block.now m
           _ _ c.next_at-start.ensures.0 c.requires.3 (e.0 ∙ r.0 ∙ ap (λ j. climb_from H x (hashes_in j m)) (sym many)) c.equal.ensures,

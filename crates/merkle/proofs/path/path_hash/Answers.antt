@@ -12,4 +12,4 @@ unfolding path_hash path_cost
 returns c =
     let a = c.args in
     let d = leaf-depths.1 a.n a.before c.requires.0 in
-    rw d at (c.climb.ensures.1 (way 0 (shape a.n) a.before) c.descend-descent.ensures.1 (c.requires.1 ∙ ap (λ j. hash_length * j) (sym d)))
+    rw d at (c.climb.ensures (way 0 (shape a.n) a.before) c.descend-descent.ensures.1 (c.requires.1 ∙ ap (λ j. hash_length * j) (sym d)))

@@ -1,5 +1,5 @@
 -- The hash so far, with the siblings and the turns still to come, leads to the top, and the compressions so far, with those still to come, are the total.
-use Rattle.std.proofs.Common.{◌≡◌, ◌+◌, ◌-◌, ◌*◌, ◌/◌, ◌≤◌, Bool, List, length}
+use Rattle.std.proofs.Common.{◌≡◌, ◌+◌, ◌*◌, ◌≤◌, Bool, List, length}
 use Rattle.sha256.specs.Sha256.{digest, compressions}
 use Rattle.merkle.specs.Limits.{hash_length}
 use Rattle.merkle.specs.Shape.{Place}
@@ -11,13 +11,10 @@ use Rattle.merkle.specs.Cost.{ascend_cost}
 use Rattle.merkle.proofs.TurnLaws.{Rising}
 use Rattle.merkle.proofs.siblings.climb.Given as goal
 
-abbrev pub invariant-loop-at : goal.invariant-loop-at
-invariant-loop-at l =
+abbrev pub invariant-loop-sibling : goal.invariant-loop-sibling
+invariant-loop-sibling l =
     let H = plain digest in
-    (l.at ≤ length l.siblings) × (length l.x ≡ hash_length) × (l.took ≤ 576460752303423488 + l.at / 16)
+    (length l.x ≡ hash_length) × (l.took ≤ 576460752303423488 + 2 * l.sibling-index)
     × ((ws : List (Place × Bool)) → l.turns ≡ turns_of ws → length l.siblings ≡ hash_length * length ws
     → Rising H (ascend H (leaf_hash H l.block) ws (hashes_in (length ws) l.siblings))
-    (compressions (leaf_input H l.block) + ascend_cost H (leaf_hash H l.block) ws (hashes_in (length ws) l.siblings)) l.siblings l.x l.took l.left l.at)
-
-abbrev pub decreases-loop-at : goal.decreases-loop-at
-decreases-loop-at l = length l.siblings - l.at
+    (compressions (leaf_input H l.block) + ascend_cost H (leaf_hash H l.block) ws (hashes_in (length ws) l.siblings)) l.hashes l.x l.took l.left l.sibling-index)

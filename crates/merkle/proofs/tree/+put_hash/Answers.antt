@@ -1,7 +1,6 @@
 -- `merkle::tree::put_hash` meets its contract.
 use Rattle.std.proofs.Common.{◌≡◌, ℕ, ◌+◌, ◌-◌, ◌*◌, ◌<◌, ◌≤◌, List, length, take, drop, sym, refl, ap, ◌∙◌, ap₂, zero-add, arith, length-take, rules}
 use Rattle.sha256.specs.Sha256.{digest, compressions}
-use Rattle.sha256.proofs.DigestLaws.{length-digest}
 use Rattle.octets.specs.Octets.{part}
 use Rattle.octets.proofs.CopyLaws.{part-from, length_part}
 use Rattle.merkle.specs.Limits.{hash_length, held_bytes}
@@ -35,53 +34,43 @@ block-few L s h =
 pub put_hash-left-requires : goal.put_hash-left-requires
 put_hash-left-requires t c =
     let a = c.args in
-    let k = halved a.to _ a.len a.n c.split-k.result (omega arith) c.split-k.ensures c.requires.1 c.requires.2 in
+    let k = halved a.to _ a.len a.n c.split-k.result (omega arith) c.split-k.ensures.value c.requires.1 c.requires.2 in
     (omega arith, (k.0, omega arith, left-fits a.len _ a.n (c.split-k.result - 1) (omega arith) c.requires.2, c.requires.3))
 
 pub overflow_mul-from : goal.overflow_mul-from
 overflow_mul-from t c =
     let a = c.args in
-    omega (arith, (halved a.to (length a.rest.now) a.len a.n c.split-k.result (omega arith) c.split-k.ensures c.requires.1 c.requires.2).2)
+    omega (arith, (halved a.to (length a.rest.now) a.len a.n c.split-k.result (omega arith) c.split-k.ensures.value c.requires.1 c.requires.2).2)
 
 pub slice_bounds-put_hash-count : goal.slice_bounds-put_hash-count
 slice_bounds-put_hash-count t c =
     let a = c.args in
-    (halved a.to _ a.len a.n c.split-k.result (omega arith) c.split-k.ensures c.requires.1 c.requires.2).2
+    (halved a.to _ a.len a.n c.split-k.result (omega arith) c.split-k.ensures.value c.requires.1 c.requires.2).2
 
 pub slice_bounds-put_hash-start : goal.slice_bounds-put_hash-start
 slice_bounds-put_hash-start t c =
     let a = c.args in
-    search (rules, (halved a.to (length a.rest.now) a.len a.n c.split-k.result (omega arith) c.split-k.ensures c.requires.1 c.requires.2).2)
-
-pub overflow_sub-n : goal.overflow_sub-n
-overflow_sub-n t c = omega (arith, split_between c.args.n c.split-k.result (omega arith) c.split-k.ensures)
+    search (rules, (halved a.to (length a.rest.now) a.len a.n c.split-k.result (omega arith) c.split-k.ensures.value c.requires.1 c.requires.2).2)
 
 pub put_hash-right-requires : goal.put_hash-right-requires
 put_hash-right-requires t c =
     let a = c.args in
     let i = c.split-k.result in
     let r = a.rest.now in
-    let k = halved a.to (length r) a.len a.n i (omega arith) c.split-k.ensures c.requires.1 c.requires.2 in
+    let k = halved a.to (length r) a.len a.n i (omega arith) c.split-k.ensures.value c.requires.1 c.requires.2 in
     (omega arith, (omega arith, omega (arith, k.4), rw (part-from r (i * a.len)) (right-fits a.len a.n i (a.n - i) r (omega arith) (omega arith) c.requires.2), c.requires.3))
 
 pub overflow_add-below : goal.overflow_add-below
 overflow_add-below t c =
-    let few = blocks-few c.args.to c.args.n c.requires.1 in
-    let k = split_between c.args.n c.split-k.result (omega arith) c.split-k.ensures in
-    let l = c.put_hash-left.ensures.few in
-    let r = c.put_hash-right.ensures.few in
-    omega arith
+    omega (arith, blocks-few c.args.to c.args.n c.requires.1, c.put_hash-left.ensures.few, c.put_hash-right.ensures.few)
 
 pub overflow_add-result : goal.overflow_add-result
 overflow_add-result t c =
     let a = c.args in
     let few = blocks-few a.to a.n c.requires.1 in
-    let full : length c.if-n-gt1.hashes ≡ held_bytes + hash_length + hash_length = search rules in
     let calls : c.if-n-gt1.below ≤ 19 * a.n =
     elim c.if-n-gt1.branch [
-      | then-n-gt1 w ↦
-          let k = split_between a.n w.split-k.result (omega arith) w.split-k.ensures in
-          omega (arith, w.below-is, w.put_hash-left.ensures.few, w.put_hash-right.ensures.few)
+      | then-n-gt1 w ↦ omega (arith, w.split-k.ensures.between, w.below-is, w.put_hash-left.ensures.few, w.put_hash-right.ensures.few)
       | else-n-gt1 w ↦ omega (arith, w.below-is)
     ] in
     let own : c.if-n-gt1-2.own ≤ 17 =
@@ -99,14 +88,7 @@ returns t c =
     let d = c.if-n-gt1.hashes in
     let x = c.if-n-gt1-2.x in
     let new = part (held_bytes + hash_length) hash_length a.hashes.now in
-    let full : length d ≡ held_bytes + hash_length + hash_length = search rules in
-    -- the hash is 32 bytes, whichever it is
-    let long : length x ≡ hash_length =
-    elim c.if-n-gt1-2.branch [
-      | then-n-gt1-2 w ↦ ap length (w.x-is ∙ w.pair-own.ensures.0) ∙ length-digest _
-      | else-n-gt1-2+then-skip-eq0 w ↦ ap length (w.x-is ∙ w.bytes32_at-new.ensures) ∙ length_part d (held_bytes + hash_length) hash_length (omega arith)
-      | else-n-gt1-2+else-skip-eq0 w ↦ ap length (w.x-is ∙ w.leaf.ensures.0) ∙ length-digest _
-    ] in
+    let long : length x ≡ hash_length = omega arith in
     -- what the calls, if there are any, leave of the array, and what they put there
     let kept : Kept a.to a.hashes.now d =
     elim c.if-n-gt1.branch [
@@ -124,9 +106,9 @@ returns t c =
     elim c.if-n-gt1.branch [
       | then-n-gt1 w ↦
           let k = w.split-k.result in
-          let m = split_between a.n k big w.split-k.ensures in
+          let m = w.split-k.ensures.between in
           let sl = left-of s k m.1 in
-          let sr = right_of s k w.wrapping_sub_u64.result m.1 w.wrapping_sub_u64.ensures.value in
+          let sr = right_of s k m.1 in
           let e = w.put_hash-right.new.hashes in
           let f = overlay (cut a.len bytes) at block in
           let left = w.put_hash-left.ensures.put bytes block first at sl.small sl.skips sl.starts sl.replaced in
@@ -135,17 +117,15 @@ returns t c =
           (λ h. ap (take hash_length) w.put_hash-left.ensures.kept.1 ∙ sr.replaced h) in
           let same = part_same e w.put_hash-left.new.hashes a.to hash_length w.put_hash-right.ensures.kept.0 ∙ left.0 in
           rw (w.hashes-is, w.below-is) (
-            hash-two H f first a.n k (part a.to hash_length e) (part (a.to + hash_length) hash_length e) big w.split-k.ensures same right.0,
-            without-two H at f first a.n k (part a.to hash_length e) (part (a.to + hash_length) hash_length e) _ _ _ big w.split-k.ensures same right.0 left.1 right.1 refl,
+            hash-two H f first a.n k (part a.to hash_length e) (part (a.to + hash_length) hash_length e) big w.split-k.ensures.value same right.0,
+            without-two H at f first a.n k (part a.to hash_length e) (part (a.to + hash_length) hash_length e) _ _ _ big w.split-k.ensures.value same right.0 left.1 right.1 refl,
           )
       | else-n-gt1 w ↦ absurd (omega (arith, w.if-n-gt1.false))
     ] in
     -- how many the calls took, if there are any
     let calls : 1 < a.n → c.if-n-gt1.below + 4 ≤ 19 * a.n =
     λ big. elim c.if-n-gt1.branch [
-      | then-n-gt1 w ↦
-          let k = split_between a.n w.split-k.result big w.split-k.ensures in
-          omega (arith, w.below-is, w.put_hash-left.ensures.few, w.put_hash-right.ensures.few)
+      | then-n-gt1 w ↦ omega (arith, w.split-k.ensures.between, w.below-is, w.put_hash-left.ensures.few, w.put_hash-right.ensures.few)
       | else-n-gt1 w ↦ absurd (omega (arith, w.if-n-gt1.false))
     ] in
     let alone : a.n ≡ 1 → c.if-n-gt1.below ≡ 0 =
@@ -161,7 +141,7 @@ returns t c =
           (w.x-is ∙ w.pair-own.ensures.0 ∙ g.0, ap (λ k. c.if-n-gt1.below + k) (w.own-is ∙ w.pair-own.ensures.1) ∙ g.1)
       | else-n-gt1-2+then-skip-eq0 w ↦
           let one : a.n ≡ 1 = omega (arith, w.if-n-gt1-2.false) in
-          (w.x-is ∙ w.bytes32_at-new.ensures ∙ ap (take hash_length) kept.1 ∙ one-new s one w.if-skip-eq0.true, ap₂ (λ i j. i + j) (alone one) w.own-is ∙ one-new-cost s one w.if-skip-eq0.true)
+          (w.x-is ∙ w.array_at-x.ensures ∙ ap (take hash_length) kept.1 ∙ one-new s one w.if-skip-eq0.true, ap₂ (λ i j. i + j) (alone one) w.own-is ∙ one-new-cost s one w.if-skip-eq0.true)
       | else-n-gt1-2+else-skip-eq0 w ↦
           let one : a.n ≡ 1 = omega (arith, w.if-n-gt1-2.false) in (
             w.x-is ∙ w.leaf.ensures.0 ∙ one_kept s one (omega arith) w.if-skip-eq0.false,

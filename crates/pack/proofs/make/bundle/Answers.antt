@@ -1,5 +1,4 @@
-use Rattle.std.proofs.Common.{ap, arith}
-use Rattle.pack.specs.declared.make.Made.{Made}
+use Rattle.std.proofs.Common.{arith}
 use Rattle.sender.proofs.SendLaws.{told}
 use Rattle.pack.proofs.MakeLaws.{bundle-fits}
 use Rattle.pack.proofs.make.bundle.Goals as goal
@@ -8,5 +7,5 @@ pub returns : goal.returns
 returns g c =
     record {
       does = told c.pack.ensures c.made_of.ensures;
-      prefix_len = bundle-fits _ _ _ _ c.pack.ensures (ap (λ (x : Made). x.len) c.made_of.ensures) (omega arith);
+      prefix_len = rw c.made_of.ensures (bundle-fits _ _ _ _ c.pack.ensures (omega arith));
     }

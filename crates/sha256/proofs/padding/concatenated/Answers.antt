@@ -1,6 +1,7 @@
 use Rattle.std.proofs.Common.{◌≡◌, ◌*◌, length, get_or, refl, ap, ◌∙◌, arith, rules}
 use lib.Seq.{length-paste}
-use Rattle.octets.specs.Octets.{joined}
+use Rattle.octets.specs.Octets.{bytes, joined}
+use Rattle.octets.proofs.BigEndianLaws.{be_bytes_32}
 use Rattle.octets.proofs.NumberLaws.{length-bytes}
 use Rattle.sha256.specs.Sha256.{concatenated}
 use Rattle.sha256.proofs.DigestLaws.{concatenated-more, concatenated-all}
@@ -14,12 +15,13 @@ pub loop-i-preserved : goal.loop-i-preserved
 loop-i-preserved c =
     let l = c.loop-i in
     let h = c.args.H in
-    let b = c.be32-b in
-    let n : length b.result ≡ 4 = ap length b.ensures ∙ length-bytes 4 (get_or h l.i 0) in
+    let b = c.to_be_bytes.result in
+    let f : b ≡ bytes 4 (get_or h l.i 0) = c.to_be_bytes.ensures ∙ be_bytes_32 (get_or h l.i 0) in
+    let n : length b ≡ 4 = ap length f ∙ length-bytes 4 (get_or h l.i 0) in
     let e = c.copy.ensures in (
       search rules,
-      ap length e ∙ length-paste l.out (4 * l.i) b.result (length b.result) (omega arith) (omega arith) ∙ l.invariant.1,
-      rw e (concatenated-more h l.out l.i l.invariant.2 b.result (omega arith) (omega arith) b.ensures),
+      ap length e ∙ length-paste l.out (4 * l.i) b (length b) (omega arith) (omega arith) ∙ l.invariant.1,
+      rw e (concatenated-more h l.out l.i l.invariant.2 b (omega arith) (omega arith) f),
     )
 
 pub returns : goal.returns

@@ -1,5 +1,5 @@
 -- `wake::answer::answer` meets its contract.
-use Rattle.std.proofs.Common.{◌∙◌, sym, arith, length-take-le}
+use Rattle.std.proofs.Common.{sym, arith, length-take-le}
 use Rattle.wake.proofs.AnswerLaws.{no_line, after, second_fits, second-within, no_second, wrong-length, wrong-number, answered}
 use Rattle.wake.proofs.answer.answer.Goals as goal
 
@@ -24,20 +24,21 @@ returns-then-second-rest c = no_second _ c.line_len-first.ensures c.if-first-inp
 pub slice_bounds-short_number-end : goal.slice_bounds-short_number-end
 slice_bounds-short_number-end c = sym (length-take-le _ _ (omega (arith, after _ c.line_len-first.ensures c.if-first-input.false)))
 
-pub returns-in_default : goal.returns-in_default
-returns-in_default c =
-    wrong-length _ c.line_len-first.ensures c.if-first-input.false c.line_len-second.ensures c.if-second-rest.false (sym c.in_default.is ∙ c.short_number.ensures)
+pub returns-in_err-len : goal.returns-in_err-len
+returns-in_err-len c =
+    rw c.from_residual.ensures
+    (wrong-length _ c.line_len-first.ensures c.if-first-input.false c.line_len-second.ensures c.if-second-rest.false c.in_err-len.ensures)
 
 pub slice_bounds-short_number-end-2 : goal.slice_bounds-short_number-end-2
 slice_bounds-short_number-end-2 c =
     sym (length-take-le _ _ (second-within _ c.line_len-first.ensures c.if-first-input.false c.line_len-second.ensures))
 
-pub returns-in_default-short_number : goal.returns-in_default-short_number
-returns-in_default-short_number c =
-    wrong-number _ c.line_len-first.ensures c.if-first-input.false c.line_len-second.ensures c.if-second-rest.false
-    (sym c.in-Number.is ∙ c.short_number.ensures) (sym c.in_default-short_number.is ∙ c.short_number-2.ensures)
+pub returns-in_err-budget : goal.returns-in_err-budget
+returns-in_err-budget c =
+    rw c.from_residual-in_err-budget.ensures
+    (wrong-number _ c.line_len-first.ensures c.if-first-input.false c.line_len-second.ensures c.if-second-rest.false c.in_ok-len.ensures c.in_err-budget.ensures)
 
 pub returns : goal.returns
 returns c =
     answered _ c.line_len-first.ensures c.if-first-input.false c.line_len-second.ensures c.if-second-rest.false
-    (sym c.in-Number.is ∙ c.short_number.ensures) (sym c.in-Number-short_number.is ∙ c.short_number-2.ensures) c.most_blocks.ensures
+    c.in_ok-len.ensures c.in_ok-budget.ensures c.most_blocks.ensures

@@ -2,19 +2,20 @@
 use mathlib.Core.Path.{ap, ◌∙◌}
 use mathlib.Core.List.{[]}
 use native.Mathlib.Omega.{arith}
-use lib.ListN.{length}
+use borrow.Author.Rules.{rules}
+use lib.ListN.{length, replicate}
 use Rattle.decimal.specs.Decimal.{line}
-use Rattle.decimal.proofs.AppendedLaws.{begins, length-kept}
+use Rattle.decimal.proofs.AppendedLaws.{begins}
 use Rattle.wake.proofs.AnswerLaws.{printed-short}
 use Rattle.wake.proofs.answer.answer_line.Goals as goal
 
-pub put_line-len-requires : goal.put_line-len-requires
-put_line-len-requires c =
-    rw c.answer-number.ensures (omega (arith, printed-short c.args.input.now))
+pub put_line-requires : goal.put_line-requires
+put_line-requires c =
+    rw (c.unwrap_or-number.ensures ∙ c.answer.ensures) (omega (arith, printed-short c.args.input.now))
 
 pub returns : goal.returns
 returns c =
     let short = printed-short c.args.input.now in
-    let all = ap (line []) c.answer-number.ensures in
+    let all = ap (line []) (c.unwrap_or-number.ensures ∙ c.answer.ensures) in
     let fits = ap length all in
-    (begins c.put_line-len.ensures ∙ all, rw (length-kept c.put_line-len.ensures (omega arith)) (omega (arith, c.put_line-len.ensures.end)))
+    (begins {out = replicate 5 0} (search rules) ∙ all, omega (arith, c.put_line.ensures.put.end))

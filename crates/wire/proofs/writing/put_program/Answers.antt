@@ -9,6 +9,6 @@ pub returns : goal.returns
 returns c =
     let a = c.args in
     -- the buffer after each copy: manifest, signature
-    let put_1 = put-more (put_first a.out.now 1 (omega (arith, c.requires))) c.to_bytes-bytes.result (least_length Program) (omega (arith, c.requires)) (omega arith) c.copy.ensures in
+    let put_1 = put-more (put_first a.out.now 1 (omega (arith, c.requires))) c.to_bytes.result (least_length Program) (omega (arith, c.requires)) (omega arith) c.copy.ensures in
     let put_2 = put-more put_1 a.signature.now (least_length Program + length a.signature.now) (omega (arith, c.requires)) refl c.copy-2.ensures in
-    (rw c.to_bytes-bytes.ensures at (put_all put_2)) ∙ ap (λ (p : List ℕ). at_start p a.out.now) (program-parts a.manifest a.signature.now)
+    (rw c.to_bytes.ensures at (put_all put_2)) ∙ ap (λ (p : List ℕ). at_start p a.out.now) (program-parts a.manifest a.signature.now)

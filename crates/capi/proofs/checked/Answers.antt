@@ -1,0 +1,14 @@
+use Rattle.std.proofs.Common.{refl, sym, ◌∙◌, arith}
+use Rattle.capi.proofs.StateLaws.{device-is, stage_length}
+use Rattle.capi.proofs.CallLaws.{none-boot-check, checked}
+use Rattle.capi.proofs.checked.Goals as goal
+
+pub returns-in_default : goal.returns-in_default
+returns-in_default c = sym (none-boot-check _ (sym c.stage_in.ensures ∙ c.in_default.is) _)
+
+pub manifest_in-requires : goal.manifest_in-requires
+manifest_in-requires c = let l = stage_length _ (sym c.stage_in.ensures ∙ c.in-Some.is) in omega arith
+
+pub returns : goal.returns
+returns c =
+    checked _ (sym c.stage_in.ensures ∙ c.in-Some.is) (device-is _ _ refl refl c.manifest_in.ensures refl) _ (c.boot_check.ensures _ _ _)
