@@ -46,6 +46,7 @@ pub fn messages(fresh: Device, flash: &mut [u8], bundle: &[u8], output: &mut Out
     ensures ran { Ran (spec.messages fresh flash.old bundle.now) output.old.buffer.now output.old.end output.new.buffer.now output.new.end result flash.new }
     ensures short { output.new.end ≤ output.old.end + 14 + 15 * max_blocks }
 {
+    // 3 is 01's own word here: 'gives the line `slip 0 3`'.
     let Some(start) = start_of(bundle) else {
         put_message(output, b"slip ", 0, 3);
         return fresh;

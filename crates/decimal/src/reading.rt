@@ -1,4 +1,4 @@
-// Reading numbers in base ten.
+// Reading numbers in base ten. By hand: the library's `parse` takes a sign, too.
 ghost use Rattle.std.specs.Prelude.{◌≡◌};
 ghost use Rattle.decimal.specs.Decimal.{parsed};
 

@@ -1,9 +1,10 @@
-// Bytes, numbers in base ten and lines, written into a buffer one behind the other.
+// Bytes, numbers in base ten and lines, written into a buffer one behind the other. The buffer is the caller's, so that nothing is allocated; and by hand, since `write!`
+// has an `Err` for a full buffer, which cannot be here.
 ghost use Rattle.std.specs.Prelude.{◌≡◌, ◌+◌, ◌≤◌, length};
 ghost use Rattle.decimal.specs.Decimal.{decimal, line};
 ghost use Rattle.decimal.specs.Buffer.{Appended};
 
-// A buffer that the caller lends, and the index behind what is written into it.
+// A buffer that the caller lends, and the index behind what is written into it. Each contract says `same_buffer`: no type says that it stays the buffer that was lent.
 #[derive(Debug, Drop)]
 pub struct Output<'a> {
     pub buffer: &'a mut [u8],

@@ -2,7 +2,7 @@
 #![tactic(auto, unfolding(machine::specs::Step::accept, machine::specs::Step::accept_program, machine::specs::Step::stage_after, crate::specs::Inner::program_of, crate::specs::Inner::block_number_of, crate::specs::Inner::head_of, crate::specs::Inner::block_of))]
 
 ghost use Rattle.std.specs.Prelude.{◌≡◌, false, List, ℕ, pred, ◌+◌, ◌-◌, ◌*◌, ◌≤◌, ◌<◌, length};
-ghost use Rattle.merkle.specs.Limits.{max_blocks, hash_length, held_bytes};
+ghost use Rattle.merkle.specs.Limits.{max_blocks, hash_length};
 ghost use Rattle.merkle.specs.Frontier.{carried_count};
 ghost use Rattle.merkle.specs.Held.{advanced};
 ghost use Rattle.wire.specs.declared.kind.Kind.TheVariants as kinds;
@@ -32,12 +32,12 @@ impl View<'_> {
     // What an accepted message of this kind makes of stage, manifest, hashes and flash; model and key stay.
     pub(crate) fn accept(
         &self,
-        hashes: &mut [u8],
+        hashes: &mut [u8; merkle::HELD_LEN],
         kind: Kind,
         flash: &mut [u8],
         message: &[u8],
     ) -> InPlaceSituation
-        requires { (length hashes.old ≡ held_bytes) × (kind ≡ messages.kind message.now) × Unrefused self.now hashes.old flash.old message.now }
+        requires { (kind ≡ messages.kind message.now) × Unrefused self.now hashes.old flash.old message.now }
         ensures { spec.accept kind (lent self.now hashes.old) flash.old message.now ≡ record { device = device_of self.now.model self.now.key.now result.stage result.manifest hashes.new; flash = flash.new } }
     {
         match kind {
@@ -56,12 +56,12 @@ impl View<'_> {
     // Kinds 2, 3 and 4. One write for all of them: the compiler writes a copy of unknown length out at each place. An update leaves stage and hashes.
     fn accept_block(
         &self,
-        hashes: &mut [u8],
+        hashes: &mut [u8; merkle::HELD_LEN],
         kind: Kind,
         flash: &mut [u8],
         message: &[u8],
     ) -> InPlaceSituation
-        requires { (length hashes.old ≡ held_bytes) × (kind ≡ messages.kind message.now) × (inner.updates kind ≡ false → kind ≡ kinds.Block) × Unrefused self.now hashes.old flash.old message.now }
+        requires { (kind ≡ messages.kind message.now) × (inner.updates kind ≡ false → kind ≡ kinds.Block) × Unrefused self.now hashes.old flash.old message.now }
         ensures { spec.accept kind (lent self.now hashes.old) flash.old message.now ≡ record { device = device_of self.now.model self.now.key.now result.stage result.manifest hashes.new; flash = flash.new } }
     {
         let stage = self.stage;
@@ -87,8 +87,8 @@ impl View<'_> {
 }
 
 // Kind 1. It does not look at the flash.
-fn accept_program(hashes: &mut [u8], message: &[u8]) -> InPlaceSituation
-    requires { (length hashes.old ≡ held_bytes) × (least_length kinds.Program ≤ length message.now) }
+fn accept_program(hashes: &mut [u8; merkle::HELD_LEN], message: &[u8]) -> InPlaceSituation
+    requires { least_length kinds.Program ≤ length message.now }
     ensures { (d : Device) (flash : List ℕ) → accept_program d flash message.now ≡ record { device = device_of d.model d.key result.stage result.manifest hashes.new; flash = flash } }
 {
     let manifest = wire::manifest_in(message);
@@ -119,6 +119,8 @@ fn stage_after(n: usize, number: u16) -> Stage
     }
     Stage::Complete
 }
+
+// Three functions by `update`, and no two for each kind that brings a block: so one write serves all kinds (`accept_block`).
 
 // The manifest of the program that a brought block belongs to: an update brings its own.
 fn program_of(update: bool, current: Manifest, message: &[u8]) -> Manifest
@@ -155,8 +157,8 @@ fn block_of(update: bool, message: &[u8], len: usize) -> &[u8]
 
 impl Place<'_> {
     // The siblings that came with this block take the place of the held hash it was compared with; the answer is the stage after it.
-    fn advance(&self, hashes: &mut [u8], siblings: &[u8]) -> Stage
-        requires { (length hashes.old ≡ held_bytes) × (length siblings.now ≡ hash_length * carried_count (count_of self.now.manifest.now) self.now.number) }
+    fn advance(&self, hashes: &mut [u8; merkle::HELD_LEN], siblings: &[u8]) -> Stage
+        requires { length siblings.now ≡ hash_length * carried_count (count_of self.now.manifest.now) self.now.number }
         ensures { (result ≡ stage_after (count_of self.now.manifest.now) self.now.number) × (hashes.new ≡ advanced (count_of self.now.manifest.now) (pred self.now.number) hashes.old siblings.now) }
     {
         let n = self.count();

@@ -1,10 +1,11 @@
 // The first refusal that applies, if any: the tests of each kind, in the papers' order. Nothing is written here. The hashes, which one test looks at, are handed on
-// beside the view. Its callers meet its `requires`: `receive_in_place` calls `judge`, and all other calls stand in this file.
+// beside the view. What the functions under `judge` require is met here: all their calls stand in this file. It is
+// what the tests before have shown; a type for each such fact would be made and taken apart for one call.
 #![tactic(auto, unfolding(crate::specs::Judged::verdict, crate::specs::Judged::judged, crate::specs::Inner::of_unhashed, crate::specs::Inner::early, crate::specs::Inner::updates, machine::specs::Flash::updated, machine::specs::Refusals::of_manifest, machine::specs::Refusals::of_program, machine::specs::Refusals::of_block, machine::specs::Refusals::of_successor, machine::specs::Refusals::of_update, machine::specs::Refusals::of_path_update, machine::specs::Refusals::of_kind, machine::specs::Refusals::no_kind, machine::specs::Refusals::always, wire::specs::Message::short, wire::specs::Message::carries, machine::specs::Refusals::refusals, wire::specs::Refusal::first_that_applies, machine::specs::Step::answer_of, machine::specs::Step::total))]
 
 ghost use Rattle.std.specs.Prelude.{◌≡◌, true, false, List, [], ◌∷◌, ℕ, pred, ◌+◌, ◌*◌, ◌≤◌, length};
 ghost use Rattle.sha256.specs.Sha256.{digest};
-ghost use Rattle.merkle.specs.Limits.{hash_length, held_bytes};
+ghost use Rattle.merkle.specs.Limits.{hash_length};
 ghost use Rattle.merkle.specs.Path.{leaf_depth};
 ghost use Rattle.lms.specs.Lms.{valid};
 ghost use Rattle.wire.specs.declared.kind.Kind.TheVariants as kinds;
@@ -36,13 +37,12 @@ impl View<'_> {
     // SHA-256 compressions: a block's total, 0 for the other kinds.
     pub(crate) fn judge(
         &self,
-        hashes: &[u8],
+        hashes: &[u8; merkle::HELD_LEN],
         kind: Kind,
         flash: &[u8],
         message: &[u8],
         budget: u32,
     ) -> Result<u32, Refusal>
-        requires { length hashes.now ≡ held_bytes }
         ensures { result ≡ judged budget kind (lent self.now hashes.now) flash.now message.now }
     {
         if senseless(self.stage, self.manifest) {
@@ -149,12 +149,12 @@ impl View<'_> {
     // Kind 2: those of `judge_unhashed`, then 14, 19, with what both comparisons took. The last block's message walks the whole tree; a damaged one does not come so far.
     fn judge_block(
         &self,
-        hashes: &[u8],
+        hashes: &[u8; merkle::HELD_LEN],
         flash: &[u8],
         message: &[u8],
         budget: u32,
     ) -> Result<u32, Refusal>
-        requires { Sensible self.now × (length hashes.now ≡ held_bytes) × (least_length kinds.Block ≤ length message.now) }
+        requires { Sensible self.now × (least_length kinds.Block ≤ length message.now) }
         ensures { result ≡ verdict (first_that_applies (of_block digest budget (lent self.now hashes.now) flash.now message.now (next_of self.now.stage))) (block_cost digest self.now.manifest (next_of self.now.stage) flash.now message.now) }
     {
         self.judge_unhashed(flash, message, budget)?;

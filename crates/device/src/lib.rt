@@ -45,7 +45,8 @@ pub fn fresh(model: u32, key: [u8; lms::KEY_LEN]) -> Device
     }
 }
 
-// The answer to a message, the compressions that it reports, the budget that it was held against, and what it makes of stage and manifest.
+// The answer to a message, the compressions that it reports, the budget that it was held against, and what it makes of stage and manifest. No Result with these in its
+// Ok: count and budget are numbers in the result after a refusal too, by the contract and by 01.
 #[derive(Drop)]
 pub struct InPlaceOutcome {
     pub answer: Answer,
@@ -79,9 +80,9 @@ pub fn receive_in_place(
 ) -> InPlaceOutcome
     ensures { step_in_place budget (lent view.now hashes.old) flash.old message.now ≡ record { answer = result.answer; compressions = result.compressions; budget = result.budget; device = device_of view.now.model view.now.key.now result.stage result.manifest hashes.new; flash = flash.new } }
 {
-    if hashes.len() != merkle::HELD_LEN {
+    let Some(hashes) = hashes.as_mut_array::<{ merkle::HELD_LEN }>() else {
         return refused(view, Refusal::State, budget);
-    }
+    };
     let kind = wire::kind_of(message);
     match view.judge(hashes, kind, flash, message, budget) {
         Err(refusal) => refused(view, refusal, budget),

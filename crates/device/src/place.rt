@@ -21,7 +21,7 @@ pub struct Place<'a> {
 impl<'a> Place<'a> {
     ghost use Rattle.std.specs.Prelude.{true, not, List, ℕ, pred, ◌*◌, ltb, length, MatchResult};
     ghost use Rattle.sha256.specs.Sha256.{digest};
-    ghost use Rattle.merkle.specs.Limits.{hash_length, held_bytes};
+    ghost use Rattle.merkle.specs.Limits.{hash_length};
     ghost use Rattle.merkle.specs.Path.{leaf_depth};
     ghost use Rattle.wire.specs.declared.refusal.Refusal.TheVariants as refusal;
     ghost use Rattle.wire.specs.Size.{outside};
@@ -115,9 +115,11 @@ impl<'a> Place<'a> {
         (budget as usize) < self.geometry().cost_due(usize::from(self.number))
     }
 
+    // The comparisons answer their count where the hashes differ, too: their contracts promise it.
+
     // 14, kind 2: whether the hash worked out from block and message is the held one.
-    pub fn compare(&self, hashes: &[u8], message: &[u8]) -> Comparison
-        requires { (length hashes.now ≡ held_bytes) × (wrong_length self.now.manifest.now self.now.number message.now ≡ false) }
+    pub fn compare(&self, hashes: &[u8; merkle::HELD_LEN], message: &[u8]) -> Comparison
+        requires { wrong_length self.now.manifest.now self.now.number message.now ≡ false }
         ensures { ((model : ℕ) (key : List ℕ) → not result.same ≡ spec.mismatch digest (device_of model key (Loading self.now.number) self.now.manifest.now hashes.now) self.now.number message.now)
             × (result.compressions ≡ comparison_cost digest self.now.manifest.now self.now.number message.now) }
     {

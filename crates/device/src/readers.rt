@@ -9,7 +9,7 @@ ghost use Rattle.device.specs.Inner as inner;
 use machine::{Answer, Device, Stage};
 use wire::Kind;
 
-// 0 if accepted, else the refusal's number.
+// 0 if accepted, else the refusal's number. A function, since neither type is of this crate: no impl of `From` for them may stand here.
 pub fn answer_number(answer: Answer) -> u8
     ensures { result ≡ number_of answer }
 {
@@ -42,7 +42,7 @@ pub fn accepted_blocks(device: Device) -> usize
     }
 }
 
-// The number of the next block while loading.
+// The number of the next block while loading; 0 and no None otherwise, as the definition of this name has it.
 pub fn next_of(stage: Stage) -> u16
     ensures { result ≡ next_of stage }
 {

@@ -6,6 +6,8 @@ use Prim.Native.Nat.{ℕ, zero, suc, ◌+◌, ◌-◌, ◌*◌, ◌/◌, ◌%◌
 use native.Mathlib.Nat.{div-eq_of_lt}
 use native.Mathlib.Decide.{dec_lt}
 use native.Mathlib.Omega.{arith}
+use Rattle.std.proofs.lemmas.Nat.{one_shl}
+use Rattle.std.proofs.lemmas.Nat.Bits.{bit_at-pow_same, bit_at-pow_other}
 use lib.Dec.{leb, ltb, eqb}
 use lib.Bits.{bit_and, bit_or, and_high, or_step, or_shr}
 use lib.Pow.{pow_pos, pow-lt, pow-add, shl_exact, shl-shr}
@@ -22,22 +24,9 @@ and-bit n k = let e : 2 ^ (1 + k) - 2 ^ k ≡ 2 ^ k = rw (pow-add 2 1 k) (omega 
 or-bit : (a b j : ℕ) → bit_or a b / 2 ^ j % 2 ≡ max (a / 2 ^ j % 2) (b / 2 ^ j % 2)
 or-bit a b j = ap (λ (n : ℕ). n % 2) (or_shr a b j) ∙ omega (arith, or_step (a / 2 ^ j) (b / 2 ^ j))
 
-own-bit : (k : ℕ) → 2 ^ k / 2 ^ k % 2 ≡ 1
-own-bit k = let e : 1 * 2 ^ k ≡ 2 ^ k = omega arith in ap (λ (n : ℕ). n / 2 ^ k % 2) (sym e) ∙ ap (λ (n : ℕ). n % 2) (shl-shr 1 k)
-
-other-bit : (k j : ℕ) → (j ≡ k → ⊥) → 2 ^ k / 2 ^ j % 2 ≡ 0
-other-bit k j f = go (dec_lt j k)
-  where
-    go : Dec (j < k) → 2 ^ k / 2 ^ j % 2 ≡ 0
-    go (yes h) =
-        let d = k - j - 1 in
-        let e : k ≡ (1 + d) + j = omega arith in
-        rw (e, pow-add 2 (1 + d) j, shl-shr (2 ^ (1 + d)) j, pow-add 2 1 d) (omega arith)
-    go (no h) = ap (λ (n : ℕ). n % 2) (div-eq_of_lt (pow-lt {i = k} {j = j} (omega arith)))
-
 -- 1 << (i % 8), as a byte
 pub one_bit : (i : ℕ) → 1 * 2 ^ (i % 8) % 256 ≡ 2 ^ (i % 8)
-one_bit i = shl_exact {a = 1} 1 (i % 8) 8 (omega arith) (omega arith) ∙ omega arith
+one_bit i = one_shl (i % 8) 8 (omega arith)
 
 -- The bits from `from` up to i were clear and are set now.
 pub record Marking (before : List ℕ) (from i : ℕ) (after : List ℕ) : Type 0 where
@@ -89,7 +78,7 @@ module _ {before : List ℕ} {from i : ℕ} {after : List ℕ} (m : Marking befo
 
     own : bit next i ≡ true
     unfolding bit
-    own = eq-eqb _ 1 (ap (λ (n : ℕ). n / weight % 2) (get_or-set_same after (i / 8) (bit_or byte weight) 0 h) ∙ or-bit byte weight (i % 8) ∙ omega (arith, own-bit (i % 8)))
+    own = eq-eqb _ 1 (ap (λ (n : ℕ). n / weight % 2) (get_or-set_same after (i / 8) (bit_or byte weight) 0 h) ∙ or-bit byte weight (i % 8) ∙ omega (arith, bit_at-pow_same (i % 8)))
 
     other : (k : ℕ) → (k ≡ i → ⊥) → bit next k ≡ bit after k
     unfolding bit
@@ -99,7 +88,7 @@ module _ {before : List ℕ} {from i : ℕ} {after : List ℕ} (m : Marking befo
         go false d = rw (get_or-set_other after (i / 8) (k / 8) (bit_or byte weight) 0 (eqb-false (k / 8) (i / 8) d))
         go true d =
             let g : k / 8 ≡ i / 8 = eqb-true (k / 8) (i / 8) d in
-            let z = other-bit (i % 8) (k % 8) (λ q. f (omega arith)) in
+            let z = bit_at-pow_other (i % 8) (k % 8) (λ q. f (omega arith)) in
             let v : bit_or byte weight / 2 ^ (k % 8) % 2 ≡ byte / 2 ^ (k % 8) % 2 = or-bit byte weight (k % 8) ∙ omega (arith, z) in
             rw (g, get_or-set_same after (i / 8) (bit_or byte weight) 0 h, v)
 

@@ -36,7 +36,7 @@ fn value(c: u8) -> u8
     c % 16 + 9 * (c / 64)
 }
 
-// Byte i of a record that is known to be written in digits. By `octet`, which tests them again, a text is read half as slowly again.
+// Byte i of a record that is known to be written in digits. By `octet`, which tests them again, reading a text takes a third more time.
 pub fn known_octet(line: &[u8], i: usize) -> u8
     requires { (3 + 2 * i ≤ length line.now) × IsSome (octet_at line.now i) }
     ensures { octet_at line.now i ≡ Some result }

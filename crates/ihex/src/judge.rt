@@ -7,7 +7,7 @@ ghost use Rattle.ihex.specs.Code.{Steps, text_answer};
 use crate::line::{Line, line_of};
 use crate::reading::Fault;
 use crate::seen;
-use crate::seen::mark;
+use crate::seen::{SEEN_LEN, mark};
 use wire::Refusal;
 
 // A line: the upper half for the next one, or none after the end record, behind which no line stands.
@@ -16,9 +16,9 @@ fn advance(
     upper: Option<u16>,
     base: u32,
     len: usize,
-    seen: &mut [u8],
+    seen: &mut [u8; SEEN_LEN],
 ) -> Result<Option<u16>, Refusal>
-    requires { (wrong_length base len ≡ false) × (length seen.old ≡ max_length / 8) }
+    requires { wrong_length base len ≡ false }
     ensures { Steps base len upper (line_of line.now) seen.old result seen.new }
 {
     let Some(upper) = upper else {
@@ -57,6 +57,7 @@ pub fn judge(text: &[u8], base: u32, len: usize) -> Result<(), Fault>
 {
     let mut seen = seen::none();
     let mut upper = Some(0);
+    // Counted by hand: the number is asked for behind the last line, too.
     let mut number = 1;
     for line in text.split_inclusive(|&c| c == b'\n') {
         match advance(line, upper, base, len, &mut seen) {

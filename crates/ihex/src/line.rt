@@ -6,7 +6,7 @@ ghost use Rattle.ihex.specs.Code.{record_read, line_read};
 
 use crate::record::{Record, pair, record_in};
 
-#[derive(Clone, Copy)]
+#[derive(Clone, Copy, Debug, PartialEq, Eq)]
 pub enum Line {
     Data { address: u16, count: u8 },
     End,

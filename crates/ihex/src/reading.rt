@@ -7,7 +7,7 @@ use crate::write::write;
 use wire::Refusal;
 
 // Why a text is not read.
-#[derive(Clone, Copy)]
+#[derive(Clone, Copy, Debug, PartialEq, Eq)]
 pub struct Fault {
     pub refusal: Refusal,
     // The number of the line at fault, from 1; 0 where the refusal comes before any line.

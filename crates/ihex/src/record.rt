@@ -32,7 +32,7 @@ pub fn pair(line: &[u8], i: usize) -> Option<u16>
 {
     let high = octet(line, i)?;
     let low = octet(line, i + 1)?;
-    Some(u16::from(high) * 256 + u16::from(low))
+    Some(u16::from_be_bytes([high, low]))
 }
 
 pub fn record_in(line: &[u8]) -> Option<Record>

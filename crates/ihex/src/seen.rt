@@ -6,7 +6,7 @@ ghost use Rattle.ihex.specs.Code.{Marked};
 use crate::reading::MAX_LEN;
 
 // A bit for each byte of the longest image.
-const SEEN_LEN: usize = MAX_LEN / 8;
+pub const SEEN_LEN: usize = MAX_LEN / 8;
 
 // No byte is named yet. The contract says all that a caller needs, so that no proof counts the zeros one by one.
 pub fn none() -> [u8; SEEN_LEN]
@@ -16,8 +16,8 @@ pub fn none() -> [u8; SEEN_LEN]
 }
 
 // Whether one of the bytes from `from` on is named already. If not, they are now.
-pub fn mark(seen: &mut [u8], from: usize, count: usize) -> bool
-    requires { (from + count ≤ max_length) × (length seen.old ≡ max_length / 8) }
+pub fn mark(seen: &mut [u8; SEEN_LEN], from: usize, count: usize) -> bool
+    requires { from + count ≤ max_length }
     ensures { Marked seen.old from count result seen.new }
 {
     for i in from..from + count {

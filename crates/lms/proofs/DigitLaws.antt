@@ -12,10 +12,6 @@ use Rattle.lms.specs.Notation.{coef}
 use Rattle.lms.specs.Ots.{Row, steps, Cksm}
 use Rattle.lms.specs.Sound.{Sound}
 
--- the code's 1 << k, of n bits
-pub bit : (k n : ℕ) → k < n → (1 * 2 ^ k) % 2 ^ n ≡ 2 ^ k
-bit k n h = shl_exact {a = 1} 1 k n (lit< tt) (omega arith) ∙ one-mul (2 ^ k)
-
 -- at most 255 is the largest digit of a byte or less
 pub largest-digit : (w : ℕ) → w ≤ 8 → 2 ^ w - 1 ≤ 255
 largest-digit w h = let l : 2 ^ w ≤ 2 ^ 8 = pow_mono h in omega arith

@@ -11,7 +11,7 @@ use lib.Pow.{pow_mono, pow_pos, shr-shr}
 use Rattle.octets.specs.Octets.{part}
 use Rattle.lms.specs.Tree.{parent, climb}
 use Rattle.lms.proofs.ChunkLaws.{chunk}
-use Rattle.lms.proofs.DigitLaws.{bit}
+use Rattle.std.proofs.lemmas.Nat.{one_shl}
 use Rattle.lms.specs.Claims.{Turns}
 
 pub node-halved : (leaf i : ℕ) {node : ℕ} → node ≡ leaf / 2 ^ i → node / 2 ≡ leaf / 2 ^ (i + 1)
@@ -43,4 +43,4 @@ pub turns : Turns
 turns h q inside i l = (goes_on h q inside i l refl, ends h q inside i l refl)
 
 -- for the search: one turn of the loop
-pub ruleset climbing = (node-halved, climb-suc, chunk, bit)
+pub ruleset climbing = (node-halved, climb-suc, chunk, one_shl)

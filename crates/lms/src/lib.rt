@@ -1,4 +1,4 @@
-// RFC 8554: the verdict on one LMS signature, with no HSS layer. Outsiders call verify alone; what the other functions require, this crate keeps.
+// RFC 8554: the verdict on one LMS signature, with no HSS layer. Outsiders call `verify` and `possible_len`; what the other functions require, this crate keeps.
 #![tactic(auto)]
 
 mod chains;

@@ -10,7 +10,8 @@ use streams::read_full;
 // The flash that the loader lends to a fresh device.
 const FLASH_LEN: usize = 65536;
 
-// Puts the file at the start of `buffer`, and answers how many bytes: of a longer file, as many as fit.
+// Puts the file at the start of `buffer`, and answers how many bytes: of a longer file, as many as fit. (The program `vectors` reads its files so, too: four lines, for
+// which the two have no crate between them.)
 fn read_file(rt: &impl Files, path: &str, buffer: &mut [u8]) -> usize
     ensures { IsPrefixLen result buffer.new }
 {

@@ -29,8 +29,8 @@ module _ {H : Hashing} {len : ℕ} {bytes block : List ℕ} {at : ℕ} {new rest
       let l = s.small in
       record { small = omega arith; skips = s.skips; starts = s.starts; replaced = λ g. s.replaced (omega arith) }
 
-  pub right_of : (k : ℕ) → k < n → Subtree H len bytes block at new (drop (k * len) rest) (first + k) (n - k) ((skip + (2 ^ 64 - k)) % 2 ^ 64)
-  right_of k h =
+  pub right_of : (k d : ℕ) → k < n → (d + k) % 2 ^ 64 ≡ skip → Subtree H len bytes block at new (drop (k * len) rest) (first + k) (n - k) d
+  right_of k d h e =
       let l = s.small in
       let z = s.skips in
       record {

@@ -37,6 +37,7 @@ fn held_after(n: usize, before: usize) -> usize
 {
     let mut held: usize = 0;
     let mut at = before;
+    // No range: how often is known only behind it.
     while at < n {
         at += low(at);
         held += 1;

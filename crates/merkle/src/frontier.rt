@@ -14,8 +14,7 @@ use crate::siblings::climb;
 use octets::{copy, equal};
 
 // Before the first block the root alone is held.
-pub fn begin(hashes: &mut [u8], root: &[u8])
-    requires { (length hashes.old ≡ held_bytes) × (length root.now ≡ hash_length) }
+pub fn begin(hashes: &mut [u8; HELD_LEN], root: &[u8; HASH_LEN])
     ensures { hashes.new ≡ begun root.now }
 {
     let zeros = [0u8; HELD_LEN - HASH_LEN];
@@ -32,8 +31,8 @@ fn next_at(n: usize, before: usize) -> usize
     HELD_LEN - HASH_LEN * counts.held
 }
 
-// Whether two hashes are the same, and the compressions that it took to work one of them out.
-// No Option: `fits` promises the number where they differ too, which the device's count takes.
+// Whether two hashes are the same, and the compressions that it took to work one of them out. No Option: the contracts promise the number where they differ, too. (n and
+// the blocks before stay two numbers here, as in counting.rt.)
 #[derive(Clone, Copy, Debug, PartialEq, Eq)]
 pub struct Comparison {
     pub same: bool,
@@ -41,8 +40,14 @@ pub struct Comparison {
 }
 
 // Whether the hash worked out from the block after `before` of n and its siblings is the next one held.
-pub fn fits(hashes: &[u8], n: usize, before: usize, block: &[u8], siblings: &[u8]) -> Comparison
-    requires { (length hashes.now ≡ held_bytes) × (before < n) × (n ≤ max_blocks) × (length siblings.now ≡ hash_length * carried_count n (before + 1)) }
+pub fn fits(
+    hashes: &[u8; HELD_LEN],
+    n: usize,
+    before: usize,
+    block: &[u8],
+    siblings: &[u8],
+) -> Comparison
+    requires { (before < n) × (n ≤ max_blocks) × (length siblings.now ≡ hash_length * carried_count n (before + 1)) }
     ensures { (result.same ≡ spec.fits (plain sha.digest) n before hashes.now block.now siblings.now) × (result.compressions ≡ fits_cost (plain sha.digest) n before block.now siblings.now) }
 {
     let start = next_at(n, before);
@@ -56,8 +61,8 @@ pub fn fits(hashes: &[u8], n: usize, before: usize, block: &[u8], siblings: &[u8
 }
 
 // The siblings of the block after `before` of n take the place of the next hash needed.
-pub fn advance(hashes: &mut [u8], n: usize, before: usize, siblings: &[u8])
-    requires { (length hashes.old ≡ held_bytes) × (before < n) × (n ≤ max_blocks) × (length siblings.now ≡ hash_length * carried_count n (before + 1)) }
+pub fn advance(hashes: &mut [u8; HELD_LEN], n: usize, before: usize, siblings: &[u8])
+    requires { (before < n) × (n ≤ max_blocks) × (length siblings.now ≡ hash_length * carried_count n (before + 1)) }
     ensures { hashes.new ≡ advanced n before hashes.old siblings.now }
 {
     let to = next_at(n, before) + HASH_LEN - siblings.len();

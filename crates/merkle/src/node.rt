@@ -17,7 +17,7 @@ pub fn block_hash(block: &[u8], out: &mut [u8; 32]) -> usize
     digest(block, out)
 }
 
-// Of a left and a right hash, one behind the other.
+// Of a left and a right hash, one behind the other. Beside `block_hash`, since a version may put other bytes before each.
 pub fn node_hash(both: &[u8], out: &mut [u8; 32]) -> usize
     ensures { (out.new ≡ sha.digest both.now) × (result ≡ sha.compressions both.now) }
 {

@@ -31,6 +31,7 @@ fn descend(n: usize, before: usize) -> Descent
     let mut i = before;
     let mut depth: usize = 0;
     let mut turns: usize = 0;
+    // No range: how often is known only behind it.
     while 1 < m {
         let k = split(m);
         depth += 1;
@@ -79,6 +80,7 @@ impl<'a> Blocks<'a> {
         let mut tree = self;
         let mut i = before;
         let mut depth = leaf_depth(self.count, before);
+        // No range: how often is known only behind it.
         while 1 < tree.count {
             let (left, right) = tree.halves();
             depth -= 1;

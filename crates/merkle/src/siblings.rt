@@ -38,6 +38,7 @@ fn subtree(n: usize, before: usize) -> usize
 {
     let mut m = n;
     let mut i = before;
+    // No range: how often is known only behind it.
     while 0 < i {
         let k = split(m);
         if i < k {
@@ -58,6 +59,7 @@ impl<'a> Blocks<'a> {
     {
         let mut tree = self.part(before, subtree(self.count, before));
         let mut c = count(self.count, before).carried;
+        // No range: how often is known only behind it.
         while 1 < tree.count {
             let (left, right) = tree.halves();
             c -= 1;

@@ -15,7 +15,7 @@ pub fn copy(dst: &mut [u8], at: usize, src: &[u8])
     requires { at + length src.now ≤ length dst.old }
     ensures { dst.new ≡ paste dst.old at src.now (length src.now) }
 {
-    // A loop by hand: the library's `copy_from_slice` is longer at each call, and the device's code would be 13,766 bytes then, past its goal of 13,397.
+    // A loop by hand: the library's `copy_from_slice` is longer at each call, some 650 bytes more in the device's code, which is held to what was reached (bench/size).
     for i in 0..src.len() {
         dst[at + i] = src[i];
     }
@@ -38,7 +38,7 @@ pub fn equal(a: &[u8], b: &[u8]) -> bool
     if a.len() != b.len() {
         return false;
     }
-    // A loop by hand: the library's `==` on slices is 496 bytes of code more, and the device's has a goal.
+    // A loop by hand: the library's `==` on slices takes some 140 bytes more of the device's code (bench/size).
     for i in 0..a.len() {
         if a[i] != b[i] {
             return false;

@@ -77,6 +77,8 @@ pub fn read(rt: &HostRuntime, path: &str, buffer: &mut [u8]) -> Result<usize, No
     }
 }
 
+// What follows answers whether it was done; if not, that is told already.
+
 // Whether the name is free, or that of a file that may be written.
 fn replaceable(rt: &HostRuntime, path: &str) -> bool {
     match OpenOptions::new().read(true).write(true).open(rt, path) {

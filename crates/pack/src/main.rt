@@ -18,7 +18,8 @@ use std::io;
 // The longest image: the most blocks, each of 1,024 bytes.
 const IMAGE_LEN: usize = merkle::MAX_BLOCKS * 1024;
 
-// Zeros. The contract says all that a caller needs, so that no proof counts them one by one.
+// Zeros. The contract says all that a caller needs, so that no proof counts them one by one; it names the limit that the page has, as those of the other buffers do
+// theirs.
 fn image_buffer() -> [u8; IMAGE_LEN]
     ensures { max_blocks * 1024 ≡ length result }
 {
@@ -162,7 +163,8 @@ fn with_arguments(rt: &HostRuntime, arguments: Arguments) -> io::Result<()> {
     Ok(())
 }
 
-// BLOCK, MODEL and SERIAL, and where `hex` is set BASE and LENGTH. The first that is no number is told.
+// BLOCK, MODEL and SERIAL, and where `hex` is set BASE and LENGTH. The first that is no number is told, in this order, which a function handed in for the last two would
+// have to know.
 fn given(rt: &HostRuntime, hex: bool) -> Option<Arguments> {
     Some(Arguments {
         block_len: argument(rt, 1, "BLOCK")?,

@@ -14,14 +14,14 @@ use wire::{
 };
 
 // An image and the bytes of its blocks (01: L): all that a block message is made of. Wrong sizes may be given: they are refused.
-#[derive(Clone, Copy)]
+#[derive(Clone, Copy, Debug, PartialEq, Eq)]
 pub struct Image<'a> {
     pub bytes: &'a [u8],
     pub block_len: u32,
 }
 
 // All that a manifest is made of, and so every other message but for its signature.
-#[derive(Clone, Copy)]
+#[derive(Clone, Copy, Debug, PartialEq, Eq)]
 pub struct Job<'a> {
     pub image: Image<'a>,
     pub model: u32,
@@ -54,11 +54,7 @@ impl Image<'_> {
         requires { LengthsOf (image_of self.now) geometry }
         ensures { (result.bytes.now ≡ self.now.bytes.now) × (result.len ≡ self.now.block_len) × (result.count ≡ count (image_of self.now)) }
     {
-        Blocks {
-            bytes: self.bytes,
-            len: geometry.block_len,
-            count: geometry.count(),
-        }
+        geometry.blocks(self.bytes)
     }
 
     // Kind 2, block `number`, from 1. As every function for outsiders here, it answers how many bytes were written.
@@ -80,7 +76,8 @@ impl Image<'_> {
 }
 
 impl Job<'_> {
-    // The manifest for these values, where the image has these lengths.
+    // The manifest for these values, where the image has these lengths: its callers have them from `Image::geometry`, and a job with its lengths would be a type for these
+    // calls alone.
     fn to_manifest(&self, geometry: Geometry) -> Manifest
         requires { LengthsOf (image_of self.now.image) geometry }
         ensures { result ≡ manifest_for digest (job_of self.now) }

@@ -1,4 +1,5 @@
 -- The padding: its zero bits are the least that do, its length, and the last block or two.
+use Rattle.std.proofs.lemmas.List.{take-replicate, drop-replicate}
 use Rattle.std.proofs.Common.{◌≡◌, ℕ, suc, ◌+◌, ◌-◌, ◌*◌, ◌/◌, ◌%◌, ◌^◌, ◌<◌, ◌≤◌, List, ◌∷◌, ◌++◌, length, take, drop, set, replicate, sym, refl, ap, ◌∙◌, ap₂, append_assoc, arith, length-append, take_all, take_at, drop_at}
 use lib.ListN.{length-replicate, replicate-append-replicate}
 use lib.Seq.{paste, take-length, take-paste, set_at}
@@ -36,19 +37,13 @@ split k n h =
     let e : k + (n - k) ≡ n = omega arith in
     ap (λ (x : ℕ). replicate {A = ℕ} x 0) (sym e) ∙ sym (replicate-append-replicate k (n - k) 0)
 
-take-replicate : (k n : ℕ) → k ≤ n → take {A = ℕ} k (replicate n 0) ≡ replicate k 0
-take-replicate k n h = rw (split k n h) (take_at (replicate k 0) (replicate (n - k) 0) k (length-replicate {A = ℕ} k 0))
-
-drop-replicate : (k n : ℕ) → k ≤ n → drop {A = ℕ} k (replicate n 0) ≡ replicate (n - k) 0
-drop-replicate k n h = rw (split k n h) (drop_at (replicate k 0) (replicate (n - k) 0) k (length-replicate {A = ℕ} k 0))
-
 -- the bytes left over in a block of zeros, then 0x80
 pub marked : (r : List ℕ) (used : ℕ) → used ≡ length r → used < 64
     → set (paste (replicate 64 0) 0 r (length r)) used 0x80 ≡ r ++ (0x80 ∷ replicate (63 - length r) 0)
 marked r used u h =
     let e : 64 - (0 + length r) ≡ suc (63 - length r) = omega arith in
     ap (λ (x : List ℕ). set x used 0x80)
-    (ap₂ {C = List ℕ} (λ (x y : List ℕ). x ++ y) (take-length r) (drop-replicate (0 + length r) 64 (omega arith) ∙ ap (λ (k : ℕ). replicate k 0) e))
+    (ap₂ {C = List ℕ} (λ (x y : List ℕ). x ++ y) (take-length r) (drop-replicate (0 + length r) 64 0 ∙ ap (λ (k : ℕ). replicate k 0) e))
     ∙ set_at r 0 (replicate (63 - length r) 0) 0x80 used (sym u)
 
 -- eight bytes hold the length in bits modulo 2 ^ 64, and the code's shift loses none of these
@@ -82,7 +77,7 @@ written t n {l} e f =
     let i : length (padding (8 * t)) ≡ suc k + length l = omega (arith, length-padding t, ap length g, length-bytes 8 (8 * t)) in
     rw (h, i)
     (take-paste (0x80 ∷ replicate 71 0) (suc k) l (length l) (omega (arith, length-replicate {A = ℕ} 71 0)) (omega arith)
-    ∙ ap₂ {C = List ℕ} (λ (x y : List ℕ). (0x80 ∷ x) ++ y) (take-replicate k 71 (omega arith)) (take-length l ∙ g)
+    ∙ ap₂ {C = List ℕ} (λ (x y : List ℕ). (0x80 ∷ x) ++ y) (take-replicate k 71 0 (omega arith)) (take-length l ∙ g)
     ∙ sym (zeros t k refl))
 
 hash-two : (h x y : List ℕ) → length x ≡ 64 → length y ≡ 64 → hash_value h (length (x ++ y) / 64) (x ++ y) ≡ compress (compress h x) y

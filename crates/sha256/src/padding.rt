@@ -22,7 +22,8 @@ pub fn padding_len(len: u64) -> usize
     if used < 56 { 64 - used } else { 128 - used }
 }
 
-// The padding itself, which begins the array: the bit 1, zero bits, and the length in bits; at most 72 bytes, behind 56 of a block.
+// The padding itself, which begins the array: the bit 1, zero bits, and the length in bits; at most 72 bytes, behind 56 of a block. An
+// array, and its length by `padding_len`: nothing is allocated here.
 #[tactic(auto, using(crate::proofs::PaddingLaws::padding_lengths))]
 pub fn padding(len: u64) -> [u8; 72]
     ensures { take (length (spec.padding (8 * len))) result ≡ spec.padding (8 * len) }

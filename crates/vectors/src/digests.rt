@@ -53,13 +53,9 @@ fn show(rt: &impl Print, name: &str, message: &[u8]) -> io::Result<()> {
 }
 
 fn cuts(message: &[u8], whole: [u8; 32]) -> usize {
-    let mut same = 0;
-    for at in 0..=message.len() {
-        if cut(message, at, whole) {
-            same += 1;
-        }
-    }
-    same
+    (0..=message.len())
+        .filter(|&at| cut(message, at, whole))
+        .count()
 }
 
 // Whether the digest in two pieces is that of the whole.

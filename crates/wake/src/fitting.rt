@@ -2,8 +2,8 @@
 ghost use Rattle.std.specs.Prelude.{◌≡◌};
 ghost use Rattle.wake.specs.Wake.{most_blocks};
 
-// Of a download whose block messages before the last all fit; of these the first one costs most. 0 where those of two blocks do not, or blocks of `len` bytes are
-// not allowed.
+// Of a download whose block messages before the last all fit; of these the first one costs most. 0, as in the definition of this name and as it is printed, where
+// those of two blocks do not, or blocks of `len` bytes are not allowed.
 pub fn most_blocks(len: usize, budget: usize) -> usize
     ensures { result ≡ most_blocks len budget }
 {

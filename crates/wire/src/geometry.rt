@@ -51,8 +51,8 @@ impl Geometry {
         block_count(self.block_len, self.image_len)
     }
 
-    // The number of a block stays beside the lengths: the sender's and a bundle's callers ask one thing of each, so a value of both would be made for one call. The
-    // device, which asks more of one block, keeps both in its `Place`.
+    // The number of a block stays beside the lengths: a bundle asks one thing of each number, the sender two or three. The device, which asks more, has both in a `Place`,
+    // and that holds a manifest, which the others have not.
 
     // The bytes of block `number`: its own, which in the last one may be fewer than L.
     pub fn block_length(self, number: usize) -> usize

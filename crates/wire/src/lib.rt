@@ -11,6 +11,7 @@ mod refusal;
 mod sizes;
 mod writing;
 
+pub use blocks::{block_length, block_of};
 pub use geometry::Geometry;
 pub use kind::{Kind, kind_of};
 pub use manifest::{MANIFEST_LEN, Manifest};

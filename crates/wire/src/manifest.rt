@@ -26,7 +26,7 @@ impl Manifest {
     ghost use Rattle.wire.specs.Size.{wrong_size};
 
     // The manifest that bytes stand for. Not inlined: where two manifests meet, the compiler keeps each byte of both roots apart, and the device's code would be 14,790
-    // bytes, past its goal of 13,397.
+    // bytes, past its goal (bench/size).
     #[tactic(auto, unfolding(crate::specs::Manifest::read))]
     #[inline(never)]
     pub fn read(bytes: &[u8]) -> Manifest

@@ -40,7 +40,7 @@ pub fn put_block(number: u16, block: &[u8], out: &mut [u8]) -> usize
     BLOCK_LEAST + block.len()
 }
 
-// Kinds 3 and 4, up to the block; the answer is the index behind it. The first byte is a number and no Kind, since any may be written, as ever.
+// Kinds 3 and 4, up to the block; the answer is the index behind it. The first byte is a number and no Kind: the contract is for any.
 pub fn put_successor(
     kind: u8,
     manifest: Manifest,

@@ -15,7 +15,7 @@ returns-in-Err c =
 pub loop-line-preserved : goal.loop-line-preserved
 loop-line-preserved c =
     let cut = line_cut _ _ _ _ _ _ c.in-Some.ensures.steps (λ f a r g h. search rules) in
-    judging-next c.loop-line.invariant cut c.advance.ensures _ c.in-Ok.is (c.advance.auto.seen ∙ c.loop-line.invariant.size)
+    judging-next c.loop-line.invariant cut c.advance.ensures _ c.in-Ok.is (search rules)
 
 pub returns-then-is_some : goal.returns-then-is_some
 returns-then-is_some c = judging-missing c.loop-line.invariant c.in-None.ensures.steps.0 (sym c.if-is_some.ensures)

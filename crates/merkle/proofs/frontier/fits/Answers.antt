@@ -19,10 +19,10 @@ returns c =
     let m = a.siblings.now in
     let x = leaf_hash H a.block.now in
     let z : a.before + 1 ≡ suc a.before = omega arith in
-    let many : length m / hash_length ≡ k = omega (arith, c.requires.3) in
-    let e = c.climb-took.ensures (rights k) (sym (rights-none k)) (c.requires.3 ∙ ap (λ j. hash_length * j) (sym (rights-length k))) in
+    let many : length m / hash_length ≡ k = omega (arith, c.requires.2) in
+    let e = c.climb-took.ensures (rights k) (sym (rights-none k)) (c.requires.2 ∙ ap (λ j. hash_length * j) (sym (rights-length k))) in
     let r = rights-fit H x k m in (
       fits-is H a.n a.before c.next_at-start.result a.hashes.now a.block.now m
-          _ _ c.next_at-start.ensures.0 c.requires.3 (e.0 ∙ r.0 ∙ ap (λ j. climb_from H x (hashes_in j m)) (sym many)) c.equal.ensures,
+          _ _ c.next_at-start.ensures.0 c.requires.2 (e.0 ∙ r.0 ∙ ap (λ j. climb_from H x (hashes_in j m)) (sym many)) c.equal.ensures,
       e.1 ∙ ap (λ j. compressions (leaf_input H a.block.now) + j) (r.1 ∙ ap (λ j. climb_from_cost H x (hashes_in (carried_count a.n j) m)) z),
     )

@@ -1,5 +1,5 @@
 -- `merkle::tree::put_hash` meets its contract.
-use Rattle.std.proofs.Common.{◌≡◌, ℕ, ◌+◌, ◌-◌, ◌*◌, ◌<◌, ◌≤◌, List, length, take, drop, sym, refl, ap, ◌∙◌, ap₂, zero-add, arith, length-take, rules}
+use Rattle.std.proofs.Common.{◌≡◌, ℕ, ◌+◌, ◌-◌, ◌*◌, ◌%◌, ◌^◌, ◌<◌, ◌≤◌, List, length, take, drop, sym, refl, ap, ◌∙◌, ap₂, zero-add, arith, length-take, rules}
 use Rattle.sha256.specs.Sha256.{digest, compressions}
 use Rattle.octets.specs.Octets.{part}
 use Rattle.octets.proofs.CopyLaws.{part-from, length_part}
@@ -108,7 +108,7 @@ returns t c =
           let k = w.split-k.result in
           let m = w.split-k.ensures.between in
           let sl = left-of s k m.1 in
-          let sr = right_of s k m.1 in
+          let sr = right_of s k ((a.skip + (2 ^ 64 - k)) % 2 ^ 64) m.1 (omega arith) in
           let e = w.put_hash-right.new.hashes in
           let f = overlay (cut a.len bytes) at block in
           let left = w.put_hash-left.ensures.put bytes block first at sl.small sl.skips sl.starts sl.replaced in

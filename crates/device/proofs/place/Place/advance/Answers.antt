@@ -11,7 +11,7 @@ advance-requires c =
     let e = c.count-n.ensures in
     let b : c.index.result ≡ p.number - 1 = c.index.ensures ∙ sym (before-is p.number) in
     let z : c.index.result + 1 ≡ p.number = omega (arith, b, p.low) in
-    (c.requires.0, omega (arith, e, b, p.low, p.high), omega (arith, e, (sized _ _ p.sized).count), rw (z, e) c.requires.1)
+    (omega (arith, e, b, p.low, p.high), omega (arith, e, (sized _ _ p.sized).count), rw (z, e) c.requires)
 
 pub stage_after-requires : goal.stage_after-requires
 unfolding count_of

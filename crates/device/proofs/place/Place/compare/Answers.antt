@@ -10,10 +10,10 @@ use Rattle.device.proofs.ConditionLaws.{measured, rest-long, mismatch-found, com
 use Rattle.device.proofs.place.Place.compare.Goals as goal
 
 pub block_in-requires : goal.block_in-requires
-block_in-requires c = rw c.own_len-len.ensures (due _ _ _ _ (measured _ _ _ c.requires.1)).long
+block_in-requires c = rw c.own_len-len.ensures (due _ _ _ _ (measured _ _ _ c.requires)).long
 
 pub hashes_after-requires : goal.hashes_after-requires
-hashes_after-requires c = rw c.own_len-len.ensures (due _ _ _ _ (measured _ _ _ c.requires.1)).long
+hashes_after-requires c = rw c.own_len-len.ensures (due _ _ _ _ (measured _ _ _ c.requires)).long
 
 pub fits-requires : goal.fits-requires
 unfolding count_of
@@ -21,10 +21,9 @@ fits-requires c =
     let p = c.args.self.now in
     let e = c.count.ensures in
     let b : c.index.result ≡ p.number - 1 = c.index.ensures ∙ sym (before-is p.number) in (
-      c.requires.0,
       omega (arith, e, b, p.low, p.high),
       omega (arith, e, (sized _ _ p.sized).count),
-      rw b (rest-long p.manifest.now p.number _ _ c.args.message.now _ p.low e c.own_len-len.ensures c.hashes_after.ensures (due _ _ _ _ (measured _ _ _ c.requires.1))),
+      rw b (rest-long p.manifest.now p.number _ _ c.args.message.now _ p.low e c.own_len-len.ensures c.hashes_after.ensures (due _ _ _ _ (measured _ _ _ c.requires))),
     )
 
 pub returns : goal.returns

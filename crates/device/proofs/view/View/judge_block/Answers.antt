@@ -17,7 +17,7 @@ invariant_of-place c =
     record { sized = u.awaits.size; low = u.awaits.low; high = u.awaits.high }
 
 pub compare-own-requires : goal.compare-own-requires
-compare-own-requires c = (c.requires.1, (unhashed _ c.args.self.now _ _ c.requires.0 c.next_of.ensures c.in_ok-judge_unhashed.ensures).due)
+compare-own-requires c = (unhashed _ c.args.self.now _ _ c.requires.0 c.next_of.ensures c.in_ok-judge_unhashed.ensures).due
 
 pub returns-then-not-own : goal.returns-then-not-own
 returns-then-not-own c =

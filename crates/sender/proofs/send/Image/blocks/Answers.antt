@@ -1,9 +1,13 @@
-use Rattle.std.proofs.Common.{◌∙◌, refl}
-use Rattle.sender.proofs.BlockLaws.{blocks-fit, counted}
+use mathlib.Core.Path.{◌∙◌, ap}
+use Prim.Native.Nat.{ℕ, ◌≤◌}
+use lib.ListN.{take}
+use lib.Seq.{take-length}
+use native.Mathlib.Omega.{arith}
+use Rattle.sender.proofs.BlockLaws.{counted}
 use Rattle.sender.proofs.send.Image.blocks.Goals as goal
 
-pub invariant_of-result : goal.invariant_of-result
-invariant_of-result c = let z = blocks-fit c.requires _ c.count.ensures in record { some = z.0; few = z.1; short = z.3; within = z.2 }
+pub blocks-requires : goal.blocks-requires
+blocks-requires c = omega (arith, c.requires.image_len)
 
 pub returns : goal.returns
-returns c = (refl, c.requires.block_len, c.count.ensures ∙ counted c.requires)
+returns c = (c.blocks-2.ensures.0 ∙ ap (λ (n : ℕ). take n c.args.self.now.bytes.now) c.requires.image_len ∙ take-length _, c.blocks-2.ensures.1 ∙ c.requires.block_len, c.blocks-2.ensures.2 ∙ counted c.requires)
