@@ -1,6 +1,7 @@
 // The interface for C (include/lertxuno.h). A slice crosses as a pointer and a length, a reference to an array or a number as a pointer. A function
 // that returns a number gives 0 or that of a refusal, but for lertxuno_digest, which refuses nothing and returns its count; where one refuses, what it writes
-// through a pointer is as before, but for the line that lertxuno_ihex refuses at.
+// through a pointer is as before, but for the line that lertxuno_ihex refuses at. Names, parameters and contracts are the interface's, so that each function stands by itself,
+// however like another it is.
 #![tactic(auto)]
 
 mod state;

@@ -1,4 +1,4 @@
-// A device's state as bytes at fixed offsets.
+// A device's state as bytes at fixed offsets: C holds it so (include/lertxuno.h), with no struct's layout to know.
 ghost use Rattle.std.specs.Prelude.{◌≡◌, List, ℕ, ◌-◌, ◌≤◌, length, option_map};
 ghost use Rattle.octets.specs.Octets.{number, part, joined};
 ghost use Rattle.lms.specs.Lms.{key_length};

@@ -10,7 +10,7 @@ use crate::conditions::{lacks_root, not_complete, senseless, too_small};
 use machine::{Answer, Stage};
 use wire::{Manifest, Refusal};
 
-// 1, 10, 8, 19.
+// 1, 10, 8, 19. Stage and manifest, and no `View`: outsiders call it so.
 pub fn boot_check(stage: Stage, manifest: Manifest, flash: &[u8]) -> Answer
     ensures { (model : ℕ) (key hashes : List ℕ) → result ≡ boot_check digest (device_of model key stage manifest hashes) flash.now }
 {

@@ -17,7 +17,7 @@ use crate::view::View;
 use machine::Stage;
 use wire::{Kind, Manifest};
 
-// 1.
+// 1. Stage and manifest, and no `View`: outsiders call it so.
 pub fn senseless(stage: Stage, manifest: Manifest) -> bool
     ensures { (model : ℕ) (key hashes : List ℕ) → result ≡ spec.senseless (device_of model key stage manifest hashes) }
 {

@@ -18,7 +18,7 @@ pub struct View<'a> {
 }
 
 impl View<'_> {
-    // The serial that a new one must be above: 0 when idle.
+    // The serial that a new one must be above: 0 when idle, as the definition `serial_of` has it.
     pub(crate) fn serial(&self) -> u32
         ensures { (hashes : List ℕ) → result ≡ serial_of (lent self.now hashes) }
     {

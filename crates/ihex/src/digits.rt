@@ -4,7 +4,7 @@ ghost use Rattle.octets.specs.Octets.{part};
 ghost use Rattle.ihex.specs.Line as spec;
 ghost use Rattle.ihex.specs.Code.{octet_at, sum_of};
 
-// The digit's value.
+// The digit's value. By hand: the library's `to_digit` is no plainer, since the digits stand here as the definition has them.
 #[tactic(auto, using(std::proofs::lemmas::Bool::Decides::nat_tests), unfolding(crate::specs::Line::digit, crate::specs::Line::between))]
 fn digit(c: u8) -> Option<u8>
     ensures { result ≡ spec.digit c }

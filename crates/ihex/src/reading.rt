@@ -10,7 +10,7 @@ use wire::Refusal;
 #[derive(Clone, Copy, Debug, PartialEq, Eq)]
 pub struct Fault {
     pub refusal: Refusal,
-    // The number of the line at fault, from 1; 0 where the refusal comes before any line.
+    // The number of the line at fault, from 1; 0 where the refusal comes before any line, as in the definition `read` and for C.
     pub line: usize,
 }
 

@@ -8,7 +8,7 @@ use crate::digits::{octet, sum};
 #[derive(Clone, Copy, Debug, PartialEq, Eq)]
 pub struct Record {
     pub address: u16,
-    // The record's type.
+    // The record's type. A byte and no enum: any may stand there, and a program tells it.
     pub kind: u8,
     // How many data bytes there are: bytes 4 to 3 + count of the record.
     pub count: u8,

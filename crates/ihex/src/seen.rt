@@ -8,7 +8,8 @@ use crate::reading::MAX_LEN;
 // A bit for each byte of the longest image.
 pub const SEEN_LEN: usize = MAX_LEN / 8;
 
-// No byte is named yet. The contract says all that a caller needs, so that no proof counts the zeros one by one.
+// No byte is named yet. The contract says all that a caller needs, so that no proof counts the zeros one by one; and a
+// function of its own for each such buffer, since the contract names its own limit.
 pub fn none() -> [u8; SEEN_LEN]
     ensures { result ≡ replicate (max_length / 8) 0 }
 {

@@ -16,7 +16,7 @@ fn clear(out: &mut [u8])
     out.fill(0xFF);
 }
 
-// The data of a line of type 00, to out[at..].
+// The data of a line of type 00, to out[at..]. Buffer and index, as `octets::copy` has them: the contract says `paste` at an index.
 fn put(line: &[u8], count: usize, out: &mut [u8], at: usize)
     requires { (count ≡ length (data_in (line_of line.now))) × (at + count ≤ length out.old) }
     ensures { out.new ≡ paste out.old at (data_in (line_of line.now)) count }

@@ -9,14 +9,15 @@ use crate::make::print_error;
 use ihex::Fault;
 use wire::Refusal;
 
-// Zeros for the longest image. The contract says all that a caller needs, so that no proof counts them one by one.
+// Zeros for the longest image. The contract says all that a caller needs, so that no proof counts them one by one; it names its
+// own limit, as those of the other buffers do theirs.
 pub fn buffer() -> [u8; ihex::MAX_LEN]
     ensures { spec.max_length ≡ length result }
 {
     [0u8; ihex::MAX_LEN]
 }
 
-// A number below 16, as a digit of base 16.
+// A number below 16, as a digit of base 16. By hand: this promises its digit, and no contract says what `eprintln!` prints.
 fn hex_digit(number: u8) -> u8
     requires { number < 16 }
     ensures { result ≡ writing.hex_digit number }

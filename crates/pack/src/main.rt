@@ -102,7 +102,7 @@ fn with_image(rt: &HostRuntime, arguments: Arguments, image: &[u8]) -> io::Resul
     if make::manifest(rt, &job, &mut manifest).is_none() {
         return Ok(());
     }
-    // A longer signature fits no bundle.
+    // A longer signature fits no bundle; a buffer, so that the memory is fixed here, too.
     let mut signature = [0u8; bundle::BUNDLE_LEN];
     match files::read(rt, "signature.bin", &mut signature) {
         Ok(n) => with_signature(rt, &job, &signature[..n], &manifest),

@@ -81,6 +81,7 @@ fn lines(rt: &impl Print, name: &str, file: &mut [u8], p: u8, height: u8) -> io:
 
 // A file that cannot be read counts as an empty one.
 fn tried(rt: &(impl Files + Print), path: &str, p: u8, height: u8) -> io::Result<()> {
+    // A buffer, and no `Vec` of the whole file: so the memory is fixed.
     let mut buffer = [0u8; 4096];
     let length = match fs::open(rt, path) {
         Ok(mut file) => read_full(&mut file, &mut buffer),

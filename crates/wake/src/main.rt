@@ -15,7 +15,7 @@ use streams::read_full;
 // The longest right input has two lines of nine digits; a byte more shows that one is too long.
 const INPUT_LEN: usize = 2 * (9 + 1) + 1;
 
-// Zeros, as many as the bytes that are looked at.
+// Zeros, as many as the bytes that are looked at: the contract names its own limit, as those of other programs' buffers do theirs.
 fn input_buffer() -> [u8; INPUT_LEN]
     ensures { length result ≡ input_length }
 {
