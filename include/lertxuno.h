@@ -11,7 +11,7 @@
  *
  * The library is for x86-64 Linux, on processors of the level x86-64-v2 (SSE4.2), which it does not test. Of the C library it needs memcpy and memset. Stack
  * of a call there, at most about: 3.6 KB for lertxuno_receive, lertxuno_boot_check and the sender's functions, 4.5 KB for lertxuno_ihex, 2 KB for
- * lertxuno_verify, 1 KB for lertxuno_digest, 250 bytes for the others. The time of lertxuno_ihex grows with its text, which it reads twice. Otherwise time
+ * lertxuno_verify, 1 KB for lertxuno_digest, 100 bytes for the others. The time of lertxuno_ihex grows with its text, which it reads twice. Otherwise time
  * goes into SHA-256 compressions, each over 64 bytes ('What a block costs', below): a signature's verdict takes, on average, about 4,480 (signature type 4,
  * height 5) or 560 (type 3, height 10); it depends on what is signed, and is LERTXUNO_MAX_VERDICT_COST at most over a manifest. The sender's functions take
  * those of the tree over the whole image, lertxuno_path_update about twice as many, and lertxuno_block those of the part that its hashes stand for. Measured

@@ -3,7 +3,7 @@ use mathlib.Core.Path.{◌≡◌, refl, sym, ap, ◌∙◌}
 use mathlib.Core.Bool.{Bool, true, false, cond}
 use mathlib.Core.List.{List, [], ◌∷◌}
 use Rattle.std.specs.Prelude.{Option, None, Some, is_some, Ok, Err}
-use Prim.Native.Nat.{ℕ, zero, suc, ◌+◌, ◌/◌, ◌%◌, ◌^◌, ◌≤◌}
+use Prim.Native.Nat.{ℕ, zero, suc, ◌+◌, ◌/◌, ◌%◌, ◌^◌, ◌≤◌, ◌<◌}
 use native.Mathlib.Numerals.{add-one}
 use native.Mathlib.Omega.{arith}
 use lib.Pow.{shr_le}
@@ -16,7 +16,7 @@ use Rattle.ihex.specs.Line.{content, record_in, Line, line_of}
 use Rattle.ihex.specs.Text.{lines, is_named}
 use Rattle.ihex.specs.Read.{Read, Refused, Before, start, upper_after, is_end, after, refusals, names, fault, judge, judged}
 use Rattle.ihex.specs.Code.{bit, Seen, Step, state_of, step_of, Steps, text_answer}
-use Rattle.ihex.proofs.LineLaws.{Cut, lines-none}
+use Rattle.ihex.proofs.LineLaws.{Cut, lines-none, lines-some}
 
 -- no bit is set at first
 zero-at : (n i : ℕ) → ◌≡◌ {A = ℕ} (get_or (replicate n 0) i 0) 0
@@ -52,6 +52,10 @@ module _ (base k : ℕ) where
   unfolding judge
   judge-fault b n l ls r e = rw (e, judge)
 
+  judge-behind : (b : Before) (n : ℕ) (l : List ℕ) (ls : List (List ℕ)) → b.ended ≡ true → judge base k b n (l ∷ ls) ≡ fault Text n
+  unfolding refusals first_that_applies
+  judge-behind b n l ls e = judge-fault b n l ls Text (rw e)
+
 -- Before the lines of `rest`, the first of which has number n: what the lines before them left, and what is left to judge.
 pub record Judging (text : List ℕ) (base k : ℕ) (seen : List ℕ) (u : Option ℕ) (n : ℕ) (rest : List ℕ) : Type 0 where
   pub before : Before
@@ -86,6 +90,16 @@ module _ {text : List ℕ} {base k : ℕ} {seen : List ℕ} {u : Option ℕ} {n 
         go : (t : Bool) → j.before.ended ≡ t → is_some (cond t None (Some j.before.upper)) ≡ false → Read ≡ text_answer (judged base k text)
         go true f g = ap text_answer (last true f)
         go false f g = cc
+
+  -- behind the end record
+  pub judging-behind : 0 < length rest → is_some u ≡ false → Refused Text n ≡ text_answer (judged base k text)
+  judging-behind h e = go j.before.ended refl (rw j.state at e)
+    where
+      go : (t : Bool) → j.before.ended ≡ t → is_some (cond t None (Some j.before.upper)) ≡ false → Refused Text n ≡ text_answer (judged base k text)
+      go true f g =
+          let some = lines-some rest h in
+          ap text_answer (sym (judge-behind base k j.before n some.0 some.1 f) ∙ ap (judge base k j.before n) (sym some.2) ∙ j.same)
+      go false f g = cc
 
   module _ {line left : List ℕ} (cut : Cut rest line left) {r : Step} {next : List ℕ} (s : Steps base k u (line_of line) seen r next) where
     abbrev b : Before

@@ -101,6 +101,7 @@ lines-cut (c ∷ s) (d ∷ x) t (suc i) e l f h =
 pub record Cut (s x t : List ℕ) : Type 0 where
   pub lines : lines s ≡ x ∷ lines t
   pub shorter : length t < length s
+  pub parts : length s ≡ length x + length t
 
 pub line_cut : {F : Type 0} (g : Mut F (Bor ℕ × Unit {0}) Bool) (f h : F) (s x t : List ℕ)
     → (s ≡ x ++ t) × ((i : ℕ) × (length x ≡ min (i + 1) (length s)) × ((p : ℕ → Bool) → ComputesKey g p f → ComputesKey g p h × IsFirstMatchOrLen p s i)) × (0 < length s)
@@ -109,12 +110,23 @@ line_cut g f h s x t step test =
     record {
       lines = lines-cut s x t step.1.0 step.0 step.1.1 (step.1.2 (λ c. eqb c LF) (answers_always g (λ a r. r ≡ eqb a.0.now LF) f test)).1 step.2;
       shorter = omega (arith, step.1.1, step.2, simp length-append at (ap length step.0));
+      parts = simp length-append at (ap length step.0);
     }
 
 pub lines-none : (s : List ℕ) → length s ≡ 0 → lines s ≡ []
 unfolding lines
 lines-none [] e = refl
 lines-none (c ∷ s) e = absurd (omega arith)
+
+pub lines-some : (s : List ℕ) → 0 < length s → (l : List ℕ) × (ls : List (List ℕ)) × (lines s ≡ l ∷ ls)
+unfolding lines
+lines-some [] h = absurd (omega arith)
+lines-some (c ∷ s) h = go (eqb c LF) (lines s)
+  where
+    go : (t : Bool) (xs : List (List ℕ)) → (l : List ℕ) × (ls : List (List ℕ)) × (cond t ((c ∷ []) ∷ xs) (longer c xs) ≡ l ∷ ls)
+    go true xs = (c ∷ [], xs, refl)
+    go false [] = (c ∷ [], [], refl)
+    go false (x ∷ xs) = (c ∷ x, xs, refl)
 
 -- Line n, where each step of an iterator cuts one off what is left.
 module _ {S : Type 0} (steps : S → Option (Bor (List ℕ)) → S → Type 0) (rest : S → List ℕ) where

@@ -67,19 +67,6 @@ module _ (base k u : ℕ) (x : Option spec.Line) where
       → r ≡ step_of None (unended u []) x → Steps base k (Some u) x before r after
   steps_on f g e = steps-of (λ bs s. rw (f bs s) e) (λ bs s h. g bs s)
 
--- a line behind the end record
-pub steps-behind : (base k : ℕ) (x : Option spec.Line) {seen : List ℕ} → Steps base k None x seen (Err Text) seen
-unfolding refusals first_that_applies
-steps-behind base k x =
-    record {
-      answered = λ b e s. let t : b.ended ≡ true = ends b.ended b.upper e in rw t;
-      seen = λ b e s n. let t : b.ended ≡ true = ends b.ended b.upper e in let f = rw t at n in let z : ◌≡◌ {A = ℕ} 0 1 = cc in absurd (omega arith);
-    }
-  where
-    ends : (t : Bool) (v : ℕ) → None ≡ cond t None (Some v) → t ≡ true
-    ends true v e = refl
-    ends false v e = cc
-
 -- what the code found a line to say
 pub is-broken : (x : Option spec.Line) → None ≡ line_read x → x ≡ None
 is-broken None e = refl

@@ -1,7 +1,7 @@
 // The first reading: the refusal of the earliest line at fault, if there is one.
-ghost use Rattle.std.specs.Prelude.{◌≡◌, false, ◌/◌, length};
+ghost use Rattle.std.specs.Prelude.{◌≡◌, false, Some};
 ghost use Rattle.ihex.specs.Line.{line_of};
-ghost use Rattle.ihex.specs.Read.{max_length, wrong_length, judged};
+ghost use Rattle.ihex.specs.Read.{wrong_length, judged};
 ghost use Rattle.ihex.specs.Code.{Steps, text_answer};
 
 use crate::line::{Line, line_of};
@@ -10,20 +10,17 @@ use crate::seen;
 use crate::seen::{SEEN_LEN, mark};
 use wire::Refusal;
 
-// A line: the upper half for the next one, or none after the end record, behind which no line stands.
+// A line that is not behind the end record: the upper half for the next one, or none after the end record.
 fn advance(
     line: &[u8],
-    upper: Option<u16>,
+    upper: u16,
     base: u32,
     len: usize,
     seen: &mut [u8; SEEN_LEN],
 ) -> Result<Option<u16>, Refusal>
     requires { wrong_length base len ≡ false }
-    ensures { Steps base len upper (line_of line.now) seen.old result seen.new }
+    ensures { Steps base len (Some upper) (line_of line.now) seen.old result seen.new }
 {
-    let Some(upper) = upper else {
-        return Err(Refusal::Text);
-    };
     match line_of(line) {
         None => Err(Refusal::Text),
         Some(Line::End) => Ok(None),
@@ -56,12 +53,24 @@ pub fn judge(text: &[u8], base: u32, len: usize) -> Result<(), Fault>
     ensures { result ≡ text_answer (judged base len text.now) }
 {
     let mut seen = seen::none();
-    let mut upper = Some(0);
+    let mut upper: u16 = 0;
     // Counted by hand: the number is asked for behind the last line, too.
     let mut number = 1;
+    // The bytes behind the lines that were judged. Any behind the end record is at fault: its line, however long, is not read.
+    let mut left = text.len();
     for line in text.split_inclusive(|&c| c == b'\n') {
+        left -= line.len();
         match advance(line, upper, base, len, &mut seen) {
-            Ok(next) => upper = next,
+            Ok(Some(next)) => upper = next,
+            Ok(None) => {
+                if left == 0 {
+                    return Ok(());
+                }
+                return Err(Fault {
+                    refusal: Refusal::Text,
+                    line: number + 1,
+                });
+            }
             Err(refusal) => {
                 return Err(Fault {
                     refusal,
@@ -71,11 +80,8 @@ pub fn judge(text: &[u8], base: u32, len: usize) -> Result<(), Fault>
         }
         number += 1;
     }
-    if upper.is_some() {
-        return Err(Fault {
-            refusal: Refusal::Text,
-            line: number,
-        });
-    }
-    Ok(())
+    Err(Fault {
+        refusal: Refusal::Text,
+        line: number,
+    })
 }

@@ -56,7 +56,7 @@ pub fn manifest_in(message: &[u8]) -> Manifest
     requires { least_length Program ≤ length message.now }
     ensures { result ≡ manifest_in message.now }
 {
-    Manifest::read(manifest_bytes(message))
+    Manifest::read_out_of_line(manifest_bytes(message))
 }
 
 // Kind 1: the signature.
