@@ -258,7 +258,7 @@ fn checked(state: &[u8], flash: &[u8]) -> Answer
     let Some(stage) = state::stage_in(state) else {
         return Err(Refusal::State);
     };
-    device::boot_check(stage, state::manifest_in(state), flash)
+    device::boot_check(stage, state::whole_manifest_in(state), flash)
 }
 
 // What the state holds, as numbers.

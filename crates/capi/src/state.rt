@@ -79,7 +79,7 @@ pub fn stage_in(s: &[u8]) -> Option<Stage>
     }
 }
 
-// The manifest in s, which is a state, or one without its hashes.
+// The manifest in s, a state, for who looks at a few of its numbers: no root is copied.
 pub fn manifest_in(s: &[u8]) -> Manifest
     requires { hashes_at ≤ length s.now }
     ensures { result ≡ read (part manifest_at manifest_length s.now) }
@@ -87,7 +87,15 @@ pub fn manifest_in(s: &[u8]) -> Manifest
     Manifest::read(&s[MANIFEST_AT..HASHES_AT])
 }
 
-// The device that the fields before its hashes are of, at this stage. Its manifest is read out of line, since a message's may meet it.
+// The manifest in s, which is a state, or one without its hashes, for who needs its root.
+pub fn whole_manifest_in(s: &[u8]) -> Manifest
+    requires { hashes_at ≤ length s.now }
+    ensures { result ≡ read (part manifest_at manifest_length s.now) }
+{
+    Manifest::read_out_of_line(&s[MANIFEST_AT..HASHES_AT])
+}
+
+// The device that the fields before its hashes are of, at this stage.
 pub fn view_in(fields: &[u8], stage: Stage) -> View<'_>
     requires { length fields.now ≡ hashes_at }
     ensures { (hashes : List ℕ) → lent result hashes ≡ device_of (number (part 0 4 fields.now)) (part key_at key_length fields.now) stage (read (part manifest_at manifest_length fields.now)) hashes }
@@ -96,7 +104,7 @@ pub fn view_in(fields: &[u8], stage: Stage) -> View<'_>
         model: octets::u32_at(fields, 0),
         key: &fields[KEY_AT..STAGE_AT],
         stage,
-        manifest: Manifest::read_out_of_line(&fields[MANIFEST_AT..]),
+        manifest: whole_manifest_in(fields),
     }
 }
 
